@@ -1,0 +1,6 @@
+pub mod Sound
+pub mod Fuel
+pub mod Laws
+pub mod Complete
+pub mod First
+pub mod Theorems

@@ -1,0 +1,4 @@
+// stub
+pub fn nothing() -> u8 {
+    0
+}
