@@ -1,3 +1,4 @@
+pub mod Streams
 pub mod Sound
 pub mod Fuel
 pub mod Laws

@@ -1,0 +1,65 @@
+use borrow.Author.Needs.{needs}
+use Rattle.grammar.proofs.stream.leaf.Statement.{statement}
+use Rattle.grammar.proofs.stream.leaf.Tie as tie
+use Rattle.grammar.proofs.stream.leaf.Reads as reads
+use Rattle.grammar.proofs.stream.leaf.Lts as lts
+use Rattle.grammar.proofs.found.leaf.Reads as leaf-reads
+use Rattle.grammar.proofs.stream.kind.Reads as kind-reads
+use Rattle.grammar.proofs.stream.start.Reads as start-reads
+use Rattle.token.proofs.name_length.Reads as name-length-reads
+use Rattle.token.proofs.string_length.Reads as string-length-reads
+
+-- src/stream.rt:66:9
+kind-requires : tie.Need-kind-requires
+kind-requires c κs = search needs
+
+-- src/stream.rt:67:9
+start-requires : tie.Need-start-requires
+start-requires c κs = search needs
+
+-- src/stream.rt:69:31
+name-length-requires : tie.Need-name-length-requires
+name-length-requires c κs = search needs
+
+-- src/stream.rt:69:9
+leaf-requires : tie.Need-leaf-requires
+leaf-requires c κs = search needs
+
+-- src/stream.rt:69:9
+returns : tie.Need-returns
+returns c = ?
+
+-- src/stream.rt:72:31
+string-length-requires : tie.Need-string-length-requires
+string-length-requires c κs = search needs
+
+-- src/stream.rt:72:9
+leaf-requires-2 : tie.Need-leaf-requires-2
+leaf-requires-2 c κs = search needs
+
+-- src/stream.rt:72:9
+returns-2 : tie.Need-returns-2
+returns-2 c = ?
+
+-- src/stream.rt:74:5
+leaf-requires-3 : tie.Need-leaf-requires-3
+leaf-requires-3 c κs = search needs
+
+-- src/stream.rt:63:1
+returns-3 : tie.Need-returns-3
+returns-3 c = ?
+
+pub leaf-spec : {M : Type 1} → statement M
+leaf-spec =
+    tie.close
+    (tie.spec
+    kind-requires
+    start-requires
+    name-length-requires
+    leaf-requires
+    returns
+    string-length-requires
+    leaf-requires-2
+    returns-2
+    leaf-requires-3
+    returns-3)
