@@ -1,0 +1,5 @@
+pub mod Nans
+pub mod Table
+pub mod Tens
+pub mod Literals
+pub mod Theorems
