@@ -1,2 +1,4 @@
+pub mod Integer
 pub mod Real
+pub mod Number
 pub mod Theorems
