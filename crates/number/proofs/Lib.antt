@@ -6,4 +6,5 @@ pub mod Ints
 pub mod Sums
 pub mod Products
 pub mod Quotients
+pub mod Integers
 pub mod Theorems

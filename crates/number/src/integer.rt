@@ -1,7 +1,7 @@
 // Exact arithmetic on integers. Document 01, "Meaning": "`+ - * /` on integers is exact; `/` cuts toward zero.", "`%` .. has the sign of the left side".
 // Two int32 have their result in 64 bits. Of int64 a result past 64 bits is none, found before the operation.
 ghost use mathlib.Core.Path.{_≡_};
-ghost use mathlib.Core.Bool.{false};
+ghost use mathlib.Core.Bool.{true, false};
 ghost use Prim.Native.Nat.{_*_, _<_};
 ghost use lib.IntN.{natAbs, _+ℤ_, _-ℤ_, _*ℤ_};
 ghost use lib.Signed.{quotZ, remZ};
@@ -158,4 +158,58 @@ fn remainder_i64(a: i64, b: i64) -> i64
         return 0;
     }
     a % b
+}
+
+// An operator on two int32. 64 bits hold every result.
+pub fn arithmetic_i32(op: Arithmetic, a: i32, b: i32) -> i64
+    requires { ⌜ (divides op ≡ true → 0 < natAbs b) ⌝ }
+    ensures { λ r. ⌜ r ≡ exactOf op a b ⌝ }
+{
+    let x = a as i64;
+    let y = b as i64;
+    match op {
+        Arithmetic::Mul => x * y,
+        Arithmetic::Div => quotient_i32(a, b),
+        Arithmetic::Rem => remainder_i32(a, b) as i64,
+        Arithmetic::Add => x + y,
+        Arithmetic::Sub => x - y,
+    }
+}
+
+// An operator on two int64.
+pub fn arithmetic_i64(op: Arithmetic, a: i64, b: i64) -> Number
+    requires { ⌜ (divides op ≡ true → 0 < natAbs b) ⌝ }
+    ensures { λ r. ⌜ r ≡ typed false (exactOf op a b) ⌝ }
+{
+    match op {
+        Arithmetic::Mul => product_i64(a, b),
+        Arithmetic::Div => quotient_i64(a, b),
+        Arithmetic::Rem => Number::Int64(remainder_i64(a, b)),
+        Arithmetic::Add => sum_i64(a, b),
+        Arithmetic::Sub => difference_i64(a, b),
+    }
+}
+
+// The result of two int32 as an int32 where it fits.
+pub fn narrow(z: i64) -> Number
+    ensures { λ r. ⌜ r ≡ typed true z ⌝ }
+{
+    if z < -2147483648 {
+        return Number::Int64(z);
+    }
+    if z < 2147483648 {
+        return Number::Int32(z as i32);
+    }
+    Number::Int64(z)
+}
+
+pub fn order_i64(op: Order, a: i64, b: i64) -> bool
+    ensures { λ r. ⌜ r ≡ orderZ op a b ⌝ }
+{
+    match op {
+        Order::Less => a < b,
+        Order::LessEqual => a <= b,
+        Order::Greater => b < a,
+        Order::GreaterEqual => b <= a,
+    }
 }
