@@ -7,4 +7,7 @@ pub mod Sums
 pub mod Products
 pub mod Quotients
 pub mod Integers
+pub mod Wholes
+pub mod Numbers
+pub mod Shifts
 pub mod Theorems

@@ -6,7 +6,7 @@ use native.Mathlib.Omega.{arith}
 use lib.Dec.{ltb, leb}
 use lib.Ieee.{Float, nan}
 use borrow.Author.Tests.{lt-ltb, le-ltb, le-leb, lt-leb}
-use Rattle.number.specs.Real.{decimalOf, scaledOf, signedReal, pickReal, inLimits}
+use Rattle.number.specs.Real.{decimalOf, scaledOf, signedReal, inLimits}
 
 and-no : (a b : Bool) → b ≡ false → (a && b) ≡ false
 and-no true b e = e

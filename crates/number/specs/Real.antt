@@ -1,7 +1,7 @@
 -- Real literals. Document 01, "Tokens": "The value is D times 10^E or D divided by 10^-E in f64, both operands exact, rounded once, then
 -- negated if signed." `mul`, `div` and `neg` are the kit's IEEE 754 operations of `lib.Ieee`, rounded once to the nearest, ties to even.
 use Prim.Native.Nat.{ℕ, _^_}
-use mathlib.Core.Bool.{Bool, true, false, _&&_}
+use mathlib.Core.Bool.{Bool, true, false, _&&_, cond}
 use lib.IntN.{ℤ, pos}
 use lib.Dec.{ltb, leb}
 use lib.Ieee.{Float, nan, binary64, ofInt, mul, div, neg}
@@ -24,10 +24,6 @@ signedReal true x = neg x
 abbrev pub inLimits : ℕ → ℕ → Bool
 inLimits d e = ltb d (10 ^ 15) && leb e 22
 
-abbrev pub pickReal : Bool → Float → Float → Float
-pickReal true x y = x
-pickReal false x y = y
-
 -- a literal's value; NaN outside the limits, where there is no literal
 abbrev pub decimalOf : ℕ → ℕ → Bool → Bool → Float
-decimalOf d e down negative = pickReal (inLimits d e) (signedReal negative (scaledOf d e down)) nan
+decimalOf d e down negative = cond (inLimits d e) (signedReal negative (scaledOf d e down)) nan

@@ -6,11 +6,11 @@ ghost use Prim.Native.Nat.{_*_, _<_};
 ghost use lib.IntN.{natAbs, _+ℤ_, _-ℤ_, _*ℤ_};
 ghost use lib.Signed.{quotZ, remZ};
 ghost use mir.Syntax.{w32, w64};
-ghost use Rattle.number.specs.Integer.{isNegative, signedOf, leaves, exactOf, orderZ};
+ghost use Rattle.number.specs.Integer.{isNegative, signedOf, leaves, exactOf, equalZ, orderZ};
 ghost use Rattle.number.specs.Number.{typed, magnitudeOf, divides};
-
 use crate::Number;
-use crate::operator::{Arithmetic, Order};
+use crate::operator::Arithmetic;
+use crate::operator::Order;
 
 const LEAST: i64 = -9223372036854775808;
 
@@ -46,13 +46,13 @@ fn difference_i64(a: i64, b: i64) -> Number
     Number::Int64(a - b)
 }
 
-fn absolute(a: i64) -> u64
+pub fn absolute(a: i64) -> u64
     ensures { λ r. ⌜ r ≡ natAbs a ⌝ }
 {
     if a < 0 { (!a) as u64 + 1 } else { a as u64 }
 }
 
-fn is_negative(a: i64) -> bool
+pub fn is_negative(a: i64) -> bool
     ensures { λ r. ⌜ r ≡ isNegative a ⌝ }
 {
     a < 0
@@ -201,6 +201,12 @@ pub fn narrow(z: i64) -> Number
         return Number::Int32(z as i32);
     }
     Number::Int64(z)
+}
+
+pub fn equal_i64(a: i64, b: i64) -> bool
+    ensures { λ r. ⌜ r ≡ equalZ a b ⌝ }
+{
+    a == b
 }
 
 pub fn order_i64(op: Order, a: i64, b: i64) -> bool
