@@ -1,6 +1,6 @@
 -- Numbers by their kinds: what each operator's tests lead to. Assumes nothing.
 use mathlib.Core.Path.{_≡_, refl, sym, ap, _∙_}
-use mathlib.Core.Bool.{Bool, true, false, not, _&&_, _||_, cond}
+use mathlib.Core.Bool.{Bool, true, false, not, _&&_, _||_}
 use Prim.Native.Nat.{ℕ, suc, _-_, _*_, _/_, _%_, _^_, _<_, _≤_}
 use native.Mathlib.Omega.{arith}
 use lib.IntN.{ℤ, pos, negsuc, natAbs}
@@ -15,7 +15,7 @@ use Rattle.truth.specs.declared.Truth.the-variants.{Bottom}
 use Rattle.truth.specs.Truth.{ofBool}
 use Rattle.number.specs.Integer.{exactOf, equalZ, isNegative}
 use Rattle.number.specs.Bits.{onBits, shifted}
-use Rattle.number.specs.Number.{isInt32, isInteger, isReal, integerOf, int32Of, realOf, zeroReal, typed, exactReal, inArithmetic, inComparison, onReals, realArithmetic, divides, isZero, zeroDivisor, arithmeticOf, bitwiseOf, placesIn, countOf, counted, shiftOf, comparedBy}
+use Rattle.number.specs.Number.{isInt32, isInteger, isReal, integerOf, int32Of, realOf, zeroReal, typed, inArithmetic, inComparison, onReals, realArithmetic, divides, isZero, zeroDivisor, arithmeticOf, bitwiseOf, placesIn, countOf, counted, shiftOf, comparedBy}
 use Rattle.number.specs.declared.Number.{Number}
 use Rattle.number.specs.declared.Number.the-variants.{Int32, Int64, Real, None}
 use Rattle.number.specs.declared.Count.{Count}
@@ -55,10 +55,6 @@ zero-bits w (negsuc n) f =
 pub zero-real : ofBits binary64 0 ≡ zeroReal
 unfolding ofBits
 zero-real = refl
-
--- a side that is an integer, as a real: what both rules for a real's other side come to
-pub made-real : (a : Number) (z : ℤ) → mag z < 2 ^ 63 → z ≡ integerOf a → isInteger a ≡ true → exactReal (R z) ≡ cond (isInteger a) (exactReal (integerOf a)) a
-made-real a z f e i = rw (toZ-ofZ w64 z (record { sfits = f }), e, i)
 
 -- two integers are the same where their bits are, over the width
 pub same-bits : (w : Width) (a b : ℤ) → SFits w a → SFits w b → eqb (ofZ w a) (ofZ w b) ≡ equalZ a b

@@ -65,13 +65,19 @@ typed both z = cond (both && fitsIn w32 z) (Int32 z) (cond (fitsIn w64 z) (Int64
 abbrev pub exactReal : ℤ → Number
 exactReal z = cond (leb (natAbs z) (2 ^ 53)) (Real (ofInt binary64 z)) None
 
--- "With a real, the other side becomes real if its size is at most 2^53, else bottom, ..": a side of an arithmetic operator
-abbrev pub inArithmetic : Number → Number
-inArithmetic a = cond (isInteger a) (exactReal (integerOf a)) a
+abbrev pub asReal : Number → Number
+asReal (Int32 z) = exactReal z
+asReal (Int64 z) = exactReal z
+asReal (Real x) = Real x
+asReal None = None
 
--- ".. also in comparisons": a side of a comparison
+-- "With a real, the other side becomes real if its size is at most 2^53, else bottom, ..": a side of an arithmetic operator ..
+abbrev pub inArithmetic : Number → Number
+inArithmetic a = asReal a
+
+-- ".. also in comparisons": .. and a side of a comparison
 abbrev pub inComparison : Number → Number
-inComparison a = cond (isInteger a) (exactReal (integerOf a)) a
+inComparison a = asReal a
 
 -- two reals, or nothing where a side is none
 abbrev pub onReals : {A : Type 0} → Number → Number → (Float → Float → A) → A → A

@@ -135,7 +135,7 @@ fn quotient_i64(a: i64, b: i64) -> Number
     ensures { λ r. ⌜ r ≡ typed false (quotZ a b) ⌝ }
 {
     if leaves_i64(a, b) {
-        return Number::None;
+        return Number::None; // 2^63 is past 64 bits
     }
     Number::Int64(a / b)
 }

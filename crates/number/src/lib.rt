@@ -7,7 +7,7 @@ ghost use Rattle.truth.specs.declared.Truth.the-variants.{Bottom};
 ghost use Rattle.truth.specs.Truth.{ofBool};
 ghost use lib.Ieee as Ieee;
 ghost use Rattle.number.specs.Integer.{exactOf};
-ghost use Rattle.number.specs.Number.{isInt32, isInteger, isReal, integerOf, int32Of, realOf, typed, inArithmetic, inComparison, onReals, realArithmetic, divides, isZero, zeroDivisor, arithmeticOf, bitwiseOf, complementOf, countOf, shiftOf, equalOf, orderOf, orderReal};
+ghost use Rattle.number.specs.Number.{isInt32, isInteger, isReal, integerOf, int32Of, realOf, typed, asReal, inArithmetic, inComparison, onReals, realArithmetic, divides, isZero, zeroDivisor, arithmeticOf, bitwiseOf, complementOf, countOf, shiftOf, equalOf, orderOf, orderReal};
 
 mod bits;
 mod integer;
@@ -99,24 +99,30 @@ fn real_of(a: Number) -> f64
     }
 }
 
-// "With a real, the other side becomes real if its size is at most 2^53, else bottom": a side of an arithmetic operator.
+// A number as a real, an integer only up to 2^53 in size.
+fn as_real(a: Number) -> Number
+    ensures { λ r. ⌜ r ≡ asReal a ⌝ }
+{
+    match a {
+        Number::Int32(z) => real::exact_real(z as i64),
+        Number::Int64(z) => real::exact_real(z),
+        Number::Real(x) => Number::Real(x),
+        Number::None => Number::None,
+    }
+}
+
+// "With a real, the other side becomes real if its size is at most 2^53, else bottom, ..": a side of an arithmetic operator ..
 fn in_arithmetic(a: Number) -> Number
     ensures { λ r. ⌜ r ≡ inArithmetic a ⌝ }
 {
-    if is_integer(a) {
-        return real::exact_real(integer_of(a));
-    }
-    a
+    as_real(a)
 }
 
-// ", also in comparisons": a side of a comparison.
+// ".. also in comparisons": .. and a side of a comparison.
 fn in_comparison(a: Number) -> Number
     ensures { λ r. ⌜ r ≡ inComparison a ⌝ }
 {
-    if is_integer(a) {
-        return real::exact_real(integer_of(a));
-    }
-    a
+    as_real(a)
 }
 
 // "A zero divisor, whole or real, gives bottom."
