@@ -1,0 +1,94 @@
+use Prim.Native.Nat.{_≤_, _-_}
+use mathlib.Core.Path.{_≡_, refl, sym, _∙_}
+use native.Mathlib.Omega.{arith}
+use lib.ListN.{length}
+use Rattle.octets.specs.Octets.{fold, folded, sameOf}
+use Rattle.octets.proofs.Laws.{lengths-differ, sameFrom, same-more, same-stop, same-end}
+use borrow.Author.Needs.{needs}
+use Rattle.octets.proofs.same.Statement.{statement}
+use Rattle.octets.proofs.same.Tie as tie
+use Rattle.octets.proofs.same.Reads as reads
+use Rattle.octets.proofs.same.Lts as lts
+use Rattle.octets.proofs.fold.Reads as fold-reads
+
+abbrev Inv-loop : tie.InvT-loop
+Inv-loop s s-mark t t-mark i₀ i = (i ≤ length s) × (sameFrom (fold s-mark) (fold t-mark) s t i ≡ sameOf (folded s-mark s) (folded t-mark t))
+
+abbrev μ-loop : tie.MeasureT-loop
+μ-loop s s-mark t t-mark i₀ i = length s - i
+
+-- src/lib.rt:24:9
+returns : tie.Need-returns Inv-loop μ-loop
+returns c =
+    lengths-differ (fold (c .before .before .before .args .s-mark)) (fold (c .before .before .before .args .t-mark)) (c .before .before .before .args .s .now) (c .before .before .before .args .t .now) (c .if1 .taken)
+
+-- src/lib.rt:27:5
+loop-holds : tie.Need-loop-holds Inv-loop μ-loop
+loop-holds c = (omega arith, refl)
+
+-- src/lib.rt:28:25
+shared-slice-read-fold : tie.Need-shared-slice-read-fold Inv-loop μ-loop
+shared-slice-read-fold c = search needs
+
+-- src/lib.rt:28:12
+fold-requires : tie.Need-fold-requires Inv-loop μ-loop
+fold-requires c κs = search needs
+
+-- src/lib.rt:28:47
+shared-slice-read-fold-2 : tie.Need-shared-slice-read-fold-2 Inv-loop μ-loop
+shared-slice-read-fold-2 c = search needs
+
+-- src/lib.rt:28:34
+fold-requires-2 : tie.Need-fold-requires-2 Inv-loop μ-loop
+fold-requires-2 c κs = search needs
+
+-- src/lib.rt:29:13
+returns-2 : tie.Need-returns-2 Inv-loop μ-loop
+returns-2 c =
+    let a = c .before .before .before .before .before .before .before .before .before .before .args in
+    let l = c .before .before .before .before .before .before .loop in
+    same-stop (fold (a .s-mark)) (fold (a .t-mark)) (a .s .now) (a .t .now) (l .i) (omega arith) (omega arith)
+    (λ e. c .if2 .taken (c .before .before .before .fold .ensures ∙ e ∙ sym (c .before .fold2 .ensures))) ∙ l .inv .1
+
+-- src/lib.rt:31:9
+add-i : tie.Need-add-i Inv-loop μ-loop
+add-i c = search needs
+
+-- src/lib.rt:27:5
+loop-less : tie.Need-loop-less Inv-loop μ-loop
+loop-less c = search needs
+
+-- src/lib.rt:27:5
+loop-again : tie.Need-loop-again Inv-loop μ-loop
+loop-again c =
+    let a = c .before .before .before .before .before .before .before .before .before .before .args in
+    let l = c .before .before .before .before .before .before .loop in (
+      omega arith,
+      same-more (fold (a .s-mark)) (fold (a .t-mark)) (a .s .now) (a .t .now) (l .i) (omega arith) (omega arith)
+          (sym (c .before .before .before .fold .ensures) ∙ c .if2 .left ∙ c .before .fold2 .ensures) ∙ l .inv .1,
+    )
+
+-- src/lib.rt:20:1
+returns-3 : tie.Need-returns-3 Inv-loop μ-loop
+returns-3 c =
+    let a = c .before .before .before .before .before .args in
+    let l = c .before .loop in
+    same-end (fold (a .s-mark)) (fold (a .t-mark)) (a .s .now) (a .t .now) (l .i) (omega arith) (omega arith) ∙ l .inv .1
+
+pub same-spec : {M : Type 1} → statement M
+same-spec =
+    tie.close
+    (tie.spec
+    Inv-loop
+    μ-loop
+    returns
+    loop-holds
+    shared-slice-read-fold
+    fold-requires
+    shared-slice-read-fold-2
+    fold-requires-2
+    returns-2
+    add-i
+    loop-less
+    loop-again
+    returns-3)
