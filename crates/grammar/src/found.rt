@@ -159,7 +159,11 @@ fn first_form(count: usize, new: Form, old: Form) -> Form
 fn all_texts(count: usize, texts: bool, new: Form) -> bool
     ensures { λ r. ⌜ r ≡ cond (eqb count 0) true (texts && isText new) ⌝ }
 {
-    if count == 0 { true } else { texts & is_text(new) }
+    if count == 0 {
+        true
+    } else {
+        texts & is_text(new)
+    }
 }
 
 pub fn more_args(a: Args, f: Found) -> Args

@@ -25,7 +25,11 @@ pub fn kind(kinds: &[u8], at: usize) -> u8
 pub fn start(starts: &[u16], at: usize) -> usize
     ensures { λ r. ⌜ r ≡ getD (now (starts .entry)) at 0 ⌝ }
 {
-    if at < starts.len() { wide(starts[at]) } else { 0 }
+    if at < starts.len() {
+        wide(starts[at])
+    } else {
+        0
+    }
 }
 
 fn wide(x: u16) -> usize
@@ -36,7 +40,50 @@ fn wide(x: u16) -> usize
 
 // The level of each kind: 11 for a kind that is no binary operator.
 const RANKS: [u8; 44] = [
-    11, 11, 11, 11, 11, 11, 11, 11, 11, 11, 11, 11, 11, 11, 11, 11, 10, 10, 10, 9, 8, 7, 6, 6, 6, 5, 5, 11, 11, 11, 11, 11, 3, 3, 4, 4, 4, 4, 11, 11, 11, 2, 1, 0,
+    11,
+    11,
+    11,
+    11,
+    11,
+    11,
+    11,
+    11,
+    11,
+    11,
+    11,
+    11,
+    11,
+    11,
+    11,
+    11,
+    10,
+    10,
+    10,
+    9,
+    8,
+    7,
+    6,
+    6,
+    6,
+    5,
+    5,
+    11,
+    11,
+    11,
+    11,
+    11,
+    3,
+    3,
+    4,
+    4,
+    4,
+    4,
+    11,
+    11,
+    11,
+    2,
+    1,
+    0,
 ];
 
 pub fn rank(k: u8) -> u8
@@ -57,7 +104,6 @@ pub fn is_literal(k: u8) -> bool
 {
     (1 <= k) & (k <= 4)
 }
-
 
 // What is known of a literal or a name.
 pub fn leaf(text: &[u8], kinds: &[u8], starts: &[u16], at: usize) -> Found

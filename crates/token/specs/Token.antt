@@ -28,18 +28,23 @@ kindOf (symbol k) = k
 
 unfoldable pub nameAt : List ℕ → ℕ → List ℕ
 nameAt s at = []
+
 unfoldable pub escapedAt : List ℕ → ℕ → Bool
 escapedAt s at = true
+
 unfoldable pub stringAt : List ℕ → ℕ → List ℕ
 stringAt s at = []
+
 unfoldable pub integerAt : List ℕ → ℕ → ℤ
 integerAt s at = pos 0
+
 unfoldable pub realAt : List ℕ → ℕ → Float
 realAt s at = nan
 
 pub name-small : (s : List ℕ) (at : ℕ) → length (nameAt s at) ≤ length s
 unfolding nameAt
 name-small s at = omega arith
+
 pub string-small : (s : List ℕ) (at : ℕ) → length (stringAt s at) ≤ length s
 unfolding stringAt
 string-small s at = omega arith

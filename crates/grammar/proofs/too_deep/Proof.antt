@@ -1,3 +1,11 @@
+use mathlib.Core.Path.{_≡_, refl, _∙_}
+use mathlib.Core.Bool.{true, false}
+use Prim.Native.Nat.{_≤_, _-_}
+use native.Mathlib.Omega.{arith}
+use lib.ListN.{length, drop}
+use Rattle.grammar.specs.Nesting.{tooDeep, deepFrom}
+use Rattle.grammar.proofs.Streams.{deep-opened, deep-row, deep-on, deep-end}
+use borrow.Author.Needs.{needs}
 use Rattle.grammar.proofs.too_deep.Statement.{statement}
 use Rattle.grammar.proofs.too_deep.Tie as tie
 use Rattle.grammar.proofs.too_deep.Reads as reads
@@ -6,50 +14,68 @@ use Rattle.grammar.proofs.stream.open_after.Reads as open-after-reads
 use Rattle.grammar.proofs.stream.row_after.Reads as row-after-reads
 
 abbrev Inv-loop : tie.InvT-loop
-Inv-loop kinds opened₀ row₀ i₀ opened row i = ?
+Inv-loop kinds opened₀ row₀ i₀ opened row i = (i ≤ length kinds) × (opened ≤ 24) × (row ≤ 24) × (deepFrom opened row (drop i kinds) ≡ tooDeep kinds)
 
 abbrev μ-loop : tie.MeasureT-loop
-μ-loop kinds opened₀ row₀ i₀ opened row i = ?
+μ-loop kinds opened₀ row₀ i₀ opened row i = length kinds - i
 
 -- src/lib.rt:156:5
 loop-holds : tie.Need-loop-holds Inv-loop μ-loop
-loop-holds c = ?
+unfolding tooDeep
+loop-holds c = (omega arith, omega arith, omega arith, refl)
 
 -- src/lib.rt:157:17
 shared-slice-read-k : tie.Need-shared-slice-read-k Inv-loop μ-loop
-shared-slice-read-k c = ?
+shared-slice-read-k c = search needs
 
 -- src/lib.rt:158:9
 open-after-requires : tie.Need-open-after-requires Inv-loop μ-loop
-open-after-requires c κs = ?
+open-after-requires c κs = search needs
 
 -- src/lib.rt:159:9
 row-after-requires : tie.Need-row-after-requires Inv-loop μ-loop
-row-after-requires c κs = ?
+row-after-requires c κs = search needs
 
 -- src/lib.rt:161:13
 returns : tie.Need-returns Inv-loop μ-loop
-returns c = ?
+returns c =
+    let l = c .before .before .before .before .before .loop in
+    deep-opened (c .before .before .before .before .before .before .before .args .kinds .now) (l .i) (l .opened) (l .row) (omega arith)
+    (rw (c .before .before .open-after .ensures) at (c .if1 .taken)) ∙ l .inv .3
 
 -- src/lib.rt:164:13
 returns-2 : tie.Need-returns-2 Inv-loop μ-loop
-returns-2 c = ?
+returns-2 c =
+    let l = c .before .before .before .before .before .before .loop in
+    deep-row (c .before .before .before .before .before .before .before .before .args .kinds .now) (l .i) (l .opened) (l .row) (omega arith)
+    (rw (c .before .before .row-after .ensures) at (c .if2 .taken)) ∙ l .inv .3
 
 -- src/lib.rt:166:9
 add-i : tie.Need-add-i Inv-loop μ-loop
-add-i c = ?
+add-i c = search needs
 
 -- src/lib.rt:156:5
 loop-less : tie.Need-loop-less Inv-loop μ-loop
-loop-less c = ?
+loop-less c = search needs
 
 -- src/lib.rt:156:5
 loop-again : tie.Need-loop-again Inv-loop μ-loop
-loop-again c = ?
+loop-again c =
+    let l = c .before .before .before .before .before .before .loop in
+    let e = c .before .before .before .open-after .ensures in
+    let f = c .before .before .row-after .ensures in (
+      omega arith,
+      omega arith,
+      omega arith,
+      rw (e, f) (deep-on (c .before .before .before .before .before .before .before .before .args .kinds .now) (l .i) (l .opened) (l .row) (omega arith)
+          (rw e at (c .before .if1 .left)) (rw f at (c .if2 .left)) ∙ l .inv .3),
+    )
 
 -- src/lib.rt:150:1
 returns-3 : tie.Need-returns-3 Inv-loop μ-loop
-returns-3 c = ?
+returns-3 c =
+    let l = c .before .loop in
+    deep-end (c .before .before .before .args .kinds .now) (l .i) (l .opened) (l .row) (omega arith) ∙ l .inv .3
 
 pub too-deep-spec : {M : Type 1} → statement M
 too-deep-spec =

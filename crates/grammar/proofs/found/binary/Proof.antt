@@ -46,7 +46,14 @@ operand-right-requires-2 c κs = search needs
 
 -- src/found.rt:123:1
 returns : tie.Need-returns
-returns c = ?
+returns c =
+    rw (
+      c .before .before .before .before .before .before .before .before .before .before .before .operator-entries .ensures .0,
+      c .before .before .before .before .before .before .before .larger .ensures,
+      c .before .before .before .before .before .before .gives-logic .ensures,
+      c .before .before .before .operand-right .ensures,
+      c .before .operand-right2 .ensures,
+    )
 
 pub binary-spec : {M : Type 1} → statement M
 binary-spec =

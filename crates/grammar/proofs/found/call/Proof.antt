@@ -25,7 +25,8 @@ gives-logic-requires c κs = search needs
 
 -- src/found.rt:247:1
 returns : tie.Need-returns
-returns c = ?
+returns c =
+    rw (c .before .before .before .before .call-form .ensures, c .before .before .before .call-right .ensures, c .before .gives-logic .ensures)
 
 pub call-spec : {M : Type 1} → statement M
 call-spec =

@@ -37,7 +37,8 @@ larger-requires c κs = search needs
 
 -- src/found.rt:165:1
 returns : tie.Need-returns
-returns c = ?
+returns c =
+    rw (c .before .before .before .before .before .before .before .before .before .before .before .before .before .before .first-form .ensures, c .before .before .before .before .before .before .before .before .before .before .before .before .before .all-texts .ensures, c .before .before .before .before .before .larger .ensures)
 
 pub more-args-spec : {M : Type 1} → statement M
 more-args-spec =

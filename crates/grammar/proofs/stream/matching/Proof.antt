@@ -1,3 +1,4 @@
+use mathlib.Core.Path.{sym, _∙_}
 use borrow.Author.Needs.{needs}
 use Rattle.grammar.proofs.stream.matching.Statement.{statement}
 use Rattle.grammar.proofs.stream.matching.Tie as tie
@@ -15,7 +16,7 @@ name-is-requires c κs = search needs
 
 -- src/stream.rt:135:9
 returns : tie.Need-returns
-returns c = ?
+returns c = rw (sym (c .before .name-is .ensures) ∙ c .if1 .taken)
 
 -- src/stream.rt:137:33
 slice-aggregate-name-is-2 : tie.Need-slice-aggregate-name-is-2
@@ -27,7 +28,8 @@ name-is-requires-2 c κs = search needs
 
 -- src/stream.rt:138:9
 returns-2 : tie.Need-returns-2
-returns-2 c = ?
+returns-2 c =
+    rw (sym (c .before .before .before .before .name-is .ensures) ∙ c .before .before .before .if1 .left, sym (c .before .name-is2 .ensures) ∙ c .if2 .taken)
 
 -- src/stream.rt:140:33
 slice-aggregate-name-is-3 : tie.Need-slice-aggregate-name-is-3
@@ -39,7 +41,8 @@ name-is-requires-3 c κs = search needs
 
 -- src/stream.rt:141:9
 returns-3 : tie.Need-returns-3
-returns-3 c = ?
+returns-3 c =
+    rw (sym (c .before .before .before .before .before .before .before .name-is .ensures) ∙ c .before .before .before .before .before .before .if1 .left, sym (c .before .before .before .before .name-is2 .ensures) ∙ c .before .before .before .if2 .left, sym (c .before .name-is3 .ensures) ∙ c .if3 .taken)
 
 -- src/stream.rt:143:33
 slice-aggregate-name-is-4 : tie.Need-slice-aggregate-name-is-4
@@ -51,11 +54,13 @@ name-is-requires-4 c κs = search needs
 
 -- src/stream.rt:144:9
 returns-4 : tie.Need-returns-4
-returns-4 c = ?
+returns-4 c =
+    rw (sym (c .before .before .before .before .before .before .before .before .before .before .name-is .ensures) ∙ c .before .before .before .before .before .before .before .before .before .if1 .left, sym (c .before .before .before .before .before .before .before .name-is2 .ensures) ∙ c .before .before .before .before .before .before .if2 .left, sym (c .before .before .before .before .name-is3 .ensures) ∙ c .before .before .before .if3 .left, sym (c .before .name-is4 .ensures) ∙ c .if4 .taken)
 
 -- src/stream.rt:131:1
 returns-5 : tie.Need-returns-5
-returns-5 c = ?
+returns-5 c =
+    rw (sym (c .before .before .before .before .before .before .before .before .before .before .name-is .ensures) ∙ c .before .before .before .before .before .before .before .before .before .if1 .left, sym (c .before .before .before .before .before .before .before .name-is2 .ensures) ∙ c .before .before .before .before .before .before .if2 .left, sym (c .before .before .before .before .name-is3 .ensures) ∙ c .before .before .before .if3 .left, sym (c .before .name-is4 .ensures) ∙ c .if4 .left)
 
 pub matching-spec : {M : Type 1} → statement M
 matching-spec =

@@ -1,3 +1,4 @@
+use mathlib.Core.Path.{sym, _∙_}
 use borrow.Author.Needs.{needs}
 use Rattle.grammar.proofs.stream.test.Statement.{statement}
 use Rattle.grammar.proofs.stream.test.Tie as tie
@@ -15,7 +16,7 @@ name-is-requires c κs = search needs
 
 -- src/stream.rt:108:9
 returns : tie.Need-returns
-returns c = ?
+returns c = rw (sym (c .before .name-is .ensures) ∙ c .if1 .taken)
 
 -- src/stream.rt:110:33
 slice-aggregate-name-is-2 : tie.Need-slice-aggregate-name-is-2
@@ -27,7 +28,8 @@ name-is-requires-2 c κs = search needs
 
 -- src/stream.rt:111:9
 returns-2 : tie.Need-returns-2
-returns-2 c = ?
+returns-2 c =
+    rw (sym (c .before .before .before .before .name-is .ensures) ∙ c .before .before .before .if1 .left, sym (c .before .name-is2 .ensures) ∙ c .if2 .taken)
 
 -- src/stream.rt:113:33
 slice-aggregate-name-is-3 : tie.Need-slice-aggregate-name-is-3
@@ -39,7 +41,8 @@ name-is-requires-3 c κs = search needs
 
 -- src/stream.rt:114:9
 returns-3 : tie.Need-returns-3
-returns-3 c = ?
+returns-3 c =
+    rw (sym (c .before .before .before .before .before .before .before .name-is .ensures) ∙ c .before .before .before .before .before .before .if1 .left, sym (c .before .before .before .before .name-is2 .ensures) ∙ c .before .before .before .if2 .left, sym (c .before .name-is3 .ensures) ∙ c .if3 .taken)
 
 -- src/stream.rt:116:33
 slice-aggregate-name-is-4 : tie.Need-slice-aggregate-name-is-4
@@ -51,7 +54,8 @@ name-is-requires-4 c κs = search needs
 
 -- src/stream.rt:117:9
 returns-4 : tie.Need-returns-4
-returns-4 c = ?
+returns-4 c =
+    rw (sym (c .before .before .before .before .before .before .before .before .before .before .name-is .ensures) ∙ c .before .before .before .before .before .before .before .before .before .if1 .left, sym (c .before .before .before .before .before .before .before .name-is2 .ensures) ∙ c .before .before .before .before .before .before .if2 .left, sym (c .before .before .before .before .name-is3 .ensures) ∙ c .before .before .before .if3 .left, sym (c .before .name-is4 .ensures) ∙ c .if4 .taken)
 
 -- src/stream.rt:119:33
 slice-aggregate-name-is-5 : tie.Need-slice-aggregate-name-is-5
@@ -63,7 +67,8 @@ name-is-requires-5 c κs = search needs
 
 -- src/stream.rt:120:9
 returns-5 : tie.Need-returns-5
-returns-5 c = ?
+returns-5 c =
+    rw (sym (c .before .before .before .before .before .before .before .before .before .before .before .before .before .name-is .ensures) ∙ c .before .before .before .before .before .before .before .before .before .before .before .before .if1 .left, sym (c .before .before .before .before .before .before .before .before .before .before .name-is2 .ensures) ∙ c .before .before .before .before .before .before .before .before .before .if2 .left, sym (c .before .before .before .before .before .before .before .name-is3 .ensures) ∙ c .before .before .before .before .before .before .if3 .left, sym (c .before .before .before .before .name-is4 .ensures) ∙ c .before .before .before .if4 .left, sym (c .before .name-is5 .ensures) ∙ c .if5 .taken)
 
 -- src/stream.rt:122:33
 slice-aggregate-name-is-6 : tie.Need-slice-aggregate-name-is-6
@@ -75,7 +80,8 @@ name-is-requires-6 c κs = search needs
 
 -- src/stream.rt:123:9
 returns-6 : tie.Need-returns-6
-returns-6 c = ?
+returns-6 c =
+    rw (sym (c .before .before .before .before .before .before .before .before .before .before .before .before .before .before .before .before .name-is .ensures) ∙ c .before .before .before .before .before .before .before .before .before .before .before .before .before .before .before .if1 .left, sym (c .before .before .before .before .before .before .before .before .before .before .before .before .before .name-is2 .ensures) ∙ c .before .before .before .before .before .before .before .before .before .before .before .before .if2 .left, sym (c .before .before .before .before .before .before .before .before .before .before .name-is3 .ensures) ∙ c .before .before .before .before .before .before .before .before .before .if3 .left, sym (c .before .before .before .before .before .before .before .name-is4 .ensures) ∙ c .before .before .before .before .before .before .if4 .left, sym (c .before .before .before .before .name-is5 .ensures) ∙ c .before .before .before .if5 .left, sym (c .before .name-is6 .ensures) ∙ c .if6 .taken)
 
 -- src/stream.rt:125:33
 slice-aggregate-name-is-7 : tie.Need-slice-aggregate-name-is-7
@@ -87,11 +93,13 @@ name-is-requires-7 c κs = search needs
 
 -- src/stream.rt:126:9
 returns-7 : tie.Need-returns-7
-returns-7 c = ?
+returns-7 c =
+    rw (sym (c .before .before .before .before .before .before .before .before .before .before .before .before .before .before .before .before .before .before .before .name-is .ensures) ∙ c .before .before .before .before .before .before .before .before .before .before .before .before .before .before .before .before .before .before .if1 .left, sym (c .before .before .before .before .before .before .before .before .before .before .before .before .before .before .before .before .name-is2 .ensures) ∙ c .before .before .before .before .before .before .before .before .before .before .before .before .before .before .before .if2 .left, sym (c .before .before .before .before .before .before .before .before .before .before .before .before .before .name-is3 .ensures) ∙ c .before .before .before .before .before .before .before .before .before .before .before .before .if3 .left, sym (c .before .before .before .before .before .before .before .before .before .before .name-is4 .ensures) ∙ c .before .before .before .before .before .before .before .before .before .if4 .left, sym (c .before .before .before .before .before .before .before .name-is5 .ensures) ∙ c .before .before .before .before .before .before .if5 .left, sym (c .before .before .before .before .name-is6 .ensures) ∙ c .before .before .before .if6 .left, sym (c .before .name-is7 .ensures) ∙ c .if7 .taken)
 
 -- src/stream.rt:104:1
 returns-8 : tie.Need-returns-8
-returns-8 c = ?
+returns-8 c =
+    rw (sym (c .before .before .before .before .before .before .before .before .before .before .before .before .before .before .before .before .before .before .before .name-is .ensures) ∙ c .before .before .before .before .before .before .before .before .before .before .before .before .before .before .before .before .before .before .if1 .left, sym (c .before .before .before .before .before .before .before .before .before .before .before .before .before .before .before .before .name-is2 .ensures) ∙ c .before .before .before .before .before .before .before .before .before .before .before .before .before .before .before .if2 .left, sym (c .before .before .before .before .before .before .before .before .before .before .before .before .before .name-is3 .ensures) ∙ c .before .before .before .before .before .before .before .before .before .before .before .before .if3 .left, sym (c .before .before .before .before .before .before .before .before .before .before .name-is4 .ensures) ∙ c .before .before .before .before .before .before .before .before .before .if4 .left, sym (c .before .before .before .before .before .before .before .name-is5 .ensures) ∙ c .before .before .before .before .before .before .if5 .left, sym (c .before .before .before .before .name-is6 .ensures) ∙ c .before .before .before .if6 .left, sym (c .before .name-is7 .ensures) ∙ c .if7 .left)
 
 pub test-spec : {M : Type 1} → statement M
 test-spec =
