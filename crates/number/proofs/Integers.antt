@@ -1,7 +1,7 @@
 -- Operators on integers by their names, results of two int32 in 64 bits, and the type of a result. Assumes nothing.
-use mathlib.Core.Path.{_≡_, refl, sym, ap, _∙_}
+use mathlib.Core.Path.{_≡_, refl, sym, ap}
 use mathlib.Core.Bool.{Bool, true, false}
-use Prim.Native.Nat.{ℕ, zero, suc, _+_, _*_, _^_, _≤_, _<_}
+use Prim.Native.Nat.{ℕ, zero, suc, _*_, _^_, _≤_, _<_}
 use native.Mathlib.Nat.{mul-le-mul}
 use native.Mathlib.Omega.{arith}
 use lib.IntN.{ℤ, pos, negsuc, negℤ, natAbs, _+ℤ_, _-ℤ_, _*ℤ_}
@@ -17,7 +17,7 @@ use Rattle.number.specs.Number.{typed}
 use Rattle.number.specs.declared.Number.the-variants.{Int32, Int64}
 use Rattle.number.specs.declared.operator.Arithmetic.{Arithmetic}
 use Rattle.number.specs.declared.operator.Order.{Order}
-use Rattle.number.proofs.Ints.{up, dn, apart, sum, neg, range, in-range, lt-yes, lt-no, above, beneath, read-lt}
+use Rattle.number.proofs.Ints.{apart, sum, neg, range, in-range, lt-yes, lt-no, above, beneath, read-lt}
 use Rattle.number.proofs.Sums.{R}
 
 -- an int32 in 64 bits

@@ -1,12 +1,12 @@
 -- A real literal by the tests of its limits. Assumes nothing.
-use mathlib.Core.Path.{_≡_, refl, ap}
+use mathlib.Core.Path.{_≡_, refl}
 use mathlib.Core.Bool.{Bool, true, false, _&&_}
 use Prim.Native.Nat.{ℕ, _^_, _≤_, _<_}
 use native.Mathlib.Omega.{arith}
 use lib.Dec.{ltb, leb}
 use lib.Ieee.{Float, nan}
 use borrow.Author.Tests.{lt-ltb, le-ltb, le-leb, lt-leb}
-use Rattle.number.specs.Real.{decimalOf, scaledOf, signedReal, inLimits}
+use Rattle.number.specs.Real.{decimalOf, scaledOf, signedReal}
 
 and-no : (a b : Bool) → b ≡ false → (a && b) ≡ false
 and-no true b e = e

@@ -1,12 +1,12 @@
 -- Numbers by their kinds: what each operator's tests lead to. Assumes nothing.
-use mathlib.Core.Path.{_≡_, refl, sym, ap, _∙_}
+use mathlib.Core.Path.{_≡_, refl, sym, _∙_}
 use mathlib.Core.Bool.{Bool, true, false, not, _&&_, _||_}
-use Prim.Native.Nat.{ℕ, suc, _-_, _*_, _/_, _%_, _^_, _<_, _≤_}
+use Prim.Native.Nat.{ℕ, suc, _-_, _^_, _<_, _≤_}
 use native.Mathlib.Omega.{arith}
 use lib.IntN.{ℤ, pos, negsuc, natAbs}
 use lib.Signed.{mag}
 use lib.Dec.{eqb}
-use lib.Ieee.{Float, binary64, ofBits, eq}
+use lib.Ieee.{Float, binary64, ofBits}
 use mir.Syntax.{Width, w32, w64}
 use mir.Val.{bits, SFits, toZ, ofZ}
 use mir.ValLaws.{toZ-ofZ, pow-bits}
@@ -15,7 +15,7 @@ use Rattle.truth.specs.declared.Truth.the-variants.{Bottom}
 use Rattle.truth.specs.Truth.{ofBool}
 use Rattle.number.specs.Integer.{exactOf, equalZ, isNegative}
 use Rattle.number.specs.Bits.{onBits, shifted}
-use Rattle.number.specs.Number.{isInt32, isInteger, isReal, integerOf, int32Of, realOf, zeroReal, typed, inArithmetic, inComparison, onReals, realArithmetic, divides, isZero, zeroDivisor, arithmeticOf, bitwiseOf, placesIn, countOf, counted, shiftOf, comparedBy}
+use Rattle.number.specs.Number.{isInt32, isInteger, isReal, integerOf, int32Of, realOf, zeroReal, typed, inArithmetic, inComparison, onReals, realArithmetic, divides, isZero, zeroDivisor, arithmeticOf, bitwiseOf, placesIn, countOf, shiftOf, comparedBy}
 use Rattle.number.specs.declared.Number.{Number}
 use Rattle.number.specs.declared.Number.the-variants.{Int32, Int64, Real, None}
 use Rattle.number.specs.declared.Count.{Count}

@@ -1,5 +1,5 @@
 -- Shifts of numbers that the machine reads back from their bits, over the width. Assumes nothing.
-use mathlib.Core.Path.{_≡_, refl, sym, ap, _∙_}
+use mathlib.Core.Path.{_≡_, sym, ap, _∙_}
 use Prim.Native.Nat.{ℕ, _/_, _^_}
 use lib.IntN.{ℤ}
 use lib.Signed.{mag-shr, shrZ}

@@ -79,7 +79,7 @@ fn signed(negative: bool, m: u64) -> Number
 }
 
 // A product of magnitudes.
-pub enum Magnitude {
+enum Magnitude {
     Fits(u64),
     Over,
 }

@@ -3,11 +3,8 @@ ghost use mathlib.Core.Path.{_≡_};
 ghost use mathlib.Core.Bool.{true, _&&_};
 ghost use Prim.Native.Nat.{_<_};
 ghost use lib.IntN.{natAbs};
-ghost use Rattle.truth.specs.declared.Truth.the-variants.{Bottom};
-ghost use Rattle.truth.specs.Truth.{ofBool};
-ghost use lib.Ieee as Ieee;
 ghost use Rattle.number.specs.Integer.{exactOf};
-ghost use Rattle.number.specs.Number.{isInt32, isInteger, isReal, integerOf, int32Of, realOf, typed, asReal, inArithmetic, inComparison, onReals, realArithmetic, divides, isZero, zeroDivisor, arithmeticOf, bitwiseOf, complementOf, countOf, shiftOf, equalOf, orderOf, orderReal};
+ghost use Rattle.number.specs.Number.{isInt32, isInteger, isReal, integerOf, int32Of, realOf, typed, asReal, inArithmetic, inComparison, onReals, realArithmetic, divides, isZero, zeroDivisor, arithmeticOf, bitwiseOf, complementOf, countOf, shiftOf, equalOf, orderOf};
 
 mod bits;
 mod integer;
@@ -214,7 +211,7 @@ pub fn complement(a: Number) -> Number
 }
 
 // The places of a shift.
-pub enum Count {
+enum Count {
     Places(u64),
     Outside,
 }

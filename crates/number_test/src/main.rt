@@ -1,7 +1,11 @@
 // Runs every operator on numbers on the cases of standard input. A case is a part of 20 bytes: group, operator, the kinds of both operands
 // (1 int32, 2 int64, 3 real64, 0 none), and both as 64 bits. An answer is a kind and its bits in hex, or a truth value.
 use libc::STDOUT_FILENO;
-use number::{Arithmetic, Bitwise, Number, Order, Shift};
+use number::Arithmetic;
+use number::Bitwise;
+use number::Number;
+use number::Order;
+use number::Shift;
 use truth::Truth;
 
 fn put(s: &[u8]) {

@@ -1,46 +1,29 @@
-use mathlib.Core.Path.{_≡_, _∙_, ap}
-use mathlib.Core.Bool.{true, false}
-use Rattle.number.specs.Number.{typed}
+use mathlib.Core.Path.{_∙_}
 use Rattle.number.proofs.Numbers.{joined, asked32, given32, asked64, given64}
 use borrow.Author.Needs.{needs}
 use Rattle.number.proofs.on_integers.Statement.{statement}
 use Rattle.number.proofs.on_integers.Tie as tie
-use Rattle.number.proofs.on_integers.Reads as reads
-use Rattle.number.proofs.on_integers.Lts as lts
-use Rattle.number.proofs.int32_of.Reads as int32-of-reads
-use Rattle.number.proofs.integer.arithmetic_i32.Reads as arithmetic-i32-reads
-use Rattle.number.proofs.integer.arithmetic_i64.Reads as arithmetic-i64-reads
-use Rattle.number.proofs.integer.narrow.Reads as narrow-reads
-use Rattle.number.proofs.integer_of.Reads as integer-of-reads
-use Rattle.number.proofs.is_int32.Reads as is-int32-reads
 
--- src/lib.rt:165:8
 is-int32-requires : tie.Need-is-int32-requires
 is-int32-requires c κs = search needs
 
--- src/lib.rt:165:22
 is-int32-requires-2 : tie.Need-is-int32-requires-2
 is-int32-requires-2 c κs = search needs
 
--- src/lib.rt:166:60
 int32-of-requires : tie.Need-int32-of-requires
 int32-of-requires c κs = search needs
 
--- src/lib.rt:166:73
 int32-of-requires-2 : tie.Need-int32-of-requires-2
 int32-of-requires-2 c κs = search needs
 
--- src/lib.rt:166:32
 arithmetic-i32-requires : tie.Need-arithmetic-i32-requires
 arithmetic-i32-requires c κs =
     let v1 = c .before in let i = v1 .before in let q2 = i .before in let q1 = q2 .before in let s = q1 .before in
     asked32 (s .args .op) (s .args .a) (s .args .b) (s .pre) _ _ (joined (q1 .is-int32 .ensures) (q2 .is-int322 .ensures) (i .if1 .taken)) (v1 .int32-of .ok) (c .int32-of2 .ok) (v1 .int32-of .ensures) (c .int32-of2 .ensures)
 
--- src/lib.rt:166:9
 narrow-requires : tie.Need-narrow-requires
 narrow-requires c κs = search needs
 
--- src/lib.rt:166:9
 returns : tie.Need-returns
 returns c =
     let r = c .before in let v2 = r .before in let v1 = v2 .before in let i = v1 .before in let q2 = i .before in let q1 = q2 .before in let s = q1 .before in
@@ -48,21 +31,17 @@ returns c =
     ∙ given32 (s .args .op) (s .args .a) (s .args .b) (s .pre) _ _ (joined (q1 .is-int32 .ensures) (q2 .is-int322 .ensures) (i .if1 .taken)) (v1 .int32-of .ok) (v2 .int32-of2 .ok) (v1 .int32-of .ensures) (v2 .int32-of2 .ensures)
     _ (r .arithmetic-i32 .ok) (r .arithmetic-i32 .ensures)
 
--- src/lib.rt:168:33
 integer-of-requires : tie.Need-integer-of-requires
 integer-of-requires c κs = search needs
 
--- src/lib.rt:168:48
 integer-of-requires-2 : tie.Need-integer-of-requires-2
 integer-of-requires-2 c κs = search needs
 
--- src/lib.rt:168:5
 arithmetic-i64-requires : tie.Need-arithmetic-i64-requires
 arithmetic-i64-requires c κs =
     let v1 = c .before in let s = v1 .before .before .before .before in
     asked64 (s .args .op) (s .args .a) (s .args .b) (s .pre) _ _ (v1 .integer-of .ok) (c .integer-of2 .ok) (v1 .integer-of .ensures) (c .integer-of2 .ensures)
 
--- src/lib.rt:161:1
 returns-2 : tie.Need-returns-2
 returns-2 c =
     let v2 = c .before in let v1 = v2 .before in let i = v1 .before in let q2 = i .before in let q1 = q2 .before in let s = q1 .before in

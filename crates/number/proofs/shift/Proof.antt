@@ -1,96 +1,71 @@
-use mathlib.Core.Path.{_≡_, _∙_}
-use mir.Syntax.{w32, w64}
 use Rattle.number.proofs.Numbers.{count-below, shift32, shift64, no-shift32, no-shift64}
 use borrow.Author.Needs.{needs}
 use Rattle.number.proofs.shift.Statement.{statement}
 use Rattle.number.proofs.shift.Tie as tie
-use Rattle.number.proofs.shift.Reads as reads
-use Rattle.number.proofs.shift.Lts as lts
-use Rattle.number.proofs.bits.shift_i32.Reads as shift-i32-reads
-use Rattle.number.proofs.bits.shift_i64.Reads as shift-i64-reads
-use Rattle.number.proofs.places.Reads as places-reads
 
--- src/lib.rt:228:23
 enum-known-a : tie.Need-enum-known-a
 enum-known-a c = search needs
 
--- src/lib.rt:228:35
 places-requires : tie.Need-places-requires
 places-requires c κs = search needs
 
--- src/lib.rt:229:27
 enum-known-k : tie.Need-enum-known-k
 enum-known-k c = search needs
 
--- src/lib.rt:229:47
 shift-i32-requires : tie.Need-shift-i32-requires
 shift-i32-requires c κs =
     let g = c .before in let p = g .before .before in let s = p .before .before .before .before in
     count-below 32 (s .args .b) _ _ (p .places .ensures) (g .k .given .1)
 
--- src/lib.rt:230:31
 enum-told : tie.Need-enum-told
 enum-told c = search needs
 
--- src/lib.rt:232:23
 enum-known-a-2 : tie.Need-enum-known-a-2
 enum-known-a-2 c = search needs
 
--- src/lib.rt:232:35
 places-requires-2 : tie.Need-places-requires-2
 places-requires-2 c κs = search needs
 
--- src/lib.rt:233:27
 enum-known-k-2 : tie.Need-enum-known-k-2
 enum-known-k-2 c = search needs
 
--- src/lib.rt:233:47
 shift-i64-requires : tie.Need-shift-i64-requires
 shift-i64-requires c κs =
     let g = c .before in let p = g .before .before in let s = p .before .before .before .before in
     count-below 64 (s .args .b) _ _ (p .places2 .ensures) (g .k2 .given .1)
 
--- src/lib.rt:234:31
 enum-told-2 : tie.Need-enum-told-2
 enum-told-2 c = search needs
 
--- src/lib.rt:236:28
 enum-told-3 : tie.Need-enum-told-3
 enum-told-3 c = search needs
 
--- src/lib.rt:237:25
 enum-told-4 : tie.Need-enum-told-4
 enum-told-4 c = search needs
 
--- src/lib.rt:224:1
 returns : tie.Need-returns
 returns c =
     let g = c .before .before in let p = g .before .before in let m = p .before in let a = m .before in let s = a .before .before in
     shift32 (s .args .op) (s .args .a) (s .args .b) _ _ (a .a .given .1) (p .places .ensures) _ _ (g .k .given .1) (m .known-told .given .0 .1) (c .shift-i32 .ok) (c .shift-i32 .ensures)
 
--- src/lib.rt:224:1
 returns-2 : tie.Need-returns-2
 returns-2 c =
     let p = c .before .before in let m = p .before in let a = m .before in let s = a .before .before in
     no-shift32 (s .args .op) (s .args .a) (s .args .b) _ _ (a .a .given .1) (p .places .ensures) (c .enum-told .given .1)
 
--- src/lib.rt:224:1
 returns-3 : tie.Need-returns-3
 returns-3 c =
     let g = c .before .before in let p = g .before .before in let m = p .before in let a = m .before in let s = a .before .before in
     shift64 (s .args .op) (s .args .a) (s .args .b) _ _ (a .a2 .given .1) (p .places2 .ensures) _ _ (g .k2 .given .1) (m .known-told3 .given .0 .1) (c .shift-i64 .ok) (c .shift-i64 .ensures)
 
--- src/lib.rt:224:1
 returns-4 : tie.Need-returns-4
 returns-4 c =
     let p = c .before .before in let m = p .before in let a = m .before in let s = a .before .before in
     no-shift64 (s .args .op) (s .args .a) (s .args .b) _ _ (a .a2 .given .1) (p .places2 .ensures) (c .enum-told2 .given .1)
 
--- src/lib.rt:224:1
 returns-5 : tie.Need-returns-5
 returns-5 c = search needs
 
--- src/lib.rt:224:1
 returns-6 : tie.Need-returns-6
 returns-6 c = search needs
 

@@ -5,30 +5,22 @@ use Rattle.number.specs.declared.operator.Bitwise.{Bitwise}
 use borrow.Author.Needs.{needs}
 use Rattle.number.proofs.bits.bitwise_i64.Statement.{statement}
 use Rattle.number.proofs.bits.bitwise_i64.Tie as tie
-use Rattle.number.proofs.bits.bitwise_i64.Reads as reads
-use Rattle.number.proofs.bits.bitwise_i64.Lts as lts
 
--- src/bits.rt:23:25
 enum-told : tie.Need-enum-told
 enum-told c = search needs
 
--- src/bits.rt:24:25
 enum-told-2 : tie.Need-enum-told-2
 enum-told-2 c = search needs
 
--- src/bits.rt:25:24
 enum-told-3 : tie.Need-enum-told-3
 enum-told-3 c = search needs
 
--- src/bits.rt:19:1
 returns : tie.Need-returns
 returns c = let s = c .before .before in sym (ap (λ (o : Bitwise). onBits o w64 (s .args .a) (s .args .b)) (c .enum-told .given .1))
 
--- src/bits.rt:19:1
 returns-2 : tie.Need-returns-2
 returns-2 c = let s = c .before .before in sym (ap (λ (o : Bitwise). onBits o w64 (s .args .a) (s .args .b)) (c .enum-told2 .given .1))
 
--- src/bits.rt:19:1
 returns-3 : tie.Need-returns-3
 returns-3 c = let s = c .before .before in sym (ap (λ (o : Bitwise). onBits o w64 (s .args .a) (s .args .b)) (c .enum-told3 .given .1))
 
