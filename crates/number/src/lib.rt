@@ -4,7 +4,7 @@ ghost use mathlib.Core.Bool.{true, _&&_};
 ghost use Prim.Native.Nat.{_<_};
 ghost use lib.IntN.{natAbs};
 ghost use Rattle.number.specs.Integer.{exactOf};
-ghost use Rattle.number.specs.Number.{isInt32, isInteger, isReal, integerOf, int32Of, realOf, typed, asReal, inArithmetic, inComparison, onReals, realArithmetic, divides, isZero, zeroDivisor, arithmeticOf, bitwiseOf, complementOf, countOf, shiftOf, equalOf, orderOf};
+ghost use Rattle.number.specs.Number.{isInt32, isInteger, isReal, integerOf, int32Of, realOf, typed, asReal, inArithmetic, inComparison, onReals, realArithmetic, divides, isZero, zeroDivisor, arithmeticOf, bitwiseOf, complementOf, countOf, shiftOf, sidesOf, equalOf, orderOf};
 
 mod bits;
 mod integer;
@@ -250,32 +250,46 @@ pub fn shift(op: Shift, a: Number, b: Number) -> Number
     }
 }
 
-// `==`
-pub fn equal(a: Number, b: Number) -> Truth
-    ensures { λ r. ⌜ r ≡ equalOf a b ⌝ }
+// Two numbers as a comparison takes them.
+enum Sides {
+    Integers(i64, i64),
+    Reals(f64, f64),
+    Neither,
+}
+
+// Two integers as integers, else both as reals.
+fn sides_of(a: Number, b: Number) -> Sides
+    ensures { λ r. ⌜ r ≡ sidesOf a b ⌝ }
 {
     if is_integer(a) & is_integer(b) {
-        return truth::of_bool(integer::equal_i64(integer_of(a), integer_of(b)));
+        return Sides::Integers(integer_of(a), integer_of(b));
     }
     let x = in_comparison(a);
     let y = in_comparison(b);
     if is_real(x) & is_real(y) {
-        return truth::of_bool(real_of(x) == real_of(y));
+        return Sides::Reals(real_of(x), real_of(y));
     }
-    Truth::Bottom
+    Sides::Neither
+}
+
+// `==`
+pub fn equal(a: Number, b: Number) -> Truth
+    ensures { λ r. ⌜ r ≡ equalOf a b ⌝ }
+{
+    match sides_of(a, b) {
+        Sides::Integers(x, y) => truth::of_bool(integer::equal_i64(x, y)),
+        Sides::Reals(x, y) => truth::of_bool(x == y),
+        Sides::Neither => Truth::Bottom,
+    }
 }
 
 // `< <= > >=`
 pub fn order(op: Order, a: Number, b: Number) -> Truth
     ensures { λ r. ⌜ r ≡ orderOf op a b ⌝ }
 {
-    if is_integer(a) & is_integer(b) {
-        return truth::of_bool(integer::order_i64(op, integer_of(a), integer_of(b)));
+    match sides_of(a, b) {
+        Sides::Integers(x, y) => truth::of_bool(integer::order_i64(op, x, y)),
+        Sides::Reals(x, y) => truth::of_bool(real::order_real(op, x, y)),
+        Sides::Neither => Truth::Bottom,
     }
-    let x = in_comparison(a);
-    let y = in_comparison(b);
-    if is_real(x) & is_real(y) {
-        return truth::of_bool(real::order_real(op, real_of(x), real_of(y)));
-    }
-    Truth::Bottom
 }
