@@ -22,7 +22,7 @@ use Rattle.number.specs.declared.operator.Order.the-variants.{Less, Less
 use Rattle.number.specs.Integer.{isNegative, signedOf}
 use Rattle.number.specs.Number.{isInteger, isReal, integerOf, divides, zeroDivisor, asReal, shiftOf, orderReal}
 use Rattle.number.specs.Theorems.{QuotientRemainder, Ends, Complement, LeftNone, RightNone, ZeroDivisor, NegativeZero, LargeBesideReal, NanFalse, ZerosEqual, WholesExact, PowersExact, RealBits, BitsReal, NanBits, BitsBounded}
-use Rattle.number.proofs.Ints.{never}
+use Rattle.number.proofs.Ints.{never, and-no}
 use Rattle.number.proofs.Tens.{powers-hold}
 
 -- by sign and magnitude
@@ -107,8 +107,7 @@ complement w (negsuc n) f =
 
 -- a test that is never met, and one that does not matter
 no : (t : Bool) → (t && false) ≡ false
-no true = refl
-no false = refl
+no t = and-no t false refl
 
 alike : {A : Type 0} (t : Bool) (x : A) → cond t x x ≡ x
 alike true x = refl
