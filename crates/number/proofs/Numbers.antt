@@ -21,9 +21,9 @@ use Rattle.number.specs.declared.Count.{Count}
 use Rattle.number.specs.declared.Count.the-variants.{Places, Outside}
 use Rattle.number.specs.declared.Sides.{Sides}
 use Rattle.number.specs.declared.Sides.the-variants.{Integers, Reals, Neither}
-use Rattle.number.specs.declared.operator.Arithmetic.{Arithmetic}
-use Rattle.number.specs.declared.operator.Bitwise.{Bitwise}
-use Rattle.number.specs.declared.operator.Shift.{Shift}
+use Rattle.opcode.specs.declared.Arithmetic.{Arithmetic}
+use Rattle.opcode.specs.declared.Bitwise.{Bitwise}
+use Rattle.opcode.specs.declared.Shift.{Shift}
 use Rattle.number.proofs.Ints.{never}
 use Rattle.number.proofs.Sums.{R}
 

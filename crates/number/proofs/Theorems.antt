@@ -17,8 +17,8 @@ use borrow.Author.Tests.{lt-leb, le-ltb}
 use Rattle.truth.specs.Truth.{ofBool}
 use Rattle.number.specs.declared.Number.{Number}
 use Rattle.number.specs.declared.Number.the-variants.{Int32, Int64, Real, None}
-use Rattle.number.specs.declared.operator.Order.{Order}
-use Rattle.number.specs.declared.operator.Order.the-variants.{Less, LessEqual, Greater, GreaterEqual}
+use Rattle.opcode.specs.declared.Order.{Order}
+use Rattle.opcode.specs.declared.Order.the-variants.{Less, LessEqual, Greater, GreaterEqual}
 use Rattle.number.specs.Integer.{isNegative, signedOf}
 use Rattle.number.specs.Number.{isInteger, isReal, integerOf, divides, zeroDivisor, asReal, shiftOf, orderReal}
 use Rattle.number.specs.Theorems.{QuotientRemainder, Ends, Complement, LeftNone, RightNone, ZeroDivisor, NegativeZero, LargeBesideReal, NanFalse, ZerosEqual, WholesExact, PowersExact, RealBits, BitsReal, NanBits, BitsBounded}

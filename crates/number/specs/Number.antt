@@ -16,12 +16,12 @@ use Rattle.number.specs.declared.Sides.{Sides}
 use Rattle.number.specs.declared.Sides.the-variants.{Integers, Reals, Neither}
 use Rattle.number.specs.declared.integer.Magnitude.{Magnitude}
 use Rattle.number.specs.declared.integer.Magnitude.the-variants.{Fits, Over}
-use Rattle.number.specs.declared.operator.Arithmetic.{Arithmetic}
-use Rattle.number.specs.declared.operator.Arithmetic.the-variants.{Mul, Div, Rem, Add, Sub}
-use Rattle.number.specs.declared.operator.Bitwise.{Bitwise}
-use Rattle.number.specs.declared.operator.Shift.{Shift}
-use Rattle.number.specs.declared.operator.Order.{Order}
-use Rattle.number.specs.declared.operator.Order.the-variants.{Less, LessEqual, Greater, GreaterEqual}
+use Rattle.opcode.specs.declared.Arithmetic.{Arithmetic}
+use Rattle.opcode.specs.declared.Arithmetic.the-variants.{Mul, Div, Rem, Add, Sub}
+use Rattle.opcode.specs.declared.Bitwise.{Bitwise}
+use Rattle.opcode.specs.declared.Shift.{Shift}
+use Rattle.opcode.specs.declared.Order.{Order}
+use Rattle.opcode.specs.declared.Order.the-variants.{Less, LessEqual, Greater, GreaterEqual}
 use Rattle.number.specs.Integer.{fitsIn, exactOf, equalZ, orderZ}
 use Rattle.number.specs.Bits.{onBits, turned, shifted}
 

@@ -13,11 +13,11 @@ use mir.Val.{SFits}
 use Rattle.truth.specs.declared.Truth.the-variants.{False, Bottom, True}
 use Rattle.number.specs.declared.Number.{Number}
 use Rattle.number.specs.declared.Number.the-variants.{Int32, Int64, Real, None}
-use Rattle.number.specs.declared.operator.Arithmetic.{Arithmetic}
-use Rattle.number.specs.declared.operator.Arithmetic.the-variants.{Div, Rem}
-use Rattle.number.specs.declared.operator.Bitwise.{Bitwise}
-use Rattle.number.specs.declared.operator.Shift.{Shift}
-use Rattle.number.specs.declared.operator.Order.{Order}
+use Rattle.opcode.specs.declared.Arithmetic.{Arithmetic}
+use Rattle.opcode.specs.declared.Arithmetic.the-variants.{Div, Rem}
+use Rattle.opcode.specs.declared.Bitwise.{Bitwise}
+use Rattle.opcode.specs.declared.Shift.{Shift}
+use Rattle.opcode.specs.declared.Order.{Order}
 use Rattle.number.specs.Integer.{isNegative}
 use Rattle.number.specs.Bits.{turned}
 use Rattle.number.specs.Real.{tenTo}

@@ -9,8 +9,8 @@ ghost use mir.Syntax.{w32, w64};
 ghost use Rattle.number.specs.Integer.{isNegative, signedOf, leaves, exactOf, equalZ, orderZ};
 ghost use Rattle.number.specs.Number.{typed, magnitudeOf, divides};
 use crate::Number;
-use crate::operator::Arithmetic;
-use crate::operator::Order;
+use opcode::Arithmetic;
+use opcode::Order;
 
 const LEAST: i64 = -9223372036854775808;
 

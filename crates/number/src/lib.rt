@@ -8,13 +8,12 @@ ghost use Rattle.number.specs.Number.{isInt32, isInteger, isReal, intege
 
 mod bits;
 mod integer;
-mod operator;
 mod real;
 
-pub use operator::Arithmetic;
-pub use operator::Bitwise;
-pub use operator::Order;
-pub use operator::Shift;
+use opcode::Arithmetic;
+use opcode::Bitwise;
+use opcode::Order;
+use opcode::Shift;
 pub use real::bits_of_real;
 pub use real::decimal;
 pub use real::is_nan;
