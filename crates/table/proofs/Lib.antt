@@ -6,3 +6,6 @@ pub mod Laid
 pub mod Passes
 pub mod Passing
 pub mod Answer
+pub mod Encoding
+pub mod Reached
+pub mod Theorems

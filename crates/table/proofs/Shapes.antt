@@ -54,7 +54,7 @@ from-next [] s i h = absurd (not-suc-le-zero h)
 from-next (e ∷ es) s zero h = refl
 from-next (e ∷ es) s (suc i) h = from-next es (after e s) i (le-of-suc-le-suc h)
 
-from-past : (es : List Entry) (s : Option (List Kind)) (i : ℕ) → length es ≤ i → shapeFrom es s (suc i) ≡ none
+pub from-past : (es : List Entry) (s : Option (List Kind)) (i : ℕ) → length es ≤ i → shapeFrom es s (suc i) ≡ none
 unfolding shapeFrom
 from-past [] s i h = refl
 from-past (e ∷ es) s zero h = absurd (not-suc-le-zero h)

@@ -10,7 +10,7 @@ use Rattle.notice.specs.Field.{nameRight}
 use Rattle.opcode.specs.Opcode.{opOf, Kind, logic, value, takesOf, givesOf}
 use Rattle.opcode.specs.declared.Load.{Load}
 use Rattle.opcode.specs.declared.Op.{Op}
-use Rattle.table.specs.Table.{Entry, blank, entriesOf, poolOf, layoutOf}
+use Rattle.table.specs.Table.{Entry, blank, Program, decode, layoutOf}
 
 -- ---- an entry by itself
 
@@ -142,8 +142,11 @@ skipsRight es (suc i) = skipsRight es i && skipRight es i
 abbrev pub endRight : List Entry → Bool
 endRight es = sameShape (shapeAt es (length es)) (some (logic ∷ []))
 
+abbrev pub programRight : Program → Bool
+programRight p = entriesRight (p .pool) (p .entries) && (endRight (p .entries) && skipsRight (p .entries) (length (p .entries)))
+
 unfoldable pub checkOf : List ℕ → Bool
-checkOf s = layoutOf s && (entriesRight (poolOf s) (entriesOf s) && (endRight (entriesOf s) && skipsRight (entriesOf s) (length (entriesOf s))))
+checkOf s = layoutOf s && programRight (decode s)
 
 -- "12 | table fails layout or check"
 abbrev pub refusalOf : Bool → ℕ
