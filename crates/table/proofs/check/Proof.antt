@@ -1,12 +1,8 @@
-use mathlib.Core.Path.{_≡_, sym, ap, _∙_}
-use mathlib.Core.Bool.{true, false, Bool}
-use mathlib.Core.List.{List}
-use Prim.Native.Nat.{ℕ, _<_, _≤_}
+use mathlib.Core.Path.{sym, _∙_}
+use Prim.Native.Nat.{ℕ}
 use native.Mathlib.Omega.{arith}
-use lib.ListN.{length-replicate, getD}
+use lib.ListN.{length-replicate}
 use borrow.Author.Tests.{not-true, not-false}
-use Rattle.table.specs.Table.{countOf, layoutOf}
-use Rattle.table.specs.Number.{Shaped}
 use Rattle.table.proofs.Laid.{laid}
 use Rattle.table.proofs.Answer.{bad-layout, bad-entries, bad-end, by-skips}
 use borrow.Author.Needs.{needs}

@@ -1,5 +1,4 @@
 use Rattle.table.proofs.Tests.{word-range}
-use borrow.Author.Needs.{needs}
 use Rattle.table.proofs.in_range.Statement.{statement}
 use Rattle.table.proofs.in_range.Tie as tie
 use Rattle.table.proofs.in_range.Reads as reads

@@ -1,4 +1,3 @@
-use mathlib.Core.Path.{sym}
 use borrow.Author.Tests.{lt-leb, le-leb}
 use Rattle.table.specs.Table.{layoutOf}
 use borrow.Author.Needs.{needs}

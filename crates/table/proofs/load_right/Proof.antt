@@ -1,4 +1,3 @@
-use mathlib.Core.Path.{_∙_}
 use borrow.Author.Needs.{needs}
 use Rattle.table.proofs.load_right.Statement.{statement}
 use Rattle.table.proofs.load_right.Tie as tie

@@ -1,7 +1,5 @@
-use mathlib.Core.Path.{sym, _∙_}
 use native.Mathlib.Omega.{arith}
 use Rattle.table.proofs.Numbers.{pop-low, pop-other, pop-right}
-use borrow.Author.Needs.{needs}
 use Rattle.table.proofs.pop_one.Statement.{statement}
 use Rattle.table.proofs.pop_one.Tie as tie
 use Rattle.table.proofs.pop_one.Reads as reads
