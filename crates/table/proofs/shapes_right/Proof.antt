@@ -19,30 +19,24 @@ Inv-loop table n shapes₀ strings i₀ shapes i = Passed table shapes i
 abbrev μ-loop : tie.MeasureT-loop
 μ-loop table n shapes₀ strings i₀ shapes i = n - i
 
--- src/lib.rt:264:9
 pool-requires : tie.Need-pool-requires Inv-loop μ-loop
 pool-requires c κs = let l = laid (c .before .args .table .now) (c .before .pre .0) in (l .head, omega arith)
 
--- src/lib.rt:265:5
 element-write-shapes : tie.Need-element-write-shapes Inv-loop μ-loop
 element-write-shapes c = search needs
 
--- src/lib.rt:267:5
 loop-holds : tie.Need-loop-holds Inv-loop μ-loop
 loop-holds c =
     let s = c .before .before .args .table .now in
     pass-start s (c .before .before .args .shapes .now) (c .before .before .pre .2) (laid s (c .before .before .pre .0) .few)
 
--- src/lib.rt:268:13
 entry-at-requires : tie.Need-entry-at-requires Inv-loop μ-loop
 entry-at-requires c κs =
     inside (c .before .before .before .before .args .table .now) (c .before .before .before .before .pre .0) (c .before .loop .i) (omega (arith, c .before .before .before .before .pre .1))
 
--- src/lib.rt:269:13
 entry-right-requires : tie.Need-entry-right-requires Inv-loop μ-loop
 entry-right-requires c κs = search needs
 
--- src/lib.rt:270:13
 returns : tie.Need-returns Inv-loop μ-loop
 returns c =
     let l = c .before .before .before .before .loop in
@@ -50,19 +44,15 @@ returns c =
     pass-wrong (c .before .before .before .before .before .before .before .args .table .now) (l .shapes) (l .i) (l .inv) (omega (arith, c .before .before .before .before .before .before .before .pre .1)) (e .result) (e .ensures)
     _ _ (c .before .before .before .before .before .pool .ensures) (c .before .entry-right .ensures) (not-true _ (c .if1 .taken))
 
--- src/lib.rt:272:25
 mul-flow : tie.Need-mul-flow Inv-loop μ-loop
 mul-flow c = search needs
 
--- src/lib.rt:272:25
 element-copy-out-flow : tie.Need-element-copy-out-flow Inv-loop μ-loop
 element-copy-out-flow c = search needs
 
--- src/lib.rt:272:13
 flow-requires : tie.Need-flow-requires Inv-loop μ-loop
 flow-requires c κs = search needs
 
--- src/lib.rt:274:13
 returns-2 : tie.Need-returns-2 Inv-loop μ-loop
 returns-2 c =
     let l = c .before .before .before .before .before .before .before .loop in
@@ -70,23 +60,18 @@ returns-2 c =
     let f = c .before .flow in
     pass-stuck (c .before .before .before .before .before .before .before .before .before .before .args .table .now) (l .shapes) (l .i) (l .inv) (omega (arith, c .before .before .before .before .before .before .before .before .before .before .pre .1)) (e .result) (e .ensures) (f .result) (f .ensures) (c .if2 .taken)
 
--- src/lib.rt:276:9
 add-i : tie.Need-add-i Inv-loop μ-loop
 add-i c = search needs
 
--- src/lib.rt:277:9
 mul-shapes : tie.Need-mul-shapes Inv-loop μ-loop
 mul-shapes c = search needs
 
--- src/lib.rt:277:9
 element-write-shapes-2 : tie.Need-element-write-shapes-2 Inv-loop μ-loop
 element-write-shapes-2 c = search needs
 
--- src/lib.rt:267:5
 loop-less : tie.Need-loop-less Inv-loop μ-loop
 loop-less c = search needs
 
--- src/lib.rt:267:5
 loop-again : tie.Need-loop-again Inv-loop μ-loop
 loop-again c =
     let l = c .before .before .before .before .before .before .before .loop in
@@ -95,7 +80,6 @@ loop-again c =
     pass-more (c .before .before .before .before .before .before .before .before .before .before .args .table .now) (l .shapes) (l .i) (l .inv) (omega (arith, c .before .before .before .before .before .before .before .before .before .before .pre .1)) (e .result) (e .ensures) (f .result) (f .ensures)
     _ _ (c .before .before .before .before .before .before .before .before .pool .ensures) (c .before .before .before .before .entry-right .ensures) (not-false _ (c .before .before .before .if1 .left)) (c .if2 .left)
 
--- src/lib.rt:260:1
 returns-3 : tie.Need-returns-3 Inv-loop μ-loop
 returns-3 c =
     pass-end (c .before .before .before .before .args .table .now) (c .before .loop .shapes) (c .before .loop .i) (c .before .loop .inv) (omega (arith, c .before .before .before .before .pre .1))
