@@ -1,0 +1,9 @@
+pub mod Nans
+pub mod Table
+pub mod Tens
+pub mod Literals
+pub mod Ints
+pub mod Sums
+pub mod Products
+pub mod Quotients
+pub mod Theorems
