@@ -1,0 +1,2 @@
+// Tokens.
+mod byte;
