@@ -1,2 +1,3 @@
 // Tokens.
 mod byte;
+mod run;

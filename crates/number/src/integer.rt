@@ -8,9 +8,9 @@ ghost use lib.Signed.{quotZ, remZ};
 ghost use mir.Syntax.{w32, w64};
 ghost use Rattle.number.specs.Integer.{isNegative, signedOf, leaves, exactOf, orderZ};
 ghost use Rattle.number.specs.Number.{typed, magnitudeOf, divides};
-
 use crate::Number;
-use crate::operator::{Arithmetic, Order};
+use crate::operator::Arithmetic;
+use crate::operator::Order;
 
 const LEAST: i64 = -9223372036854775808;
 

@@ -3,8 +3,14 @@ mod integer;
 mod operator;
 mod real;
 
-pub use operator::{Arithmetic, Bitwise, Order, Shift};
-pub use real::{bits_of_real, decimal, is_nan, real_of_bits};
+pub use operator::Arithmetic;
+pub use operator::Bitwise;
+pub use operator::Order;
+pub use operator::Shift;
+pub use real::bits_of_real;
+pub use real::decimal;
+pub use real::is_nan;
+pub use real::real_of_bits;
 
 // `None` is no number: bottom.
 pub enum Number {
