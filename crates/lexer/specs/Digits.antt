@@ -1,6 +1,6 @@
 -- Digits, and the sign before them. Document 01, "Tokens", "Integers" and "Reals".
 -- A run is what stands up to whitespace, end, `(`, `)` or `,`. It is read as a whole: so "A number must be followed by" one of them is part of the form.
-use Prim.Native.Nat.{ℕ, _+_, _*_}
+use Prim.Native.Nat.{ℕ, _+_, _*_, min}
 use mathlib.Core.Bool.{Bool, cond}
 use mathlib.Core.List.{List, [], _∷_}
 use lib.Dec.{eqb}
@@ -26,3 +26,7 @@ wholeFrom base v (b ∷ s) = wholeFrom base (v * base + digitOf b) s
 
 abbrev pub wholeOf : ℕ → List ℕ → ℕ
 wholeOf base digits = wholeFrom base 0 digits
+
+-- Inside the code: a whole number past 2 ^ 63, which no literal has, counts as 2 ^ 63 + 1.
+abbrev pub capped : ℕ → ℕ
+capped v = min v 9223372036854775809

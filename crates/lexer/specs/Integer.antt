@@ -4,7 +4,7 @@ use mathlib.Core.Bool.{Bool, not, cond, _&&_, _||_}
 use mathlib.Core.List.{List}
 use lib.Dec.{eqb}
 use lib.ListN.{length, getD, drop}
-use lib.IntN.{ℤ}
+use lib.IntN.{ℤ, pos}
 use mir.Syntax.{Width, w32, w64}
 use Rattle.number.specs.Integer.{fitsIn, signedOf}
 use Rattle.lexer.specs.Run.{isEmpty}
@@ -31,8 +31,9 @@ suffixAt run = prefixLength run + length (integerDigits run)
 abbrev pub isLong : List ℕ → Bool
 isLong run = eqb (getD run (suffixAt run) 0) 108 || eqb (getD run (suffixAt run) 0) 76
 
+-- digits, and nothing after them but the suffix
 abbrev pub isInteger : List ℕ → Bool
-isInteger run = not (isEmpty (integerDigits run)) && eqb (suffixAt run + cond (isLong run) 1 0) (length run)
+isInteger run = not (isEmpty (integerDigits run)) && eqb (length (drop (suffixAt run) run)) (cond (isLong run) 1 0)
 
 abbrev pub integerOf : List ℕ → ℤ
 integerOf run = signedOf (isMinus run) (wholeOf (baseOf run) (integerDigits run))
@@ -43,3 +44,7 @@ widthOf run = cond (isLong run) w64 w32
 
 abbrev pub integerFits : List ℕ → Bool
 integerFits run = fitsIn (widthOf run) (integerOf run)
+
+-- an integer where 64 bits hold it, else 0
+abbrev pub held : ℤ → ℤ
+held z = cond (fitsIn w64 z) z (pos 0)

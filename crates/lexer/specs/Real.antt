@@ -39,7 +39,7 @@ abbrev pub isExponent : List ℕ → Bool
 isExponent part =
     (eqb (getD part 0 0) 101 || eqb (getD part 0 0) 69)
     && not (isEmpty (exponentDigits part))
-    && eqb (digitsStart part + length (exponentDigits part)) (length part)
+    && isEmpty (drop (digitsStart part + length (exponentDigits part)) part)
 
 abbrev pub isReal : List ℕ → Bool
 isReal run =

@@ -4,14 +4,12 @@ use mathlib.Core.Bool.{Bool, true, false, not, cond}
 use mathlib.Core.List.{List, [], _∷_}
 use lib.Dec.{eqb, ltb}
 use lib.ListN.{length, getD, drop}
-use lib.IntN.{ℤ, pos}
+use lib.IntN.{ℤ}
 use lib.Ieee.{Float, nan}
-use mir.Syntax.{w64}
-use Rattle.number.specs.Integer.{fitsIn}
 use Rattle.number.specs.Real.{pickReal}
 use Rattle.lexer.specs.Byte.{isSpace, isQuote, startsName, startsNumber}
 use Rattle.lexer.specs.Run.{runOf, unescaped, hasEscape, legalName, nameFits, bodyOf, isClosed}
-use Rattle.lexer.specs.Integer.{isLong, isInteger, integerOf, integerFits}
+use Rattle.lexer.specs.Integer.{isLong, isInteger, integerOf, integerFits, held}
 use Rattle.lexer.specs.Real.{isReal, realFits, realOf}
 use Rattle.lexer.specs.Symbol.{symbolOf, symbolLength}
 
@@ -125,7 +123,7 @@ stringAt s at = unescaped false (bodyOf (drop at s))
 
 -- 0 where 64 bits do not hold the integer, and no number where a real is outside its limits: those are no tokens
 abbrev pub integerAt : List ℕ → ℕ → ℤ
-integerAt s at = let z = integerOf (runOf 0 (drop at s)) in cond (fitsIn w64 z) z (pos 0)
+integerAt s at = held (integerOf (runOf 0 (drop at s)))
 
 abbrev pub longAt : List ℕ → ℕ → Bool
 longAt s at = isLong (runOf 0 (drop at s))

@@ -1,3 +1,5 @@
 // Tokens.
 mod byte;
+mod digits;
+mod integer;
 mod run;
