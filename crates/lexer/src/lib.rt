@@ -2,4 +2,5 @@
 mod byte;
 mod digits;
 mod integer;
+mod real;
 mod run;
