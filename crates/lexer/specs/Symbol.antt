@@ -6,7 +6,7 @@ use lib.Dec.{eqb}
 
 -- `>>>`
 abbrev pub threeBytes : ℕ → ℕ → ℕ → ℕ
-threeBytes a b c = cond (eqb a 62 && (eqb b 62 && eqb c 62)) 18 0
+threeBytes a b c = cond (eqb a 62 && eqb b 62 && eqb c 62) 18 0
 
 -- a byte and `=`: `== != <= >=`
 abbrev pub withEqual : ℕ → ℕ

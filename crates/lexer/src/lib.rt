@@ -4,3 +4,4 @@ mod digits;
 mod integer;
 mod real;
 mod run;
+mod symbol;
