@@ -1,6 +1,6 @@
 -- The bytes of a name, of a number and of a string, with the escapes in them. Document 01, "Tokens".
 -- The Bool of a definition says whether a backslash before takes the first byte.
-use Prim.Native.Nat.{ℕ, zero, suc}
+use Prim.Native.Nat.{ℕ, zero, suc, _+_}
 use mathlib.Core.Bool.{Bool, true, false, not, cond, _&&_, _||_}
 use mathlib.Core.List.{List, [], _∷_}
 use lib.Dec.{eqb, leb}
@@ -55,4 +55,4 @@ abbrev pub isEmpty : List ℕ → Bool
 isEmpty s = eqb (length s) 0
 
 abbrev pub isClosed : List ℕ → Bool
-isClosed s = not (isEmpty (drop (suc (length (bodyOf s))) s))
+isClosed s = not (isEmpty (drop (length (bodyOf s) + 1) s))

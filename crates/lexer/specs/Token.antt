@@ -1,7 +1,7 @@
 -- Tokens, and the tokens of a text. Document 01, "Tokens", and "Refusals by number", 10, 1 and 3.
 use Prim.Native.Nat.{ℕ, zero, suc, _+_, _-_}
 use mathlib.Core.Bool.{Bool, true, false, not, cond}
-use mathlib.Core.List.{List, [], _∷_}
+use mathlib.Core.List.{List, [], _∷_, map}
 use lib.Dec.{eqb, ltb}
 use lib.ListN.{length, getD, drop}
 use lib.IntN.{ℤ}
@@ -110,6 +110,17 @@ tokensFrom zero at (b ∷ s) =
 -- "10: text over 4,096 bytes", before all else
 unfoldable pub tokensOf : List ℕ → Lexed
 tokensOf s = pick (ltb 4096 (length s)) (λ _. refused 10 0 []) (λ _. tokensFrom 0 0 s)
+
+-- the tokens that were found, and their kinds and starts as numbers
+abbrev pub found : Lexed → List Placed
+found (tokens ps) = ps
+found (refused k at ps) = ps
+
+abbrev pub kindsOf : Lexed → List ℕ
+kindsOf l = map (λ p. kindOf (p .token)) (found l)
+
+abbrev pub startsOf : Lexed → List ℕ
+startsOf l = map (λ p. p .start) (found l)
 
 -- The value of a token by its start in a text.
 abbrev pub nameAt : List ℕ → ℕ → List ℕ

@@ -1,7 +1,138 @@
-// Tokens.
+// Tokens. Document 01, "Tokens", and "Refusals by number", 10, 1 and 3.
+ghost use mathlib.Core.Path.{_≡_};
+ghost use lib.ListN.{length, drop};
+ghost use lib.Seq.{sets};
+ghost use Rattle.lexer.specs.Token.{scanName, scanNumber, scanString, scanSymbol, scanOf, tokensOf, kindsOf, startsOf};
+ghost use Rattle.lexer.specs.Answer.{lexingOf, scannedOf};
+
 mod byte;
 mod digits;
 mod integer;
 mod real;
 mod run;
 mod symbol;
+
+use byte::{is_quote, is_space, starts_name, starts_number};
+use integer::{integer_fits, is_integer, is_long};
+use real::{is_real, real_fits};
+use run::{byte_at, legal_name, rest, run, unescaped_length};
+use symbol::{symbol, symbol_length};
+
+// What stands first: a token's kind number and how many bytes it takes; or the number by which it is refused.
+pub enum Scanned {
+    Good(u8, usize),
+    Bad(u8),
+}
+
+fn scan_name(s: &[u8]) -> Scanned
+    ensures { λ r. ⌜ r ≡ scannedOf (scanName (now (s .entry))) ⌝ }
+{
+    let bytes = run(s, 0, 0);
+    if !legal_name(bytes) {
+        return Scanned::Bad(1);
+    }
+    let n = unescaped_length(bytes);
+    if (1 <= n) & (n <= 64) {
+        return Scanned::Good(5, bytes.len());
+    }
+    Scanned::Bad(3)
+}
+
+fn scan_number(s: &[u8]) -> Scanned
+    ensures { λ r. ⌜ r ≡ scannedOf (scanNumber (now (s .entry))) ⌝ }
+{
+    let bytes = run(s, 0, 0);
+    if is_real(bytes) {
+        if real_fits(bytes) {
+            return Scanned::Good(3, bytes.len());
+        }
+        return Scanned::Bad(3);
+    }
+    if !is_integer(bytes) {
+        return Scanned::Bad(1);
+    }
+    if !integer_fits(bytes) {
+        return Scanned::Bad(3);
+    }
+    if is_long(bytes) {
+        return Scanned::Good(2, bytes.len());
+    }
+    Scanned::Good(1, bytes.len())
+}
+
+fn scan_string(s: &[u8]) -> Scanned
+    ensures { λ r. ⌜ r ≡ scannedOf (scanString (now (s .entry))) ⌝ }
+{
+    let body = run(s, 1, byte_at(s, 0));
+    let n = body.len();
+    let after = rest(s, n + 1);
+    if after.len() == 0 {
+        return Scanned::Bad(1);
+    }
+    Scanned::Good(4, n + 2)
+}
+
+fn scan_symbol(s: &[u8]) -> Scanned
+    ensures { λ r. ⌜ r ≡ scannedOf (scanSymbol (now (s .entry))) ⌝ }
+{
+    let a = byte_at(s, 0);
+    let b = byte_at(s, 1);
+    let c = byte_at(s, 2);
+    let kind = symbol(a, b, c);
+    if kind == 0 {
+        return Scanned::Bad(1);
+    }
+    Scanned::Good(kind, symbol_length(a, b, c))
+}
+
+// By the first byte, and the second after a `-`.
+fn scan(s: &[u8]) -> Scanned
+    ensures { λ r. ⌜ r ≡ scannedOf (scanOf (now (s .entry))) ⌝ }
+{
+    let a = byte_at(s, 0);
+    if starts_name(a) {
+        return scan_name(s);
+    }
+    if starts_number(a, byte_at(s, 1)) {
+        return scan_number(s);
+    }
+    if is_quote(a) {
+        return scan_string(s);
+    }
+    scan_symbol(s)
+}
+
+// How many tokens there are; or the number of a refusal and its place.
+pub enum Lexing {
+    Tokens(usize),
+    Refused(u8, usize),
+}
+
+// The tokens' kind numbers and starts go to the front of the lent arrays, as far as the tokens are legal; the arrays' other elements stay.
+pub fn lex(text: &[u8], kinds: &mut [u8; 4096], starts: &mut [u16; 4096]) -> Lexing
+    ensures { λ r. ⌜ r ≡ lexingOf (tokensOf (now (text .entry))) ⌝ }
+    ensures { λ _. ⌜ now (kinds .exit) ≡ sets (now (kinds .entry)) 0 (kindsOf (tokensOf (now (text .entry)))) ⌝ }
+    ensures { λ _. ⌜ now (starts .exit) ≡ sets (now (starts .entry)) 0 (startsOf (tokensOf (now (text .entry)))) ⌝ }
+{
+    if 4096 < text.len() {
+        return Lexing::Refused(10, 0);
+    }
+    let mut n = 0;
+    let mut at = 0;
+    while at < text.len() {
+        if is_space(text[at]) {
+            at += 1;
+            continue;
+        }
+        match scan(rest(text, at)) {
+            Scanned::Good(kind, length) => {
+                kinds[n] = kind;
+                starts[n] = at as u16;
+                n += 1;
+                at += length;
+            }
+            Scanned::Bad(number) => return Lexing::Refused(number, at),
+        }
+    }
+    Lexing::Tokens(n)
+}
