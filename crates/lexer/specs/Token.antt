@@ -91,13 +91,13 @@ pub data Lexed : Type 0 where
   tokens : List Placed → Lexed
   refused : ℕ → ℕ → List Placed → Lexed
 
-abbrev pub with : Placed → Lexed → Lexed
-with p (tokens ps) = tokens (p ∷ ps)
-with p (refused k at ps) = refused k at (p ∷ ps)
+abbrev pub prepend : Placed → Lexed → Lexed
+prepend p (tokens ps) = tokens (p ∷ ps)
+prepend p (refused k at ps) = refused k at (p ∷ ps)
 
 -- a token with its start and what comes after its length, or "Place: for 1 and 3 the token's start"
 abbrev pub placed : ℕ → Scan → (ℕ → Lexed) → Lexed
-placed at (good t n) more = with (record { token = t; start = at }) (more n)
+placed at (good t n) more = prepend (record { token = t; start = at }) (more n)
 placed at (bad k) more = refused k at []
 
 -- The tokens of s, which starts at a place of the text; the first `inside` bytes belong to the token before.

@@ -12,11 +12,22 @@ mod real;
 mod run;
 mod symbol;
 
-use byte::{is_quote, is_space, starts_name, starts_number};
-use integer::{integer_fits, is_integer, is_long};
-use real::{is_real, real_fits};
-use run::{byte_at, legal_name, rest, run, unescaped_length};
-use symbol::{symbol, symbol_length};
+use byte::is_quote;
+use byte::is_space;
+use byte::starts_name;
+use byte::starts_number;
+use integer::integer_fits;
+use integer::is_integer;
+use integer::is_long;
+use real::is_real;
+use real::real_fits;
+use run::byte_at;
+use run::legal_name;
+use run::rest;
+use run::run;
+use run::unescaped_length;
+use symbol::symbol;
+use symbol::symbol_length;
 
 // What stands first: a token's kind number and how many bytes it takes; or the number by which it is refused.
 pub enum Scanned {

@@ -1,3 +1,6 @@
+use mathlib.Core.Path.{_∙_, sym, ap}
+use Rattle.lexer.specs.Answer.{scannedOf}
+use Rattle.lexer.proofs.Scans.{is-name, is-number, is-string, is-symbol}
 use borrow.Author.Needs.{needs}
 use Rattle.lexer.proofs.scan.Statement.{statement}
 use Rattle.lexer.proofs.scan.Tie as tie
@@ -26,7 +29,9 @@ scan-name-requires c κs = search needs
 
 -- src/lib.rt:94:9
 returns : tie.Need-returns
-returns c = ?
+returns c =
+    let e = rw (c .before .before .before .byte-at .ensures) at (c .before .before .starts-name .ensures) in
+    c .scan-name .ensures ∙ ap scannedOf (sym (is-name (c .before .before .before .before .before .args .s .now) (sym e ∙ c .before .if1 .taken)))
 
 -- src/lib.rt:96:25
 byte-at-requires-2 : tie.Need-byte-at-requires-2
@@ -42,7 +47,10 @@ scan-number-requires c κs = search needs
 
 -- src/lib.rt:97:9
 returns-2 : tie.Need-returns-2
-returns-2 c = ?
+returns-2 c =
+    let e = rw (c .before .before .before .before .before .before .byte-at .ensures) at (c .before .before .before .before .before .starts-name .ensures) in
+    let f = rw (c .before .before .before .before .before .before .byte-at .ensures, c .before .before .before .byte-at2 .ensures) at (c .before .before .starts-number .ensures) in
+    c .scan-number .ensures ∙ ap scannedOf (sym (is-number (c .before .before .before .before .before .before .before .before .args .s .now) (sym e ∙ c .before .before .before .before .if1 .left) (sym f ∙ c .before .if2 .taken)))
 
 -- src/lib.rt:99:8
 is-quote-requires : tie.Need-is-quote-requires
@@ -54,7 +62,11 @@ scan-string-requires c κs = search needs
 
 -- src/lib.rt:100:9
 returns-3 : tie.Need-returns-3
-returns-3 c = ?
+returns-3 c =
+    let e = rw (c .before .before .before .before .before .before .before .before .byte-at .ensures) at (c .before .before .before .before .before .before .before .starts-name .ensures) in
+    let f = rw (c .before .before .before .before .before .before .before .before .byte-at .ensures, c .before .before .before .before .before .byte-at2 .ensures) at (c .before .before .before .before .starts-number .ensures) in
+    let g = rw (c .before .before .before .before .before .before .before .before .byte-at .ensures) at (c .before .before .is-quote .ensures) in
+    c .scan-string .ensures ∙ ap scannedOf (sym (is-string (c .before .before .before .before .before .before .before .before .before .before .args .s .now) (sym e ∙ c .before .before .before .before .before .before .if1 .left) (sym f ∙ c .before .before .before .if2 .left) (sym g ∙ c .before .if3 .taken)))
 
 -- src/lib.rt:102:5
 scan-symbol-requires : tie.Need-scan-symbol-requires
@@ -62,7 +74,11 @@ scan-symbol-requires c κs = search needs
 
 -- src/lib.rt:89:1
 returns-4 : tie.Need-returns-4
-returns-4 c = ?
+returns-4 c =
+    let e = rw (c .before .before .before .before .before .before .before .before .byte-at .ensures) at (c .before .before .before .before .before .before .before .starts-name .ensures) in
+    let f = rw (c .before .before .before .before .before .before .before .before .byte-at .ensures, c .before .before .before .before .before .byte-at2 .ensures) at (c .before .before .before .before .starts-number .ensures) in
+    let g = rw (c .before .before .before .before .before .before .before .before .byte-at .ensures) at (c .before .before .is-quote .ensures) in
+    c .scan-symbol .ensures ∙ ap scannedOf (sym (is-symbol (c .before .before .before .before .before .before .before .before .before .before .args .s .now) (sym e ∙ c .before .before .before .before .before .before .if1 .left) (sym f ∙ c .before .before .before .if2 .left) (sym g ∙ c .before .if3 .left)))
 
 pub scan-spec : {M : Type 1} → statement M
 scan-spec =

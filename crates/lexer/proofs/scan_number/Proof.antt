@@ -1,3 +1,8 @@
+use mathlib.Core.Path.{_∙_, sym, ap}
+use borrow.Author.Tests.{not-true, not-false}
+use Rattle.lexer.specs.Token.{scanRun}
+use Rattle.lexer.specs.Answer.{scannedOf}
+use Rattle.lexer.proofs.Scans.{real-over, real-legal, integer-illegal, integer-over, long-legal, short-legal}
 use borrow.Author.Needs.{needs}
 use Rattle.lexer.proofs.scan_number.Statement.{statement}
 use Rattle.lexer.proofs.scan_number.Tie as tie
@@ -24,11 +29,17 @@ real-fits-requires c κs = search needs
 
 -- src/lib.rt:47:13
 returns : tie.Need-returns
-returns c = ?
+returns c =
+    let r = c .before .before .before .before .run .result .now in
+    real-legal r (sym (c .before .before .before .is-real .ensures) ∙ c .before .before .if1 .taken) (sym (c .before .real-fits .ensures) ∙ c .if2 .taken)
+    ∙ ap (λ l. scannedOf (scanRun l)) (c .before .before .before .before .run .ensures)
 
 -- src/lib.rt:49:9
 returns-2 : tie.Need-returns-2
-returns-2 c = ?
+returns-2 c =
+    let r = c .before .before .before .before .run .result .now in
+    real-over r (sym (c .before .before .before .is-real .ensures) ∙ c .before .before .if1 .taken) (sym (c .before .real-fits .ensures) ∙ c .if2 .left)
+    ∙ ap (λ l. scannedOf (scanRun l)) (c .before .before .before .before .run .ensures)
 
 -- src/lib.rt:51:9
 is-integer-requires : tie.Need-is-integer-requires
@@ -36,7 +47,10 @@ is-integer-requires c κs = search needs
 
 -- src/lib.rt:52:9
 returns-3 : tie.Need-returns-3
-returns-3 c = ?
+returns-3 c =
+    let r = c .before .before .before .before .run .result .now in
+    integer-illegal r (sym (c .before .before .before .is-real .ensures) ∙ c .before .before .if1 .left) (sym (c .before .is-integer .ensures) ∙ not-true _ (c .if3 .taken))
+    ∙ ap (λ l. scannedOf (scanRun l)) (c .before .before .before .before .run .ensures)
 
 -- src/lib.rt:54:9
 integer-fits-requires : tie.Need-integer-fits-requires
@@ -44,7 +58,11 @@ integer-fits-requires c κs = search needs
 
 -- src/lib.rt:55:9
 returns-4 : tie.Need-returns-4
-returns-4 c = ?
+returns-4 c =
+    let r = c .before .before .before .before .before .before .run .result .now in
+    integer-over r (sym (c .before .before .before .before .before .is-real .ensures) ∙ c .before .before .before .before .if1 .left) (sym (c .before .before .before .is-integer .ensures) ∙ not-false _ (c .before .before .if3 .left))
+    (sym (c .before .integer-fits .ensures) ∙ not-true _ (c .if4 .taken))
+    ∙ ap (λ l. scannedOf (scanRun l)) (c .before .before .before .before .before .before .run .ensures)
 
 -- src/lib.rt:57:8
 is-long-requires : tie.Need-is-long-requires
@@ -52,11 +70,19 @@ is-long-requires c κs = search needs
 
 -- src/lib.rt:58:9
 returns-5 : tie.Need-returns-5
-returns-5 c = ?
+returns-5 c =
+    let r = c .before .before .before .before .before .before .before .before .run .result .now in
+    long-legal r (sym (c .before .before .before .before .before .before .before .is-real .ensures) ∙ c .before .before .before .before .before .before .if1 .left) (sym (c .before .before .before .before .before .is-integer .ensures) ∙ not-false _ (c .before .before .before .before .if3 .left))
+    (sym (c .before .before .before .integer-fits .ensures) ∙ not-false _ (c .before .before .if4 .left)) (sym (c .before .is-long .ensures) ∙ c .if5 .taken)
+    ∙ ap (λ l. scannedOf (scanRun l)) (c .before .before .before .before .before .before .before .before .run .ensures)
 
 -- src/lib.rt:41:1
 returns-6 : tie.Need-returns-6
-returns-6 c = ?
+returns-6 c =
+    let r = c .before .before .before .before .before .before .before .before .run .result .now in
+    short-legal r (sym (c .before .before .before .before .before .before .before .is-real .ensures) ∙ c .before .before .before .before .before .before .if1 .left) (sym (c .before .before .before .before .before .is-integer .ensures) ∙ not-false _ (c .before .before .before .before .if3 .left))
+    (sym (c .before .before .before .integer-fits .ensures) ∙ not-false _ (c .before .before .if4 .left)) (sym (c .before .is-long .ensures) ∙ c .if5 .left)
+    ∙ ap (λ l. scannedOf (scanRun l)) (c .before .before .before .before .before .before .before .before .run .ensures)
 
 pub scan-number-spec : {M : Type 1} → statement M
 scan-number-spec =

@@ -1,3 +1,5 @@
+use mathlib.Core.Path.{_∙_, sym, ap}
+use Rattle.lexer.proofs.Scans.{string-open, string-legal}
 use borrow.Author.Needs.{needs}
 use Rattle.lexer.proofs.scan_string.Statement.{statement}
 use Rattle.lexer.proofs.scan_string.Tie as tie
@@ -25,7 +27,10 @@ rest-requires c κs = search needs
 
 -- src/lib.rt:70:9
 returns : tie.Need-returns
-returns c = ?
+returns c =
+    let b = rw (c .before .before .before .byte-at .ensures) at (c .before .before .run .ensures) in
+    let e = rw (c .before .rest .ensures, b) at (c .if1 .taken) in
+    string-open (c .before .before .before .before .before .args .s .now) e
 
 -- src/lib.rt:72:22
 add-t6 : tie.Need-add-t6
@@ -33,7 +38,10 @@ add-t6 c = search needs
 
 -- src/lib.rt:63:1
 returns-2 : tie.Need-returns-2
-returns-2 c = ?
+returns-2 c =
+    let b = rw (c .before .before .before .byte-at .ensures) at (c .before .before .run .ensures) in
+    let e = rw (c .before .rest .ensures, b) at (c .if1 .left) in
+    rw b (string-legal (c .before .before .before .before .before .args .s .now) e)
 
 pub scan-string-spec : {M : Type 1} → statement M
 scan-string-spec =

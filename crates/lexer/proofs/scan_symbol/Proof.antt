@@ -1,3 +1,6 @@
+use mathlib.Core.Path.{_∙_, sym, ap}
+use lib.ListN.{getD}
+use Rattle.lexer.proofs.Scans.{symbol-none, symbol-legal}
 use borrow.Author.Needs.{needs}
 use Rattle.lexer.proofs.scan_symbol.Statement.{statement}
 use Rattle.lexer.proofs.scan_symbol.Tie as tie
@@ -25,7 +28,10 @@ symbol-requires c κs = search needs
 
 -- src/lib.rt:83:9
 returns : tie.Need-returns
-returns c = ?
+returns c =
+    let s = c .before .before .before .before .before .before .args .s .now in
+    let e = rw (c .before .before .before .before .byte-at .ensures, c .before .before .before .byte-at2 .ensures, c .before .before .byte-at3 .ensures) at (c .before .symbol .ensures) in
+    symbol-none (getD s 0 0) (getD s 1 0) (getD s 2 0) (sym e ∙ c .if1 .taken)
 
 -- src/lib.rt:85:25
 symbol-length-requires : tie.Need-symbol-length-requires
@@ -33,7 +39,11 @@ symbol-length-requires c κs = search needs
 
 -- src/lib.rt:75:1
 returns-2 : tie.Need-returns-2
-returns-2 c = ?
+returns-2 c =
+    let s = c .before .before .before .before .before .before .before .args .s .now in
+    let e = rw (c .before .before .before .before .before .byte-at .ensures, c .before .before .before .before .byte-at2 .ensures, c .before .before .before .byte-at3 .ensures) at (c .before .before .symbol .ensures) in
+    let f = rw (c .before .before .before .before .before .byte-at .ensures, c .before .before .before .before .byte-at2 .ensures, c .before .before .before .byte-at3 .ensures) at (c .symbol-length .ensures) in
+    rw (e, f) (symbol-legal (getD s 0 0) (getD s 1 0) (getD s 2 0) (λ z. c .before .if1 .left (e ∙ z)))
 
 pub scan-symbol-spec : {M : Type 1} → statement M
 scan-symbol-spec =
