@@ -9,6 +9,8 @@ use lib.Dec.{eqb}
 use lib.ListN.{length, getD, take, drop, set, drop-of-length-le, length-drop, length-append, List·getD-eq-default}
 use lib.Seq.{drop-cons, sets, take-all, take-append-seam, drop-length}
 use borrow.Author.Tests.{eq-eqb, ne-eqb}
+use Rattle.octets.specs.Octets.{folded, sameOf}
+use Rattle.octets.proofs.Theorems.{true-false, not-folded}
 use Rattle.lexer.specs.Run.{takes, ends, runFrom, runOf, unescaped, hasEscape, legalByte, legalName}
 
 -- a place past the end
@@ -97,3 +99,23 @@ run-first q t (b ∷ s) = go (run-first q (takes t b) s) (not t && ends q b) ref
     go : First (runFrom q (takes t b) s) s → (e : Bool) → (not t && ends q b) ≡ e → First (runFrom q t (b ∷ s)) (b ∷ s)
     go ih true e = rw e
     go ih false e = rw e (ap (λ (l : List ℕ). b ∷ l) ih)
+
+-- what has no escape stays as it is, and is a word where it is the same
+pub no-escapes : (s : List ℕ) → hasEscape s ≡ false → unescaped false s ≡ s
+no-escapes [] e = refl
+no-escapes (b ∷ s) e = go (no-escapes s) (eqb b 92) refl
+  where
+    go : (hasEscape s ≡ false → unescaped false s ≡ s) → (x : Bool) → eqb b 92 ≡ x → unescaped false (b ∷ s) ≡ b ∷ s
+    go ih true f = true-false (rw f at e)
+    go ih false f = let g = rw f at e in rw f (ap (λ (l : List ℕ). b ∷ l) (ih g))
+
+pub word-escaped : (run word : List ℕ) → hasEscape run ≡ true → false ≡ (not (hasEscape run) && sameOf (unescaped false run) word)
+word-escaped run word e = rw e
+
+pub word-same : (run word : List ℕ) → hasEscape run ≡ false
+    → sameOf (folded false run) (folded false word) ≡ (not (hasEscape run) && sameOf (unescaped false run) word)
+word-same run word e =
+    let u = no-escapes run e in
+    let a = not-folded run in
+    let b = not-folded word in
+    rw (e, u, a, b)

@@ -1,11 +1,12 @@
 -- Tokens, and the tokens of a text. Document 01, "Tokens", and "Refusals by number", 10, 1 and 3.
 use Prim.Native.Nat.{ℕ, zero, suc, _+_, _-_}
-use mathlib.Core.Bool.{Bool, true, false, not, cond}
+use mathlib.Core.Bool.{Bool, true, false, not, cond, _&&_}
 use mathlib.Core.List.{List, [], _∷_, map}
 use lib.Dec.{eqb, ltb}
 use lib.ListN.{length, getD, drop}
 use lib.IntN.{ℤ}
 use lib.Ieee.{Float, nan}
+use Rattle.octets.specs.Octets.{sameOf}
 use Rattle.number.specs.Real.{pickReal}
 use Rattle.lexer.specs.Byte.{isSpace, isQuote, startsName, startsNumber}
 use Rattle.lexer.specs.Run.{runOf, unescaped, hasEscape, legalName, nameFits, bodyOf, isClosed}
@@ -128,6 +129,10 @@ nameAt s at = unescaped false (runOf 0 (drop at s))
 
 abbrev pub escapedAt : List ℕ → ℕ → Bool
 escapedAt s at = hasEscape (runOf 0 (drop at s))
+
+-- whether a name is a word, with no escape: "Function names take no escapes"
+abbrev pub nameIs : List ℕ → ℕ → List ℕ → Bool
+nameIs s at word = not (escapedAt s at) && sameOf (nameAt s at) word
 
 abbrev pub stringAt : List ℕ → ℕ → List ℕ
 stringAt s at = unescaped false (bodyOf (drop at s))

@@ -2,7 +2,7 @@
 ghost use mathlib.Core.Path.{_≡_};
 ghost use lib.ListN.{length, drop};
 ghost use lib.Seq.{sets};
-ghost use Rattle.lexer.specs.Token.{scanName, scanNumber, scanString, scanSymbol, scanOf, tokensOf, kindsOf, startsOf};
+ghost use Rattle.lexer.specs.Token.{scanName, scanNumber, scanString, scanSymbol, scanOf, tokensOf, kindsOf, startsOf, nameAt, escapedAt, nameIs, stringAt, integerAt, realAt};
 ghost use Rattle.lexer.specs.Answer.{lexingOf, scannedOf};
 
 mod byte;
@@ -21,10 +21,13 @@ use integer::is_integer;
 use integer::is_long;
 use real::is_real;
 use real::real_fits;
+use run::body;
 use run::byte_at;
+use run::has_escape;
 use run::legal_name;
 use run::rest;
 use run::run;
+use run::unescape;
 use run::unescaped_length;
 use symbol::symbol;
 use symbol::symbol_length;
@@ -74,8 +77,8 @@ fn scan_number(s: &[u8]) -> Scanned
 fn scan_string(s: &[u8]) -> Scanned
     ensures { λ r. ⌜ r ≡ scannedOf (scanString (now (s .entry))) ⌝ }
 {
-    let body = run(s, 1, byte_at(s, 0));
-    let n = body.len();
+    let bytes = body(s);
+    let n = bytes.len();
     let after = rest(s, n + 1);
     if after.len() == 0 {
         return Scanned::Bad(1);
@@ -146,4 +149,59 @@ pub fn lex(text: &[u8], kinds: &mut [u8; 4096], starts: &mut [u16; 4096]) -> Lex
         }
     }
     Lexing::Tokens(n)
+}
+
+// The value of a token by its start, for any text and any start.
+pub fn name_length(text: &[u8], at: usize) -> usize
+    ensures { λ r. ⌜ r ≡ length (nameAt (now (text .entry)) at) ⌝ }
+{
+    unescaped_length(run(text, at, 0))
+}
+
+pub fn name_escaped(text: &[u8], at: usize) -> bool
+    ensures { λ r. ⌜ r ≡ escapedAt (now (text .entry)) at ⌝ }
+{
+    has_escape(run(text, at, 0))
+}
+
+// To the start of the part, as far as it goes; its other bytes stay.
+pub fn copy_name(text: &[u8], at: usize, part: &mut [u8])
+    ensures { λ _. ⌜ now (part .exit) ≡ sets (now (part .entry)) 0 (nameAt (now (text .entry)) at) ⌝ }
+{
+    unescape(run(text, at, 0), part);
+}
+
+// Whether the name is the word, with no escape.
+pub fn name_is(text: &[u8], at: usize, word: &[u8]) -> bool
+    ensures { λ r. ⌜ r ≡ nameIs (now (text .entry)) at (now (word .entry)) ⌝ }
+{
+    let bytes = run(text, at, 0);
+    if has_escape(bytes) {
+        return false;
+    }
+    octets::same(bytes, false, word, false)
+}
+
+pub fn string_length(text: &[u8], at: usize) -> usize
+    ensures { λ r. ⌜ r ≡ length (stringAt (now (text .entry)) at) ⌝ }
+{
+    unescaped_length(body(rest(text, at)))
+}
+
+pub fn copy_string(text: &[u8], at: usize, part: &mut [u8])
+    ensures { λ _. ⌜ now (part .exit) ≡ sets (now (part .entry)) 0 (stringAt (now (text .entry)) at) ⌝ }
+{
+    unescape(body(rest(text, at)), part);
+}
+
+pub fn int_value(text: &[u8], at: usize) -> i64
+    ensures { λ r. ⌜ r ≡ integerAt (now (text .entry)) at ⌝ }
+{
+    integer::integer_value(run(text, at, 0))
+}
+
+pub fn real_value(text: &[u8], at: usize) -> f64
+    ensures { λ r. ⌜ r ≡ realAt (now (text .entry)) at ⌝ }
+{
+    real::real_value(run(text, at, 0))
 }

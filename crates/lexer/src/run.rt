@@ -4,7 +4,7 @@ ghost use mathlib.Core.Path.{_≡_};
 ghost use mathlib.Core.Bool.{false};
 ghost use lib.ListN.{length, getD, drop, set};
 ghost use lib.Seq.{sets};
-ghost use Rattle.lexer.specs.Run.{takes as takesOf, ends as endsOf, runOf, unescaped, hasEscape, legalByte, legalName};
+ghost use Rattle.lexer.specs.Run.{takes as takesOf, ends as endsOf, runOf, unescaped, hasEscape, legalByte, legalName, bodyOf};
 use crate::byte::is_delimiter;
 use crate::byte::is_plain;
 
@@ -65,6 +65,13 @@ pub fn run<'a>(s: &'a [u8], at: usize, quote: u8) -> &'a [u8]
     let from = rest(s, at);
     let n = run_length(from, quote);
     &from[0..n]
+}
+
+// The bytes between the quotes of the string that stands first.
+pub fn body<'a>(s: &'a [u8]) -> &'a [u8]
+    ensures { λ r. ⌜ now r ≡ bodyOf (now (s .entry)) ⌝ }
+{
+    run(s, 1, byte_at(s, 0))
 }
 
 pub fn has_escape(run: &[u8]) -> bool

@@ -5,45 +5,36 @@ use Rattle.lexer.proofs.scan_string.Statement.{statement}
 use Rattle.lexer.proofs.scan_string.Tie as tie
 use Rattle.lexer.proofs.scan_string.Reads as reads
 use Rattle.lexer.proofs.scan_string.Lts as lts
-use Rattle.lexer.proofs.run.byte_at.Reads as byte-at-reads
+use Rattle.lexer.proofs.run.body.Reads as body-reads
 use Rattle.lexer.proofs.run.rest.Reads as rest-reads
-use Rattle.lexer.proofs.run.run.Reads as run-reads
 
--- src/lib.rt:66:26
-byte-at-requires : tie.Need-byte-at-requires
-byte-at-requires c κs = search needs
+-- src/lib.rt:80:9
+body-requires : tie.Need-body-requires
+body-requires c κs = search needs
 
--- src/lib.rt:66:9
-run-requires : tie.Need-run-requires
-run-requires c κs = search needs
-
--- src/lib.rt:68:25
+-- src/lib.rt:82:25
 add-rest : tie.Need-add-rest
 add-rest c = search needs
 
--- src/lib.rt:68:9
+-- src/lib.rt:82:9
 rest-requires : tie.Need-rest-requires
 rest-requires c κs = search needs
 
--- src/lib.rt:70:9
+-- src/lib.rt:84:9
 returns : tie.Need-returns
 returns c =
-    let b = rw (c .before .before .before .byte-at .ensures) at (c .before .before .run .ensures) in
-    let e = rw (c .before .rest .ensures, b) at (c .if1 .taken) in
-    string-open (c .before .before .before .before .before .args .s .now) e
+    string-open (c .before .before .before .before .args .s .now) (rw (c .before .rest .ensures, c .before .before .body .ensures) at (c .if1 .taken))
 
--- src/lib.rt:72:22
-add-t6 : tie.Need-add-t6
-add-t6 c = search needs
+-- src/lib.rt:86:22
+add-t5 : tie.Need-add-t5
+add-t5 c = search needs
 
--- src/lib.rt:63:1
+-- src/lib.rt:77:1
 returns-2 : tie.Need-returns-2
 returns-2 c =
-    let b = rw (c .before .before .before .byte-at .ensures) at (c .before .before .run .ensures) in
-    let e = rw (c .before .rest .ensures, b) at (c .if1 .left) in
-    rw b (string-legal (c .before .before .before .before .before .args .s .now) e)
+    let e = rw (c .before .rest .ensures, c .before .before .body .ensures) at (c .if1 .left) in
+    rw (c .before .before .body .ensures) (string-legal (c .before .before .before .before .args .s .now) e)
 
 pub scan-string-spec : {M : Type 1} → statement M
 scan-string-spec =
-    tie.close
-    (tie.spec byte-at-requires run-requires add-rest rest-requires returns add-t6 returns-2)
+    tie.close (tie.spec body-requires add-rest rest-requires returns add-t5 returns-2)
