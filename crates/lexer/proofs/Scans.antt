@@ -79,10 +79,10 @@ module _ (s : List ℕ) where
   unfolding named
   name-legal e f = legal (legalName false (runOf 0 s)) (nameFits (unescaped false (runOf 0 s))) named (length (runOf 0 s)) e f
 
-scan-real : (run : List ℕ) → isReal run ≡ true → scanRun run ≡ judged true (realFits run) (real (realOf run)) (length run)
+pub scan-real : (run : List ℕ) → isReal run ≡ true → scanRun run ≡ judged true (realFits run) (real (realOf run)) (length run)
 scan-real run e = pick-yes (isReal run) _ _ e
 
-scan-integer : (run : List ℕ) → isReal run ≡ false → scanRun run ≡ judged (isInteger run) (integerFits run) (integerToken run) (length run)
+pub scan-integer : (run : List ℕ) → isReal run ≡ false → scanRun run ≡ judged (isInteger run) (integerFits run) (integerToken run) (length run)
 scan-integer run e = pick-no (isReal run) _ _ e
 
 module _ (run : List ℕ) where

@@ -25,6 +25,28 @@ inside (suc k) at [] = refl
 inside zero at (b ∷ s) = let e : at + 0 ≡ at = omega arith in rw e
 inside (suc k) at (b ∷ s) = let e : suc at + k ≡ at + suc k = omega arith in inside k (suc at) s ∙ ap (λ (n : ℕ). tokensFrom 0 n (drop k s)) e
 
+-- what stands first: whitespace, a bad token, a token
+module _ (b at : ℕ) (s : List ℕ) where
+  pub first-space : isSpace b ≡ true → tokensFrom 0 at (b ∷ s) ≡ tokensFrom 0 (suc at) s
+  unfolding tokensFrom
+  first-space e = pick-yes (isSpace b) _ _ e
+
+  module _ (e : isSpace b ≡ false) where
+    first : tokensFrom 0 at (b ∷ s) ≡ placed at (scanOf (b ∷ s)) (λ n. tokensFrom (n - 1) (suc at) s)
+    unfolding tokensFrom
+    first = pick-no (isSpace b) _ _ e
+
+    pub first-bad : (k : ℕ) → scanOf (b ∷ s) ≡ bad k → tokensFrom 0 at (b ∷ s) ≡ refused k at []
+    first-bad k f = first ∙ rw f
+
+    pub first-good : (t : Token) (n : ℕ) → scanOf (b ∷ s) ≡ good t n → 0 < n
+        → tokensFrom 0 at (b ∷ s) ≡ prepend (record { token = t; start = at }) (tokensFrom 0 (at + n) (drop n (b ∷ s)))
+    first-good t zero f l = absurd (omega arith)
+    first-good t (suc m) f l =
+        let z : suc m - 1 ≡ m = omega arith in
+        let q : suc at + m ≡ at + suc m = omega arith in
+        first ∙ rw (f, z, inside m (suc at) s, q)
+
 -- the tokens of a text from a place on
 abbrev pub from : List ℕ → ℕ → Lexed
 from s at = tokensFrom 0 at (drop at s)
@@ -36,21 +58,17 @@ module _ (s : List ℕ) (at : ℕ) where
 
   module _ (h : at < length s) where
     pub space-passed : isSpace (getD s at 0) ≡ true → from s (at + 1) ≡ from s at
-    unfolding tokensFrom
-    space-passed e = rw (add-one, drop-cons s at 0 h) (sym (pick-yes (isSpace (getD s at 0)) _ _ e))
+    space-passed e = rw (add-one, drop-cons s at 0 h) (sym (first-space (getD s at 0) at (drop (suc at) s) e))
 
     module _ (e : isSpace (getD s at 0) ≡ false) where
-      here : from s at ≡ placed at (scanOf (drop at s)) (λ n. tokensFrom (n - 1) (suc at) (drop (suc at) s))
-      unfolding tokensFrom
-      here = rw (drop-cons s at 0 h) (pick-no (isSpace (getD s at 0)) _ _ e)
-
       pub token-bad : (k : ℕ) → scanOf (drop at s) ≡ bad k → from s at ≡ refused k at []
-      token-bad k f = here ∙ rw f
+      token-bad k f = rw (drop-cons s at 0 h) (first-bad (getD s at 0) at (drop (suc at) s) e k (rw (drop-cons s at 0 h) at f))
 
       pub token-here : (t : Token) (n : ℕ) → scanOf (drop at s) ≡ good t n → 0 < n → from s at ≡ prepend (record { token = t; start = at }) (from s (at + n))
       token-here t n f l =
-          let m : suc at + (n - 1) ≡ at + n = omega arith in
-          here ∙ rw (f, inside (n - 1) (suc at) (drop (suc at) s), drop-drop (n - 1) (suc at) s, m)
+          let d = drop-cons s at 0 h in
+          let g = first-good (getD s at 0) at (drop (suc at) s) e t n (rw d at f) l in
+          (rw (← d, drop-drop n at s) at g)
 
 -- the whole text
 pub stream-whole : (s : List ℕ) → length s ≤ 4096 → tokensOf s ≡ from s 0

@@ -6,4 +6,5 @@ pub mod Real
 pub mod Symbol
 pub mod Token
 pub mod Answer
+pub mod Ascii
 pub mod Theorems
