@@ -6,4 +6,8 @@ pub mod Ints
 pub mod Sums
 pub mod Products
 pub mod Quotients
+pub mod Integers
+pub mod Wholes
+pub mod Numbers
+pub mod Shifts
 pub mod Theorems
