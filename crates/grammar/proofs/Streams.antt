@@ -12,7 +12,7 @@ use lib.ListN.{length, getD, drop, drop-of-length-le, List·getD-eq-default}
 use lib.Seq.{drop-cons, getD-drop}
 use borrow.Author.Tests.{eq-eqb, ne-eqb, lt-ltb, le-ltb, le-leb, lt-leb, leb-true}
 use Rattle.number.proofs.Table.{at}
-use Rattle.token.specs.Token.{Token, name, int32, int64, real, text, symbol, kindOf, nameAt, escapedAt, stringAt, integerAt, realAt, name-small, string-small}
+use Rattle.lexer.specs.Token.{Token, name, int32, int64, real, text, symbol, kindOf, nameAt, escapedAt, stringAt, integerAt, realAt, name-small, string-small}
 use Rattle.grammar.specs.Tree.{leaf}
 use Rattle.grammar.specs.Grammar.{rank}
 use Rattle.grammar.specs.Parse.{ended, tokenAt, kindAt}

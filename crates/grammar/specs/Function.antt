@@ -4,7 +4,7 @@ use mathlib.Core.Bool.{Bool, true, false, cond, not, _&&_}
 use lib.Dec.{eqb}
 use mathlib.Core.List.{List, [], _∷_}
 use Rattle.octets.specs.Octets.{sameOf}
-use Rattle.token.specs.Token.{Token, name, int32, int64, real, text, symbol}
+use Rattle.lexer.specs.Token.{Token, name, int32, int64, real, text, symbol}
 
 -- a name and its op
 pub record Function : Type 0 where
