@@ -15,7 +15,7 @@ use mir.Syntax.{w32, w64}
 use borrow.Author.Tests.{eqb-false, ltb-true, lt-ltb, leb-true, le-leb, not-true, ne-eqb}
 use Rattle.octets.proofs.Theorems.{and-parts, true-false}
 use Rattle.number.specs.Integer.{fitsIn}
-use Rattle.number.specs.Real.{inLimits, pickReal}
+use Rattle.number.specs.Real.{inLimits}
 use Rattle.lexer.specs.Byte.{isSpace, startsName, startsNumber, isQuote}
 use Rattle.lexer.specs.Run.{runOf, unescaped, hasEscape, legalName, nameFits, bodyOf, isClosed}
 use Rattle.lexer.specs.Digits.{wholeOf}
@@ -84,7 +84,7 @@ module _ (s : List ℕ) (at : ℕ) where
   typed-value true z l e f = (held-fits z f ∙ sym e, l)
   typed-value false z l e f = (held-fits z (wide-fits z f) ∙ sym e, l)
 
-  real-value : (fits : Bool) (x : Float) → realAt s at ≡ pickReal fits x nan → fits ≡ true → ValueAt s at (real x)
+  real-value : (fits : Bool) (x : Float) → realAt s at ≡ cond fits x nan → fits ≡ true → ValueAt s at (real x)
   real-value fits x e f = sym (e ∙ rw f)
 
   number-value : (t : Token) (n : ℕ) → scanNumber (drop at s) ≡ good t n → ValueAt s at t

@@ -7,7 +7,6 @@ use lib.ListN.{length, getD, drop}
 use lib.IntN.{ℤ}
 use lib.Ieee.{Float, nan}
 use Rattle.octets.specs.Octets.{sameOf}
-use Rattle.number.specs.Real.{pickReal}
 use Rattle.lexer.specs.Byte.{isSpace, isQuote, startsName, startsNumber}
 use Rattle.lexer.specs.Run.{runOf, unescaped, hasEscape, legalName, nameFits, bodyOf, isClosed}
 use Rattle.lexer.specs.Integer.{isLong, isInteger, integerOf, integerFits, held}
@@ -145,4 +144,4 @@ abbrev pub longAt : List ℕ → ℕ → Bool
 longAt s at = isLong (runOf 0 (drop at s))
 
 abbrev pub realAt : List ℕ → ℕ → Float
-realAt s at = let run = runOf 0 (drop at s) in pickReal (realFits run) (realOf run) nan
+realAt s at = let run = runOf 0 (drop at s) in cond (realFits run) (realOf run) nan

@@ -1,11 +1,11 @@
 // Reals. Document 01, "Tokens": "Reals".
 ghost use mathlib.Core.Path.{_≡_};
+ghost use mathlib.Core.Bool.{cond};
 ghost use Prim.Native.Nat.{_≤_};
 ghost use lib.ListN.{length};
 ghost use lib.IntN.{natAbs};
 ghost use lib.Ieee.{nan};
 ghost use Rattle.number.specs.Integer.{isNegative};
-ghost use Rattle.number.specs.Real.{pickReal};
 ghost use Rattle.lexer.specs.Digits.{capped, wholeOf};
 ghost use Rattle.lexer.specs.Real.{wholeDigits, fromPoint, fractionDigits, exponentPart, isDown, afterSign, exponentDigits, isExponent, isReal, realDigits, scaleOf, realFits, realOf};
 use crate::digits::digits;
@@ -149,7 +149,7 @@ fn no_number() -> f64
 
 // The value; outside the limits, where no literal is, NaN.
 pub fn real_value(run: &[u8]) -> f64
-    ensures { λ r. ⌜ r ≡ pickReal (realFits (now (run .entry))) (realOf (now (run .entry))) nan ⌝ }
+    ensures { λ r. ⌜ r ≡ cond (realFits (now (run .entry))) (realOf (now (run .entry))) nan ⌝ }
 {
     if !real_fits(run) {
         return no_number();

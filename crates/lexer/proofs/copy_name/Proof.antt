@@ -6,19 +6,15 @@ use Rattle.lexer.proofs.copy_name.Lts as lts
 use Rattle.lexer.proofs.run.run.Reads as run-reads
 use Rattle.lexer.proofs.run.unescape.Reads as unescape-reads
 
--- src/lib.rt:171:14
 run-requires : tie.Need-run-requires
 run-requires c κs = search needs
 
--- src/lib.rt:171:5
 unescape-requires : tie.Need-unescape-requires
 unescape-requires c κs = search needs
 
--- src/lib.rt:168:1
 same-length : tie.Need-same-length
 same-length c = search needs
 
--- src/lib.rt:168:1
 returns : tie.Need-returns
 returns c = (rw (c .before .before .before .before .run .ensures) at (c .before .before .unescape .ensures))
 

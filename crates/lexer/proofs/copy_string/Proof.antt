@@ -7,23 +7,18 @@ use Rattle.lexer.proofs.run.body.Reads as body-reads
 use Rattle.lexer.proofs.run.rest.Reads as rest-reads
 use Rattle.lexer.proofs.run.unescape.Reads as unescape-reads
 
--- src/lib.rt:194:19
 rest-requires : tie.Need-rest-requires
 rest-requires c κs = search needs
 
--- src/lib.rt:194:14
 body-requires : tie.Need-body-requires
 body-requires c κs = search needs
 
--- src/lib.rt:194:5
 unescape-requires : tie.Need-unescape-requires
 unescape-requires c κs = search needs
 
--- src/lib.rt:191:1
 same-length : tie.Need-same-length
 same-length c = search needs
 
--- src/lib.rt:191:1
 returns : tie.Need-returns
 returns c =
     (rw (c .before .before .before .before .body .ensures, c .before .before .before .before .before .rest .ensures) at (c .before .before .unescape .ensures))

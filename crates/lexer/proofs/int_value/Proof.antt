@@ -9,15 +9,12 @@ use Rattle.lexer.proofs.int_value.Lts as lts
 use Rattle.lexer.proofs.integer.integer_value.Reads as integer-value-reads
 use Rattle.lexer.proofs.run.run.Reads as run-reads
 
--- src/lib.rt:200:28
 run-requires : tie.Need-run-requires
 run-requires c κs = search needs
 
--- src/lib.rt:200:5
 integer-value-requires : tie.Need-integer-value-requires
 integer-value-requires c κs = search needs
 
--- src/lib.rt:197:1
 returns : tie.Need-returns
 returns c =
     toZ-ofZ w64 _ (record { sfits = c .integer-value .ok }) ∙ rw (c .before .run .ensures) at (c .integer-value .ensures)

@@ -33,90 +33,70 @@ next c =
     let q = rw (c .before .before .before .rest .ensures) at (sym (c .before .before .scan .ensures) ∙ c .kind .given .1) in
     goes-on (a .text .now) (a .kinds .now) (a .starts .now) (l .kinds) (l .starts) (l .n) (l .at) (l .inv .1) (omega arith) f (g .0) (g .1 .0) q
 
--- src/lib.rt:129:9
 returns : tie.Need-returns Inv-loop μ-loop
 returns c =
     let w = lexes-long (c .before .before .args .text .now) (c .before .before .args .kinds .now) (c .before .before .args .starts .now) (c .if1 .taken) in (w .answer, (w .kinds, w .starts))
 
--- src/lib.rt:133:5
 loop-holds : tie.Need-loop-holds Inv-loop μ-loop
 loop-holds c =
     (c .if1 .left, goes-first (c .before .before .args .text .now) (c .before .before .args .kinds .now) (c .before .before .args .starts .now))
 
--- src/lib.rt:134:21
 shared-slice-read-is-space : tie.Need-shared-slice-read-is-space Inv-loop μ-loop
 shared-slice-read-is-space c = search needs
 
--- src/lib.rt:134:12
 is-space-requires : tie.Need-is-space-requires Inv-loop μ-loop
 is-space-requires c κs = search needs
 
--- src/lib.rt:135:13
 add-at : tie.Need-add-at Inv-loop μ-loop
 add-at c = search needs
 
--- src/lib.rt:133:5
 loop-less : tie.Need-loop-less Inv-loop μ-loop
 loop-less c = let g = c .before .before .before .before .loop .inv .1 in omega arith
 
--- src/lib.rt:133:5
 loop-again : tie.Need-loop-again Inv-loop μ-loop
 loop-again c =
     let l = c .before .before .before .before .loop in
     let a = c .before .before .before .before .before .before .before .args in
     (l .inv .0, goes-space (a .text .now) (a .kinds .now) (a .starts .now) (l .kinds) (l .starts) (l .n) (l .at) (l .inv .1) (omega arith) (sym (c .before .is-space .ensures) ∙ c .if2 .taken))
 
--- src/lib.rt:138:20
 rest-requires : tie.Need-rest-requires Inv-loop μ-loop
 rest-requires c κs = search needs
 
--- src/lib.rt:138:15
 scan-requires : tie.Need-scan-requires Inv-loop μ-loop
 scan-requires c κs = search needs
 
--- src/lib.rt:139:27
 enum-known-kind : tie.Need-enum-known-kind Inv-loop μ-loop
 enum-known-kind c = c .match .keys1
 
--- src/lib.rt:140:17
 element-write-kinds : tie.Need-element-write-kinds Inv-loop μ-loop
 element-write-kinds c = let g = c .before .before .before .before .before .before .before .before .before .loop .inv .1 in omega arith
 
--- src/lib.rt:141:29
 cast-starts : tie.Need-cast-starts Inv-loop μ-loop
 cast-starts c = let g = c .before .before .before .before .before .before .before .before .before .loop .inv .1 in omega arith
 
--- src/lib.rt:141:17
 mul-starts : tie.Need-mul-starts Inv-loop μ-loop
 mul-starts c = let g = c .before .before .before .before .before .before .before .before .before .loop .inv .1 in omega arith
 
--- src/lib.rt:141:17
 element-write-starts : tie.Need-element-write-starts Inv-loop μ-loop
 element-write-starts c = let g = c .before .before .before .before .before .before .before .before .before .loop .inv .1 in omega arith
 
--- src/lib.rt:142:17
 add-n : tie.Need-add-n Inv-loop μ-loop
 add-n c = let g = c .before .before .before .before .before .before .before .before .before .loop .inv .1 in omega arith
 
--- src/lib.rt:143:17
 add-at-2 : tie.Need-add-at-2 Inv-loop μ-loop
 add-at-2 c =
     let g = c .before .before .before .before .before .before .before .before .before .loop .inv .1 in let w = next (c .before) in omega (arith, w .2, c .before .before .before .before .before .before .before .before .before .loop .inv .0)
 
--- src/lib.rt:133:5
 loop-less-2 : tie.Need-loop-less-2 Inv-loop μ-loop
 loop-less-2 c =
     let g = c .before .before .before .before .before .before .before .before .before .loop .inv .1 in let w = next (c .before) in omega (arith, w .1, w .2)
 
--- src/lib.rt:133:5
 loop-again-2 : tie.Need-loop-again-2 Inv-loop μ-loop
 loop-again-2 c = (c .before .before .before .before .before .before .before .before .before .loop .inv .0, next (c .before) .0)
 
--- src/lib.rt:145:26
 enum-known-number : tie.Need-enum-known-number Inv-loop μ-loop
 enum-known-number c = c .match .keys2
 
--- src/lib.rt:145:37
 returns-2 : tie.Need-returns-2 Inv-loop μ-loop
 returns-2 c =
     let l = c .before .before .before .before .before .before .before .before .before .loop in
@@ -126,7 +106,6 @@ returns-2 c =
     let w = lexes-bad (a .text .now) (a .kinds .now) (a .starts .now) (l .kinds) (l .starts) (l .n) (l .at) (l .inv .0) (l .inv .1) (omega arith) f (c .before .number .given .0 .0) q in
     (w .answer, (w .kinds, w .starts))
 
--- src/lib.rt:123:1
 returns-3 : tie.Need-returns-3 Inv-loop μ-loop
 returns-3 c =
     let l = c .before .loop in

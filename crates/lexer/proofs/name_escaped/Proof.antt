@@ -6,15 +6,12 @@ use Rattle.lexer.proofs.name_escaped.Lts as lts
 use Rattle.lexer.proofs.run.has_escape.Reads as has-escape-reads
 use Rattle.lexer.proofs.run.run.Reads as run-reads
 
--- src/lib.rt:164:16
 run-requires : tie.Need-run-requires
 run-requires c κs = search needs
 
--- src/lib.rt:164:5
 has-escape-requires : tie.Need-has-escape-requires
 has-escape-requires c κs = search needs
 
--- src/lib.rt:161:1
 returns : tie.Need-returns
 returns c = rw (c .has-escape .ensures, c .before .run .ensures)
 

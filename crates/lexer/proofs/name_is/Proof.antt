@@ -11,26 +11,21 @@ use Rattle.lexer.proofs.run.has_escape.Reads as has-escape-reads
 use Rattle.lexer.proofs.run.run.Reads as run-reads
 use Rattle.octets.proofs.same.Reads as same-reads
 
--- src/lib.rt:178:9
 run-requires : tie.Need-run-requires
 run-requires c κs = search needs
 
--- src/lib.rt:179:8
 has-escape-requires : tie.Need-has-escape-requires
 has-escape-requires c κs = search needs
 
--- src/lib.rt:180:9
 returns : tie.Need-returns
 returns c =
     let a = c .before .before .before .before .before .args in
     let e = rw (c .before .before .run .ensures) at (c .before .has-escape .ensures) in
     word-escaped (runOf 0 (drop (a .at) (a .text .now))) (a .word .now) (sym e ∙ c .if1 .taken)
 
--- src/lib.rt:182:5
 same-requires : tie.Need-same-requires
 same-requires c κs = search needs
 
--- src/lib.rt:175:1
 returns-2 : tie.Need-returns-2
 returns-2 c =
     let a = c .before .before .before .before .before .before .args in

@@ -6,15 +6,12 @@ use Rattle.lexer.proofs.name_length.Lts as lts
 use Rattle.lexer.proofs.run.run.Reads as run-reads
 use Rattle.lexer.proofs.run.unescaped_length.Reads as unescaped-length-reads
 
--- src/lib.rt:158:22
 run-requires : tie.Need-run-requires
 run-requires c κs = search needs
 
--- src/lib.rt:158:5
 unescaped-length-requires : tie.Need-unescaped-length-requires
 unescaped-length-requires c κs = search needs
 
--- src/lib.rt:155:1
 returns : tie.Need-returns
 returns c = rw (c .unescaped-length .ensures, c .before .run .ensures)
 

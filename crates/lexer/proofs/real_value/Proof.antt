@@ -6,15 +6,12 @@ use Rattle.lexer.proofs.real_value.Lts as lts
 use Rattle.lexer.proofs.real.real_value.Reads as real-value-reads
 use Rattle.lexer.proofs.run.run.Reads as run-reads
 
--- src/lib.rt:206:22
 run-requires : tie.Need-run-requires
 run-requires c κs = search needs
 
--- src/lib.rt:206:5
 real-value-requires : tie.Need-real-value-requires
 real-value-requires c κs = search needs
 
--- src/lib.rt:203:1
 returns : tie.Need-returns
 returns c = rw (c .real-value .ensures, c .before .run .ensures)
 

@@ -15,52 +15,41 @@ use Rattle.lexer.proofs.scan_number.Reads as scan-number-reads
 use Rattle.lexer.proofs.scan_string.Reads as scan-string-reads
 use Rattle.lexer.proofs.scan_symbol.Reads as scan-symbol-reads
 
--- src/lib.rt:92:9
 byte-at-requires : tie.Need-byte-at-requires
 byte-at-requires c κs = search needs
 
--- src/lib.rt:93:8
 starts-name-requires : tie.Need-starts-name-requires
 starts-name-requires c κs = search needs
 
--- src/lib.rt:94:9
 scan-name-requires : tie.Need-scan-name-requires
 scan-name-requires c κs = search needs
 
--- src/lib.rt:94:9
 returns : tie.Need-returns
 returns c =
     let e = rw (c .before .before .before .byte-at .ensures) at (c .before .before .starts-name .ensures) in
     c .scan-name .ensures ∙ ap scannedOf (sym (is-name (c .before .before .before .before .before .args .s .now) (sym e ∙ c .before .if1 .taken)))
 
--- src/lib.rt:96:25
 byte-at-requires-2 : tie.Need-byte-at-requires-2
 byte-at-requires-2 c κs = search needs
 
--- src/lib.rt:96:8
 starts-number-requires : tie.Need-starts-number-requires
 starts-number-requires c κs = search needs
 
--- src/lib.rt:97:9
 scan-number-requires : tie.Need-scan-number-requires
 scan-number-requires c κs = search needs
 
--- src/lib.rt:97:9
 returns-2 : tie.Need-returns-2
 returns-2 c =
     let e = rw (c .before .before .before .before .before .before .byte-at .ensures) at (c .before .before .before .before .before .starts-name .ensures) in
     let f = rw (c .before .before .before .before .before .before .byte-at .ensures, c .before .before .before .byte-at2 .ensures) at (c .before .before .starts-number .ensures) in
     c .scan-number .ensures ∙ ap scannedOf (sym (is-number (c .before .before .before .before .before .before .before .before .args .s .now) (sym e ∙ c .before .before .before .before .if1 .left) (sym f ∙ c .before .if2 .taken)))
 
--- src/lib.rt:99:8
 is-quote-requires : tie.Need-is-quote-requires
 is-quote-requires c κs = search needs
 
--- src/lib.rt:100:9
 scan-string-requires : tie.Need-scan-string-requires
 scan-string-requires c κs = search needs
 
--- src/lib.rt:100:9
 returns-3 : tie.Need-returns-3
 returns-3 c =
     let e = rw (c .before .before .before .before .before .before .before .before .byte-at .ensures) at (c .before .before .before .before .before .before .before .starts-name .ensures) in
@@ -68,11 +57,9 @@ returns-3 c =
     let g = rw (c .before .before .before .before .before .before .before .before .byte-at .ensures) at (c .before .before .is-quote .ensures) in
     c .scan-string .ensures ∙ ap scannedOf (sym (is-string (c .before .before .before .before .before .before .before .before .before .before .args .s .now) (sym e ∙ c .before .before .before .before .before .before .if1 .left) (sym f ∙ c .before .before .before .if2 .left) (sym g ∙ c .before .if3 .taken)))
 
--- src/lib.rt:102:5
 scan-symbol-requires : tie.Need-scan-symbol-requires
 scan-symbol-requires c κs = search needs
 
--- src/lib.rt:89:1
 returns-4 : tie.Need-returns-4
 returns-4 c =
     let e = rw (c .before .before .before .before .before .before .before .before .byte-at .ensures) at (c .before .before .before .before .before .before .before .starts-name .ensures) in

@@ -12,32 +12,26 @@ use Rattle.lexer.proofs.run.legal_name.Reads as legal-name-reads
 use Rattle.lexer.proofs.run.run.Reads as run-reads
 use Rattle.lexer.proofs.run.unescaped_length.Reads as unescaped-length-reads
 
--- src/lib.rt:30:9
 run-requires : tie.Need-run-requires
 run-requires c κs = search needs
 
--- src/lib.rt:31:9
 legal-name-requires : tie.Need-legal-name-requires
 legal-name-requires c κs = search needs
 
--- src/lib.rt:32:9
 returns : tie.Need-returns
 returns c =
     let e = rw (c .before .before .run .ensures) at (c .before .legal-name .ensures) in
     name-illegal (c .before .before .before .before .args .s .now) (sym e ∙ not-true _ (c .if1 .taken))
 
--- src/lib.rt:34:9
 unescaped-length-requires : tie.Need-unescaped-length-requires
 unescaped-length-requires c κs = search needs
 
--- src/lib.rt:36:9
 returns-2 : tie.Need-returns-2
 returns-2 c =
     let e = rw (c .before .before .before .before .run .ensures) at (c .before .before .before .legal-name .ensures) in
     let f = rw (c .before .unescaped-length .ensures, c .before .before .before .before .run .ensures) at (c .if2 .taken) in
     rw (c .before .before .before .before .run .ensures) (name-legal (c .before .before .before .before .before .before .args .s .now) (sym e ∙ not-false _ (c .before .before .if1 .left)) f)
 
--- src/lib.rt:27:1
 returns-3 : tie.Need-returns-3
 returns-3 c =
     let e = rw (c .before .before .before .before .run .ensures) at (c .before .before .before .legal-name .ensures) in

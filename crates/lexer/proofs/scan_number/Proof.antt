@@ -15,48 +15,39 @@ use Rattle.lexer.proofs.real.is_real.Reads as is-real-reads
 use Rattle.lexer.proofs.real.real_fits.Reads as real-fits-reads
 use Rattle.lexer.proofs.run.run.Reads as run-reads
 
--- src/lib.rt:44:9
 run-requires : tie.Need-run-requires
 run-requires c κs = search needs
 
--- src/lib.rt:45:8
 is-real-requires : tie.Need-is-real-requires
 is-real-requires c κs = search needs
 
--- src/lib.rt:46:12
 real-fits-requires : tie.Need-real-fits-requires
 real-fits-requires c κs = search needs
 
--- src/lib.rt:47:13
 returns : tie.Need-returns
 returns c =
     let r = c .before .before .before .before .run .result .now in
     real-legal r (sym (c .before .before .before .is-real .ensures) ∙ c .before .before .if1 .taken) (sym (c .before .real-fits .ensures) ∙ c .if2 .taken)
     ∙ ap (λ l. scannedOf (scanRun l)) (c .before .before .before .before .run .ensures)
 
--- src/lib.rt:49:9
 returns-2 : tie.Need-returns-2
 returns-2 c =
     let r = c .before .before .before .before .run .result .now in
     real-over r (sym (c .before .before .before .is-real .ensures) ∙ c .before .before .if1 .taken) (sym (c .before .real-fits .ensures) ∙ c .if2 .left)
     ∙ ap (λ l. scannedOf (scanRun l)) (c .before .before .before .before .run .ensures)
 
--- src/lib.rt:51:9
 is-integer-requires : tie.Need-is-integer-requires
 is-integer-requires c κs = search needs
 
--- src/lib.rt:52:9
 returns-3 : tie.Need-returns-3
 returns-3 c =
     let r = c .before .before .before .before .run .result .now in
     integer-illegal r (sym (c .before .before .before .is-real .ensures) ∙ c .before .before .if1 .left) (sym (c .before .is-integer .ensures) ∙ not-true _ (c .if3 .taken))
     ∙ ap (λ l. scannedOf (scanRun l)) (c .before .before .before .before .run .ensures)
 
--- src/lib.rt:54:9
 integer-fits-requires : tie.Need-integer-fits-requires
 integer-fits-requires c κs = search needs
 
--- src/lib.rt:55:9
 returns-4 : tie.Need-returns-4
 returns-4 c =
     let r = c .before .before .before .before .before .before .run .result .now in
@@ -64,11 +55,9 @@ returns-4 c =
     (sym (c .before .integer-fits .ensures) ∙ not-true _ (c .if4 .taken))
     ∙ ap (λ l. scannedOf (scanRun l)) (c .before .before .before .before .before .before .run .ensures)
 
--- src/lib.rt:57:8
 is-long-requires : tie.Need-is-long-requires
 is-long-requires c κs = search needs
 
--- src/lib.rt:58:9
 returns-5 : tie.Need-returns-5
 returns-5 c =
     let r = c .before .before .before .before .before .before .before .before .run .result .now in
@@ -76,7 +65,6 @@ returns-5 c =
     (sym (c .before .before .before .integer-fits .ensures) ∙ not-false _ (c .before .before .if4 .left)) (sym (c .before .is-long .ensures) ∙ c .if5 .taken)
     ∙ ap (λ l. scannedOf (scanRun l)) (c .before .before .before .before .before .before .before .before .run .ensures)
 
--- src/lib.rt:41:1
 returns-6 : tie.Need-returns-6
 returns-6 c =
     let r = c .before .before .before .before .before .before .before .before .run .result .now in

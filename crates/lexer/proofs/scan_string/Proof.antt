@@ -8,28 +8,22 @@ use Rattle.lexer.proofs.scan_string.Lts as lts
 use Rattle.lexer.proofs.run.body.Reads as body-reads
 use Rattle.lexer.proofs.run.rest.Reads as rest-reads
 
--- src/lib.rt:80:9
 body-requires : tie.Need-body-requires
 body-requires c κs = search needs
 
--- src/lib.rt:82:25
 add-rest : tie.Need-add-rest
 add-rest c = search needs
 
--- src/lib.rt:82:9
 rest-requires : tie.Need-rest-requires
 rest-requires c κs = search needs
 
--- src/lib.rt:84:9
 returns : tie.Need-returns
 returns c =
     string-open (c .before .before .before .before .args .s .now) (rw (c .before .rest .ensures, c .before .before .body .ensures) at (c .if1 .taken))
 
--- src/lib.rt:86:22
 add-t5 : tie.Need-add-t5
 add-t5 c = search needs
 
--- src/lib.rt:77:1
 returns-2 : tie.Need-returns-2
 returns-2 c =
     let e = rw (c .before .rest .ensures, c .before .before .body .ensures) at (c .if1 .left) in

@@ -10,34 +10,27 @@ use Rattle.lexer.proofs.run.byte_at.Reads as byte-at-reads
 use Rattle.lexer.proofs.symbol.symbol.Reads as symbol-reads
 use Rattle.lexer.proofs.symbol.symbol_length.Reads as symbol-length-reads
 
--- src/lib.rt:78:9
 byte-at-requires : tie.Need-byte-at-requires
 byte-at-requires c κs = search needs
 
--- src/lib.rt:79:9
 byte-at-requires-2 : tie.Need-byte-at-requires-2
 byte-at-requires-2 c κs = search needs
 
--- src/lib.rt:80:9
 byte-at-requires-3 : tie.Need-byte-at-requires-3
 byte-at-requires-3 c κs = search needs
 
--- src/lib.rt:81:9
 symbol-requires : tie.Need-symbol-requires
 symbol-requires c κs = search needs
 
--- src/lib.rt:83:9
 returns : tie.Need-returns
 returns c =
     let s = c .before .before .before .before .before .before .args .s .now in
     let e = rw (c .before .before .before .before .byte-at .ensures, c .before .before .before .byte-at2 .ensures, c .before .before .byte-at3 .ensures) at (c .before .symbol .ensures) in
     symbol-none (getD s 0 0) (getD s 1 0) (getD s 2 0) (sym e ∙ c .if1 .taken)
 
--- src/lib.rt:85:25
 symbol-length-requires : tie.Need-symbol-length-requires
 symbol-length-requires c κs = search needs
 
--- src/lib.rt:75:1
 returns-2 : tie.Need-returns-2
 returns-2 c =
     let s = c .before .before .before .before .before .before .before .args .s .now in

@@ -7,19 +7,15 @@ use Rattle.lexer.proofs.run.body.Reads as body-reads
 use Rattle.lexer.proofs.run.rest.Reads as rest-reads
 use Rattle.lexer.proofs.run.unescaped_length.Reads as unescaped-length-reads
 
--- src/lib.rt:188:27
 rest-requires : tie.Need-rest-requires
 rest-requires c κs = search needs
 
--- src/lib.rt:188:22
 body-requires : tie.Need-body-requires
 body-requires c κs = search needs
 
--- src/lib.rt:188:5
 unescaped-length-requires : tie.Need-unescaped-length-requires
 unescaped-length-requires c κs = search needs
 
--- src/lib.rt:185:1
 returns : tie.Need-returns
 returns c = rw (c .unescaped-length .ensures, c .before .body .ensures, c .before .before .rest .ensures)
 

@@ -6,32 +6,25 @@ use Rattle.lexer.proofs.byte.digit.Tie as tie
 use Rattle.lexer.proofs.byte.digit.Reads as reads
 use Rattle.lexer.proofs.byte.digit.Lts as lts
 
--- src/byte.rt:45:16
 sub-result : tie.Need-sub-result
 sub-result c = let h = range 48 57 (c .before .args .b) (c .if1 .taken) in omega arith
 
--- src/byte.rt:45:9
 returns : tie.Need-returns
 returns c = tens (c .before .args .b) (c .if1 .taken)
 
--- src/byte.rt:48:16
 sub-result-2 : tie.Need-sub-result-2
 sub-result-2 c = let h = range 97 102 (c .before .before .args .b) (c .if2 .taken) in omega arith
 
--- src/byte.rt:48:9
 returns-2 : tie.Need-returns-2
 returns-2 c = smalls (c .before .before .args .b) (c .before .if1 .left) (c .if2 .taken)
 
--- src/byte.rt:51:16
 sub-result-3 : tie.Need-sub-result-3
 sub-result-3 c = let h = range 65 70 (c .before .before .before .args .b) (c .if3 .taken) in omega arith
 
--- src/byte.rt:51:9
 returns-3 : tie.Need-returns-3
 returns-3 c =
     capitals (c .before .before .before .args .b) (c .before .before .if1 .left) (c .before .if2 .left) (c .if3 .taken)
 
--- src/byte.rt:41:1
 returns-4 : tie.Need-returns-4
 returns-4 c =
     no-digit (c .before .before .before .args .b) (c .before .before .if1 .left) (c .before .if2 .left) (c .if3 .left)

@@ -5,11 +5,9 @@ use Rattle.lexer.proofs.byte.is_delimiter.Reads as reads
 use Rattle.lexer.proofs.byte.is_delimiter.Lts as lts
 use Rattle.lexer.proofs.byte.is_space.Reads as is-space-reads
 
--- src/byte.rt:17:5
 is-space-requires : tie.Need-is-space-requires
 is-space-requires c κs = search needs
 
--- src/byte.rt:14:1
 returns : tie.Need-returns
 returns c = rw (c .is-space .ensures)
 

@@ -5,15 +5,12 @@ use Rattle.lexer.proofs.byte.starts_number.Reads as reads
 use Rattle.lexer.proofs.byte.starts_number.Lts as lts
 use Rattle.lexer.proofs.byte.digit.Reads as digit-reads
 
--- src/byte.rt:60:6
 digit-requires : tie.Need-digit-requires
 digit-requires c κs = search needs
 
--- src/byte.rt:60:39
 digit-requires-2 : tie.Need-digit-requires-2
 digit-requires-2 c κs = search needs
 
--- src/byte.rt:57:1
 returns : tie.Need-returns
 returns c = rw (c .before .digit .ensures .0, c .digit2 .ensures .0)
 

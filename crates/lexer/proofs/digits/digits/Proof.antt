@@ -11,30 +11,24 @@ use Rattle.lexer.proofs.digits.digits.Lts as lts
 use Rattle.lexer.proofs.digits.digits_length.Reads as digits-length-reads
 use Rattle.lexer.proofs.run.rest.Reads as rest-reads
 
--- src/digits.rt:40:9
 rest-requires : tie.Need-rest-requires
 rest-requires c κs = search needs
 
--- src/digits.rt:41:9
 digits-length-requires : tie.Need-digits-length-requires
 digits-length-requires c κs = search needs
 
--- src/digits.rt:42:5
 sub-result : tie.Need-sub-result
 sub-result c = search needs
 
--- src/digits.rt:42:5
 part-result-start : tie.Need-part-result-start
 part-result-start c = search needs
 
--- src/digits.rt:42:5
 part-result-end : tie.Need-part-result-end
 part-result-end c =
     let s = c .before .rest .result .now in
     let b = c .before .before .before .args .base in
     omega (arith, first-fits (digitsOf b s) s (digits-first b s), c .digits-length .ensures)
 
--- src/digits.rt:37:1
 returns : tie.Need-returns
 returns c =
     let s = c .before .before .rest .result .now in

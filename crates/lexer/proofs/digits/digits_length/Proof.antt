@@ -17,19 +17,15 @@ Inv-loop s base i₀ i = (i ≤ length s) × (i + length (digitsOf base (drop i 
 abbrev μ-loop : tie.MeasureT-loop
 μ-loop s base i₀ i = length s - i
 
--- src/digits.rt:27:5
 loop-holds : tie.Need-loop-holds Inv-loop μ-loop
 loop-holds c = (omega arith, omega arith)
 
--- src/digits.rt:28:26
 shared-slice-read-digit : tie.Need-shared-slice-read-digit Inv-loop μ-loop
 shared-slice-read-digit c = search needs
 
--- src/digits.rt:28:20
 digit-requires : tie.Need-digit-requires Inv-loop μ-loop
 digit-requires c κs = search needs
 
--- src/digits.rt:29:13
 returns : tie.Need-returns Inv-loop μ-loop
 returns c =
     let l = c .before .before .before .before .loop in
@@ -37,15 +33,12 @@ returns c =
     let z = digits-stop (a .s .now) (l .i) (a .base) (omega arith) (rw (c .before .digit .ensures .0) at (c .if1 .taken)) in
     omega (arith, z, l .inv .1)
 
--- src/digits.rt:31:9
 add-i : tie.Need-add-i Inv-loop μ-loop
 add-i c = search needs
 
--- src/digits.rt:27:5
 loop-less : tie.Need-loop-less Inv-loop μ-loop
 loop-less c = search needs
 
--- src/digits.rt:27:5
 loop-again : tie.Need-loop-again Inv-loop μ-loop
 loop-again c =
     let l = c .before .before .before .before .loop in
@@ -53,7 +46,6 @@ loop-again c =
     let m = digits-more (a .s .now) (l .i) (a .base) (omega arith) (rw (c .before .digit .ensures .0) at (c .if1 .left)) in
     (omega arith, omega (arith, m, l .inv .1))
 
--- src/digits.rt:23:1
 returns-2 : tie.Need-returns-2 Inv-loop μ-loop
 returns-2 c =
     let l = c .before .loop in

@@ -5,11 +5,9 @@ use Rattle.lexer.proofs.digits.is_minus.Reads as reads
 use Rattle.lexer.proofs.digits.is_minus.Lts as lts
 use Rattle.lexer.proofs.run.byte_at.Reads as byte-at-reads
 
--- src/digits.rt:14:5
 byte-at-requires : tie.Need-byte-at-requires
 byte-at-requires c κs = search needs
 
--- src/digits.rt:11:1
 returns : tie.Need-returns
 returns c = rw (c .byte-at .ensures)
 

@@ -7,15 +7,12 @@ use Rattle.lexer.proofs.digits.sign_length.Reads as reads
 use Rattle.lexer.proofs.digits.sign_length.Lts as lts
 use Rattle.lexer.proofs.digits.is_minus.Reads as is-minus-reads
 
--- src/digits.rt:20:8
 is-minus-requires : tie.Need-is-minus-requires
 is-minus-requires c κs = search needs
 
--- src/digits.rt:17:1
 returns : tie.Need-returns
 returns c = let e = sym (c .before .is-minus .ensures) ∙ c .if1 .taken in (rw e, omega arith)
 
--- src/digits.rt:17:1
 returns-2 : tie.Need-returns-2
 returns-2 c = let e = sym (c .before .is-minus .ensures) ∙ c .if1 .left in (rw e, omega arith)
 

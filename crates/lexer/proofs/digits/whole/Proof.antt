@@ -19,31 +19,24 @@ Inv-loop digits base high v₀ i₀ v i =
 abbrev μ-loop : tie.MeasureT-loop
 μ-loop digits base high v₀ i₀ v i = length digits - i
 
--- src/digits.rt:65:5
 loop-holds : tie.Need-loop-holds Inv-loop μ-loop
 loop-holds c = (omega arith, c .before .pre .1, refl)
 
--- src/digits.rt:66:39
 shared-slice-read-digit : tie.Need-shared-slice-read-digit Inv-loop μ-loop
 shared-slice-read-digit c = search needs
 
--- src/digits.rt:66:33
 digit-requires : tie.Need-digit-requires Inv-loop μ-loop
 digit-requires c κs = search needs
 
--- src/digits.rt:66:9
 with-digit-requires : tie.Need-with-digit-requires Inv-loop μ-loop
 with-digit-requires c κs = (c .before .before .before .before .before .pre .0, c .digit .ensures .1)
 
--- src/digits.rt:67:9
 add-i : tie.Need-add-i Inv-loop μ-loop
 add-i c = search needs
 
--- src/digits.rt:65:5
 loop-less : tie.Need-loop-less Inv-loop μ-loop
 loop-less c = search needs
 
--- src/digits.rt:65:5
 loop-again : tie.Need-loop-again Inv-loop μ-loop
 loop-again c =
     let l = c .before .before .before .before .loop in
@@ -51,7 +44,6 @@ loop-again c =
     let e = rw (c .before .digit .ensures .0) at (c .with-digit .ensures) in
     (omega arith, omega (arith, e), whole-more (a .digits .now) (l .i) (a .base) (c .before .before .before .before .before .before .pre .0) (l .v) (c .with-digit .result) (omega arith) e ∙ l .inv .2)
 
--- src/digits.rt:59:1
 returns : tie.Need-returns Inv-loop μ-loop
 returns c =
     let l = c .before .loop in

@@ -10,30 +10,24 @@ use Rattle.lexer.proofs.digits.sign_length.Reads as sign-length-reads
 use Rattle.lexer.proofs.integer.is_hex.Reads as is-hex-reads
 use Rattle.lexer.proofs.run.byte_at.Reads as byte-at-reads
 
--- src/integer.rt:25:8
 is-hex-requires : tie.Need-is-hex-requires
 is-hex-requires c κs = search needs
 
--- src/integer.rt:26:9
 returns : tie.Need-returns
 returns c = let e = sym (c .before .is-hex .ensures) ∙ c .if1 .taken in (rw e, omega arith)
 
--- src/integer.rt:28:21
 sign-length-requires : tie.Need-sign-length-requires
 sign-length-requires c κs = search needs
 
--- src/integer.rt:28:8
 byte-at-requires : tie.Need-byte-at-requires
 byte-at-requires c κs = search needs
 
--- src/integer.rt:29:9
 returns-2 : tie.Need-returns-2
 returns-2 c =
     let e = sym (c .before .before .before .before .is-hex .ensures) ∙ c .before .before .before .if1 .left in
     let f = rw (c .before .byte-at .ensures, c .before .before .sign-length .ensures .0) at (eq-eqb _ 48 (c .if2 .taken)) in
     (rw (e, f), omega arith)
 
--- src/integer.rt:22:1
 returns-3 : tie.Need-returns-3
 returns-3 c =
     let e = sym (c .before .before .before .before .is-hex .ensures) ∙ c .before .before .before .if1 .left in

@@ -5,11 +5,9 @@ use Rattle.lexer.proofs.integer.fits.Tie as tie
 use Rattle.lexer.proofs.integer.fits.Reads as reads
 use Rattle.lexer.proofs.integer.fits.Lts as lts
 
--- src/integer.rt:92:9
 returns : tie.Need-returns
 returns c = let a = c .before .args in fits-negative (a .negative) (a .size) (a .half) (c .before .pre) (c .if1 .taken)
 
--- src/integer.rt:87:1
 returns-2 : tie.Need-returns-2
 returns-2 c = let a = c .before .args in fits-positive (a .negative) (a .size) (a .half) (c .if1 .left)
 

@@ -7,19 +7,15 @@ use Rattle.lexer.proofs.digits.digits.Reads as digits-reads
 use Rattle.lexer.proofs.integer.base.Reads as base-reads
 use Rattle.lexer.proofs.integer.prefix_length.Reads as prefix-length-reads
 
--- src/integer.rt:47:17
 prefix-length-requires : tie.Need-prefix-length-requires
 prefix-length-requires c κs = search needs
 
--- src/integer.rt:47:37
 base-requires : tie.Need-base-requires
 base-requires c κs = search needs
 
--- src/integer.rt:47:5
 digits-requires : tie.Need-digits-requires
 digits-requires c κs = search needs
 
--- src/integer.rt:44:1
 returns : tie.Need-returns
 returns c = rw (c .digits .ensures, c .before .before .prefix-length .ensures .0, c .before .base .ensures .0)
 

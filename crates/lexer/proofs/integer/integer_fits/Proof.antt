@@ -13,34 +13,27 @@ use Rattle.lexer.proofs.integer.fits.Reads as fits-reads
 use Rattle.lexer.proofs.integer.is_long.Reads as is-long-reads
 use Rattle.lexer.proofs.integer.magnitude.Reads as magnitude-reads
 
--- src/integer.rt:101:9
 magnitude-requires : tie.Need-magnitude-requires
 magnitude-requires c κs = search needs
 
--- src/integer.rt:102:9
 is-minus-requires : tie.Need-is-minus-requires
 is-minus-requires c κs = search needs
 
--- src/integer.rt:103:8
 is-long-requires : tie.Need-is-long-requires
 is-long-requires c κs = search needs
 
--- src/integer.rt:104:9
 fits-requires : tie.Need-fits-requires
 fits-requires c κs = search needs
 
--- src/integer.rt:104:9
 returns : tie.Need-returns
 returns c =
     let run = c .before .before .before .before .before .before .args .run .now in
     let e = sym (c .before .before .is-long .ensures) ∙ c .before .if1 .taken in
     rw (c .fits2 .ensures, c .before .before .before .is-minus .ensures, c .before .before .before .before .magnitude .ensures, e) (fits-capped (isMinus run) (wholeOf (baseOf run) (integerDigits run)) 9223372036854775808 (lit≤ tt))
 
--- src/integer.rt:106:5
 fits-requires-2 : tie.Need-fits-requires-2
 fits-requires-2 c κs = search needs
 
--- src/integer.rt:98:1
 returns-2 : tie.Need-returns-2
 returns-2 c =
     let run = c .before .before .before .before .before .before .args .run .now in

@@ -13,19 +13,15 @@ use Rattle.lexer.proofs.digits.is_minus.Reads as is-minus-reads
 use Rattle.lexer.proofs.integer.magnitude.Reads as magnitude-reads
 use Rattle.lexer.proofs.integer.signed.Reads as signed-reads
 
--- src/integer.rt:132:12
 is-minus-requires : tie.Need-is-minus-requires
 is-minus-requires c κs = search needs
 
--- src/integer.rt:132:27
 magnitude-requires : tie.Need-magnitude-requires
 magnitude-requires c κs = search needs
 
--- src/integer.rt:132:5
 signed-requires : tie.Need-signed-requires
 signed-requires c κs = search needs
 
--- src/integer.rt:129:1
 returns : tie.Need-returns
 returns c =
     let run = c .before .before .before .before .args .run .now in

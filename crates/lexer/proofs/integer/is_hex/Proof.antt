@@ -6,23 +6,18 @@ use Rattle.lexer.proofs.integer.is_hex.Lts as lts
 use Rattle.lexer.proofs.digits.sign_length.Reads as sign-length-reads
 use Rattle.lexer.proofs.run.byte_at.Reads as byte-at-reads
 
--- src/integer.rt:18:9
 sign-length-requires : tie.Need-sign-length-requires
 sign-length-requires c κs = search needs
 
--- src/integer.rt:19:6
 byte-at-requires : tie.Need-byte-at-requires
 byte-at-requires c κs = search needs
 
--- src/integer.rt:19:48
 add-byte-at : tie.Need-add-byte-at
 add-byte-at c = search needs
 
--- src/integer.rt:19:35
 byte-at-requires-2 : tie.Need-byte-at-requires-2
 byte-at-requires-2 c κs = search needs
 
--- src/integer.rt:15:1
 returns : tie.Need-returns
 returns c = rw (c .before .byte-at .ensures, c .byte-at2 .ensures, c .before .before .sign-length .ensures .0)
 

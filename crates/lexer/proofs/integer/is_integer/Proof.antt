@@ -11,36 +11,29 @@ use Rattle.lexer.proofs.integer.is_long.Reads as is-long-reads
 use Rattle.lexer.proofs.integer.suffix_at.Reads as suffix-at-reads
 use Rattle.lexer.proofs.run.rest.Reads as rest-reads
 
--- src/integer.rt:69:9
 integer-digits-requires : tie.Need-integer-digits-requires
 integer-digits-requires c κs = search needs
 
--- src/integer.rt:71:9
 returns : tie.Need-returns
 returns c =
     let d = rw (c .before .integer-digits .ensures) at (eq-eqb (length (c .before .integer-digits .result .now)) 0 (c .if1 .taken)) in
     rw d
 
--- src/integer.rt:73:26
 suffix-at-requires : tie.Need-suffix-at-requires
 suffix-at-requires c κs = search needs
 
--- src/integer.rt:73:9
 rest-requires : tie.Need-rest-requires
 rest-requires c κs = search needs
 
--- src/integer.rt:74:8
 is-long-requires : tie.Need-is-long-requires
 is-long-requires c κs = search needs
 
--- src/integer.rt:75:9
 returns-2 : tie.Need-returns-2
 returns-2 c =
     let d = rw (c .before .before .before .before .before .integer-digits .ensures) at (ne-eqb (length (c .before .before .before .before .before .integer-digits .result .now)) 0 (c .before .before .before .before .if1 .left)) in
     let l = sym (c .before .is-long .ensures) ∙ c .if2 .taken in
     rw (d, l, c .before .before .rest .ensures, c .before .before .before .suffix-at .ensures)
 
--- src/integer.rt:66:1
 returns-3 : tie.Need-returns-3
 returns-3 c =
     let d = rw (c .before .before .before .before .before .integer-digits .ensures) at (ne-eqb (length (c .before .before .before .before .before .integer-digits .result .now)) 0 (c .before .before .before .before .if1 .left)) in

@@ -6,15 +6,12 @@ use Rattle.lexer.proofs.integer.is_long.Lts as lts
 use Rattle.lexer.proofs.integer.suffix_at.Reads as suffix-at-reads
 use Rattle.lexer.proofs.run.byte_at.Reads as byte-at-reads
 
--- src/integer.rt:62:26
 suffix-at-requires : tie.Need-suffix-at-requires
 suffix-at-requires c κs = search needs
 
--- src/integer.rt:62:9
 byte-at-requires : tie.Need-byte-at-requires
 byte-at-requires c κs = search needs
 
--- src/integer.rt:59:1
 returns : tie.Need-returns
 returns c = rw (c .byte-at .ensures, c .before .suffix-at .ensures)
 

@@ -8,19 +8,15 @@ use Rattle.lexer.proofs.digits.whole.Reads as whole-reads
 use Rattle.lexer.proofs.integer.base.Reads as base-reads
 use Rattle.lexer.proofs.integer.integer_digits.Reads as integer-digits-reads
 
--- src/integer.rt:83:11
 integer-digits-requires : tie.Need-integer-digits-requires
 integer-digits-requires c κs = search needs
 
--- src/integer.rt:83:32
 base-requires : tie.Need-base-requires
 base-requires c κs = search needs
 
--- src/integer.rt:83:5
 whole-requires : tie.Need-whole-requires
 whole-requires c κs = search needs
 
--- src/integer.rt:80:1
 returns : tie.Need-returns
 returns c = rw (c .whole .ensures, c .before .base .ensures .0, c .before .before .integer-digits .ensures)
 

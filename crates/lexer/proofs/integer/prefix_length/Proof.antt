@@ -8,25 +8,20 @@ use Rattle.lexer.proofs.integer.prefix_length.Lts as lts
 use Rattle.lexer.proofs.digits.sign_length.Reads as sign-length-reads
 use Rattle.lexer.proofs.integer.is_hex.Reads as is-hex-reads
 
--- src/integer.rt:37:9
 sign-length-requires : tie.Need-sign-length-requires
 sign-length-requires c κs = search needs
 
--- src/integer.rt:38:8
 is-hex-requires : tie.Need-is-hex-requires
 is-hex-requires c κs = search needs
 
--- src/integer.rt:39:16
 add-result : tie.Need-add-result
 add-result c = search needs
 
--- src/integer.rt:39:9
 returns : tie.Need-returns
 returns c =
     let e = sym (c .before .is-hex .ensures) ∙ c .if1 .taken in
     (rw e (omega (arith, c .before .before .sign-length .ensures .0)), omega arith)
 
--- src/integer.rt:34:1
 returns-2 : tie.Need-returns-2
 returns-2 c =
     let e = sym (c .before .is-hex .ensures) ∙ c .if1 .left in

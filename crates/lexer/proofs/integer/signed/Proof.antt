@@ -5,38 +5,30 @@ use Rattle.lexer.proofs.integer.signed.Tie as tie
 use Rattle.lexer.proofs.integer.signed.Reads as reads
 use Rattle.lexer.proofs.integer.signed.Lts as lts
 
--- src/integer.rt:114:9
 returns : tie.Need-returns
 returns c = signed-zero (c .before .args .negative) (c .before .args .size) (c .if1 .taken)
 
--- src/integer.rt:117:17
 sub-n : tie.Need-sub-n
 sub-n c = search needs
 
--- src/integer.rt:119:22
 cast-result : tie.Need-cast-result
 cast-result c = search needs
 
--- src/integer.rt:119:13
 returns-2 : tie.Need-returns-2
 returns-2 c =
     signed-below (c .before .before .before .args .negative) (c .before .before .before .args .size) (c .before .if2 .taken) (c .before .before .if1 .left) (c .if3 .taken)
 
--- src/integer.rt:121:9
 returns-3 : tie.Need-returns-3
 returns-3 c =
     signed-beneath (c .before .before .before .args .negative) (c .before .before .before .args .size) (c .before .if2 .taken) (c .if3 .left)
 
--- src/integer.rt:124:16
 cast-result-2 : tie.Need-cast-result-2
 cast-result-2 c = search needs
 
--- src/integer.rt:124:9
 returns-4 : tie.Need-returns-4
 returns-4 c =
     signed-kept (c .before .before .before .args .negative) (c .before .before .before .args .size) (c .before .if2 .left) (c .if4 .taken)
 
--- src/integer.rt:110:1
 returns-5 : tie.Need-returns-5
 returns-5 c =
     signed-above (c .before .before .before .args .negative) (c .before .before .before .args .size) (c .before .if2 .left) (c .if4 .left)

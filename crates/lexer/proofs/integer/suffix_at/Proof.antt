@@ -6,19 +6,15 @@ use Rattle.lexer.proofs.integer.suffix_at.Lts as lts
 use Rattle.lexer.proofs.integer.integer_digits.Reads as integer-digits-reads
 use Rattle.lexer.proofs.integer.prefix_length.Reads as prefix-length-reads
 
--- src/integer.rt:53:9
 prefix-length-requires : tie.Need-prefix-length-requires
 prefix-length-requires c κs = search needs
 
--- src/integer.rt:54:9
 integer-digits-requires : tie.Need-integer-digits-requires
 integer-digits-requires c κs = search needs
 
--- src/integer.rt:55:5
 add-result : tie.Need-add-result
 add-result c = search needs
 
--- src/integer.rt:50:1
 returns : tie.Need-returns
 returns c = rw (c .before .prefix-length .ensures .0, c .integer-digits .ensures)
 

@@ -8,29 +8,23 @@ use Rattle.lexer.proofs.real.is_down.Reads as is-down-reads
 use Rattle.lexer.proofs.run.byte_at.Reads as byte-at-reads
 use Rattle.lexer.proofs.run.rest.Reads as rest-reads
 
--- src/real.rt:53:9
 byte-at-requires : tie.Need-byte-at-requires
 byte-at-requires c κs = search needs
 
--- src/real.rt:53:37
 is-down-requires : tie.Need-is-down-requires
 is-down-requires c κs = search needs
 
--- src/real.rt:54:9
 rest-requires : tie.Need-rest-requires
 rest-requires c κs = search needs
 
--- src/real.rt:54:9
 returns : tie.Need-returns
 returns c =
     let e = rw (c .before .before .before .byte-at .ensures, c .before .before .is-down .ensures) at (c .before .if1 .taken) in
     rw e (c .rest .ensures)
 
--- src/real.rt:56:5
 rest-requires-2 : tie.Need-rest-requires-2
 rest-requires-2 c κs = search needs
 
--- src/real.rt:50:1
 returns-2 : tie.Need-returns-2
 returns-2 c =
     let e = rw (c .before .before .before .byte-at .ensures, c .before .before .is-down .ensures) at (c .before .if1 .left) in

@@ -6,15 +6,12 @@ use Rattle.lexer.proofs.real.exponent_digits.Lts as lts
 use Rattle.lexer.proofs.digits.digits.Reads as digits-reads
 use Rattle.lexer.proofs.real.after_sign.Reads as after-sign-reads
 
--- src/real.rt:62:12
 after-sign-requires : tie.Need-after-sign-requires
 after-sign-requires c κs = search needs
 
--- src/real.rt:62:5
 digits-requires : tie.Need-digits-requires
 digits-requires c κs = search needs
 
--- src/real.rt:59:1
 returns : tie.Need-returns
 returns c = rw (c .digits .ensures, c .before .after-sign .ensures)
 

@@ -7,23 +7,18 @@ use Rattle.lexer.proofs.real.fraction_digits.Reads as fraction-digits-r
 use Rattle.lexer.proofs.real.from_point.Reads as from-point-reads
 use Rattle.lexer.proofs.run.rest.Reads as rest-reads
 
--- src/real.rt:39:9
 fraction-digits-requires : tie.Need-fraction-digits-requires
 fraction-digits-requires c κs = search needs
 
--- src/real.rt:41:15
 from-point-requires : tie.Need-from-point-requires
 from-point-requires c κs = search needs
 
--- src/real.rt:41:10
 rest-requires : tie.Need-rest-requires
 rest-requires c κs = search needs
 
--- src/real.rt:41:5
 rest-requires-2 : tie.Need-rest-requires-2
 rest-requires-2 c κs = search needs
 
--- src/real.rt:36:1
 returns : tie.Need-returns
 returns c =
     rw (c .rest2 .ensures, c .before .rest .ensures, c .before .before .from-point .ensures, c .before .before .before .fraction-digits .ensures)

@@ -6,15 +6,12 @@ use Rattle.lexer.proofs.real.fraction_digits.Lts as lts
 use Rattle.lexer.proofs.digits.digits.Reads as digits-reads
 use Rattle.lexer.proofs.real.from_point.Reads as from-point-reads
 
--- src/real.rt:33:12
 from-point-requires : tie.Need-from-point-requires
 from-point-requires c κs = search needs
 
--- src/real.rt:33:5
 digits-requires : tie.Need-digits-requires
 digits-requires c κs = search needs
 
--- src/real.rt:30:1
 returns : tie.Need-returns
 returns c = rw (c .digits .ensures, c .before .from-point .ensures)
 

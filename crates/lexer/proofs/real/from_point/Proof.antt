@@ -7,23 +7,18 @@ use Rattle.lexer.proofs.digits.sign_length.Reads as sign-length-reads
 use Rattle.lexer.proofs.real.whole_digits.Reads as whole-digits-reads
 use Rattle.lexer.proofs.run.rest.Reads as rest-reads
 
--- src/real.rt:25:9
 whole-digits-requires : tie.Need-whole-digits-requires
 whole-digits-requires c κs = search needs
 
--- src/real.rt:27:20
 sign-length-requires : tie.Need-sign-length-requires
 sign-length-requires c κs = search needs
 
--- src/real.rt:27:10
 rest-requires : tie.Need-rest-requires
 rest-requires c κs = search needs
 
--- src/real.rt:27:5
 rest-requires-2 : tie.Need-rest-requires-2
 rest-requires-2 c κs = search needs
 
--- src/real.rt:22:1
 returns : tie.Need-returns
 returns c =
     rw (c .rest2 .ensures, c .before .rest .ensures, c .before .before .sign-length .ensures .0, c .before .before .before .whole-digits .ensures)

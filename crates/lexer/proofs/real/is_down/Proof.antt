@@ -5,11 +5,9 @@ use Rattle.lexer.proofs.real.is_down.Reads as reads
 use Rattle.lexer.proofs.real.is_down.Lts as lts
 use Rattle.lexer.proofs.run.byte_at.Reads as byte-at-reads
 
--- src/real.rt:47:5
 byte-at-requires : tie.Need-byte-at-requires
 byte-at-requires c κs = search needs
 
--- src/real.rt:44:1
 returns : tie.Need-returns
 returns c = rw (c .byte-at .ensures)
 

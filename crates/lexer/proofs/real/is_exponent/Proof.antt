@@ -8,23 +8,18 @@ use Rattle.lexer.proofs.real.exponent_digits.Reads as exponent-digits-r
 use Rattle.lexer.proofs.run.byte_at.Reads as byte-at-reads
 use Rattle.lexer.proofs.run.rest.Reads as rest-reads
 
--- src/real.rt:68:9
 byte-at-requires : tie.Need-byte-at-requires
 byte-at-requires c κs = search needs
 
--- src/real.rt:69:9
 exponent-digits-requires : tie.Need-exponent-digits-requires
 exponent-digits-requires c κs = search needs
 
--- src/real.rt:71:21
 after-sign-requires : tie.Need-after-sign-requires
 after-sign-requires c κs = search needs
 
--- src/real.rt:71:9
 rest-requires : tie.Need-rest-requires
 rest-requires c κs = search needs
 
--- src/real.rt:65:1
 returns : tie.Need-returns
 returns c =
     rw (c .before .before .before .byte-at .ensures, c .rest .ensures, c .before .after-sign .ensures, c .before .before .exponent-digits .ensures)

@@ -10,31 +10,24 @@ use Rattle.lexer.proofs.real.is_exponent.Reads as is-exponent-reads
 use Rattle.lexer.proofs.real.whole_digits.Reads as whole-digits-reads
 use Rattle.lexer.proofs.run.byte_at.Reads as byte-at-reads
 
--- src/real.rt:78:9
 whole-digits-requires : tie.Need-whole-digits-requires
 whole-digits-requires c κs = search needs
 
--- src/real.rt:79:25
 from-point-requires : tie.Need-from-point-requires
 from-point-requires c κs = search needs
 
--- src/real.rt:79:9
 byte-at-requires : tie.Need-byte-at-requires
 byte-at-requires c κs = search needs
 
--- src/real.rt:80:9
 fraction-digits-requires : tie.Need-fraction-digits-requires
 fraction-digits-requires c κs = search needs
 
--- src/real.rt:81:9
 exponent-part-requires : tie.Need-exponent-part-requires
 exponent-part-requires c κs = search needs
 
--- src/real.rt:82:91
 is-exponent-requires : tie.Need-is-exponent-requires
 is-exponent-requires c κs = search needs
 
--- src/real.rt:75:1
 returns : tie.Need-returns
 returns c =
     rw (c .is-exponent .ensures, c .before .exponent-part .ensures, c .before .before .fraction-digits .ensures, c .before .before .before .byte-at .ensures, c .before .before .before .before .from-point .ensures, c .before .before .before .before .before .whole-digits .ensures)

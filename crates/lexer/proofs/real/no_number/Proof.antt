@@ -6,7 +6,6 @@ use Rattle.lexer.proofs.real.no_number.Tie as tie
 use Rattle.lexer.proofs.real.no_number.Reads as reads
 use Rattle.lexer.proofs.real.no_number.Lts as lts
 
--- src/real.rt:138:1
 returns : tie.Need-returns
 unfolding div ofBits
 returns c = refl

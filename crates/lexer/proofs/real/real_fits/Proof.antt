@@ -14,29 +14,23 @@ use Rattle.lexer.proofs.real.exponent_part.Reads as exponent-part-reads
 use Rattle.lexer.proofs.real.scale.Reads as scale-reads
 use Rattle.lexer.proofs.real.significand.Reads as significand-reads
 
--- src/real.rt:130:29
 exponent-part-requires : tie.Need-exponent-part-requires
 exponent-part-requires c κs = search needs
 
--- src/real.rt:130:9
 exponent-digits-requires : tie.Need-exponent-digits-requires
 exponent-digits-requires c κs = search needs
 
--- src/real.rt:132:9
 returns : tie.Need-returns
 returns c =
     let h = rw (c .before .exponent-digits .ensures, c .before .before .exponent-part .ensures) at (c .if1 .taken) in
     rw (lt-leb _ 3 h)
 
--- src/real.rt:134:9
 scale-requires : tie.Need-scale-requires
 scale-requires c κs = (rw (c .before .exponent-digits .ensures, c .before .before .exponent-part .ensures) at (c .if1 .left))
 
--- src/real.rt:135:23
 significand-requires : tie.Need-significand-requires
 significand-requires c κs = search needs
 
--- src/real.rt:127:1
 returns-2 : tie.Need-returns-2
 returns-2 c =
     let run = c .before .before .before .before .before .before .before .args .run .now in

@@ -14,40 +14,32 @@ use Rattle.lexer.proofs.real.scale.Reads as scale-reads
 use Rattle.lexer.proofs.real.significand.Reads as significand-reads
 use Rattle.number.proofs.decimal.Reads as decimal-reads
 
--- src/real.rt:148:9
 real-fits-requires : tie.Need-real-fits-requires
 real-fits-requires c κs = search needs
 
--- src/real.rt:149:9
 no-number-requires : tie.Need-no-number-requires
 no-number-requires c κs = search needs
 
--- src/real.rt:149:9
 returns : tie.Need-returns
 returns c =
     let e = sym (c .before .before .real-fits .ensures) ∙ not-true _ (c .before .if1 .taken) in
     rw e (c .no-number .ensures)
 
--- src/real.rt:151:9
 scale-requires : tie.Need-scale-requires
 scale-requires c κs =
     let run = c .before .before .before .args .run .now in
     let e = sym (c .before .real-fits .ensures) ∙ not-false _ (c .if1 .left) in
     fits-parts run e .0
 
--- src/real.rt:152:21
 significand-requires : tie.Need-significand-requires
 significand-requires c κs = search needs
 
--- src/real.rt:152:55
 is-minus-requires : tie.Need-is-minus-requires
 is-minus-requires c κs = search needs
 
--- src/real.rt:152:5
 decimal-requires : tie.Need-decimal-requires
 decimal-requires c κs = search needs
 
--- src/real.rt:145:1
 returns-2 : tie.Need-returns-2
 returns-2 c =
     let run = c .before .before .before .before .before .before .before .args .run .now in

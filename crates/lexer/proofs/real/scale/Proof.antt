@@ -26,31 +26,24 @@ small c =
     let e = rw (c .before .exponent-digits .ensures, c .before .before .exponent-part .ensures) at (c .whole .ensures) in
     (e ∙ t .0, omega (arith, e, t .0, t .1))
 
--- src/real.rt:103:9
 exponent-part-requires : tie.Need-exponent-part-requires
 exponent-part-requires c κs = search needs
 
--- src/real.rt:104:19
 exponent-digits-requires : tie.Need-exponent-digits-requires
 exponent-digits-requires c κs = search needs
 
--- src/real.rt:104:9
 whole-requires : tie.Need-whole-requires
 whole-requires c κs = search needs
 
--- src/real.rt:105:9
 fraction-digits-requires : tie.Need-fraction-digits-requires
 fraction-digits-requires c κs = search needs
 
--- src/real.rt:107:8
 is-down-requires : tie.Need-is-down-requires
 is-down-requires c κs = search needs
 
--- src/real.rt:108:20
 add-size : tie.Need-add-size
 add-size c = omega (arith, small (c .before .before .before))
 
--- src/real.rt:109:9
 returns : tie.Need-returns
 returns c =
     let run = c .before .before .before .before .before .before .before .args .run .now in
@@ -59,11 +52,9 @@ returns c =
     let d = sym (rw (c .before .before .before .before .before .exponent-part .ensures) at (c .before .is-down .ensures)) ∙ c .if1 .taken in
     scale-down (isDown (exponentPart run)) (wholeOf 10 (exponentDigits (exponentPart run))) (length (fractionDigits run)) _ _ x n d
 
--- src/real.rt:116:19
 sub-t12 : tie.Need-sub-t12
 sub-t12 c = search needs
 
--- src/real.rt:115:9
 returns-2 : tie.Need-returns-2
 returns-2 c =
     let run = c .before .before .before .before .before .before .before .before .args .run .now in
@@ -72,7 +63,6 @@ returns-2 c =
     let d = sym (rw (c .before .before .before .before .before .before .exponent-part .ensures) at (c .before .before .is-down .ensures)) ∙ c .before .if1 .left in
     scale-below (isDown (exponentPart run)) (wholeOf 10 (exponentDigits (exponentPart run))) (length (fractionDigits run)) _ _ x n d (c .if2 .taken)
 
--- src/real.rt:99:1
 returns-3 : tie.Need-returns-3
 returns-3 c =
     let run = c .before .before .before .before .before .before .before .before .args .run .now in

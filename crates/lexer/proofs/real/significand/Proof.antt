@@ -12,23 +12,18 @@ use Rattle.lexer.proofs.digits.whole.Reads as whole-reads
 use Rattle.lexer.proofs.real.fraction_digits.Reads as fraction-digits-reads
 use Rattle.lexer.proofs.real.whole_digits.Reads as whole-digits-reads
 
--- src/real.rt:89:11
 fraction-digits-requires : tie.Need-fraction-digits-requires
 fraction-digits-requires c κs = search needs
 
--- src/real.rt:89:43
 whole-digits-requires : tie.Need-whole-digits-requires
 whole-digits-requires c κs = search needs
 
--- src/real.rt:89:37
 whole-requires : tie.Need-whole-requires
 whole-requires c κs = search needs
 
--- src/real.rt:89:5
 whole-requires-2 : tie.Need-whole-requires-2
 whole-requires-2 c κs = search needs
 
--- src/real.rt:86:1
 returns : tie.Need-returns
 returns c =
     let run = c .before .before .before .before .before .args .run .now in

@@ -6,15 +6,12 @@ use Rattle.lexer.proofs.real.whole_digits.Lts as lts
 use Rattle.lexer.proofs.digits.digits.Reads as digits-reads
 use Rattle.lexer.proofs.digits.sign_length.Reads as sign-length-reads
 
--- src/real.rt:19:17
 sign-length-requires : tie.Need-sign-length-requires
 sign-length-requires c κs = search needs
 
--- src/real.rt:19:5
 digits-requires : tie.Need-digits-requires
 digits-requires c κs = search needs
 
--- src/real.rt:16:1
 returns : tie.Need-returns
 returns c = rw (c .digits .ensures, c .before .sign-length .ensures .0)
 

@@ -6,15 +6,12 @@ use Rattle.lexer.proofs.run.body.Lts as lts
 use Rattle.lexer.proofs.run.byte_at.Reads as byte-at-reads
 use Rattle.lexer.proofs.run.run.Reads as run-reads
 
--- src/run.rt:74:15
 byte-at-requires : tie.Need-byte-at-requires
 byte-at-requires c κs = search needs
 
--- src/run.rt:74:5
 run-requires : tie.Need-run-requires
 run-requires c κs = search needs
 
--- src/run.rt:71:1
 returns : tie.Need-returns
 returns c = rw (c .run .ensures, c .before .byte-at .ensures)
 

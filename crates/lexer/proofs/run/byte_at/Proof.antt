@@ -5,15 +5,12 @@ use Rattle.lexer.proofs.run.byte_at.Tie as tie
 use Rattle.lexer.proofs.run.byte_at.Reads as reads
 use Rattle.lexer.proofs.run.byte_at.Lts as lts
 
--- src/run.rt:15:23
 shared-slice-read-result : tie.Need-shared-slice-read-result
 shared-slice-read-result c = search needs
 
--- src/run.rt:12:1
 returns : tie.Need-returns
 returns c = search needs
 
--- src/run.rt:12:1
 returns-2 : tie.Need-returns-2
 returns-2 c = past-byte (c .before .args .s .now) (c .before .args .at) (c .if1 .left)
 

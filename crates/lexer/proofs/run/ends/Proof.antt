@@ -7,16 +7,13 @@ use Rattle.lexer.proofs.run.ends.Reads as reads
 use Rattle.lexer.proofs.run.ends.Lts as lts
 use Rattle.lexer.proofs.byte.is_delimiter.Reads as is-delimiter-reads
 
--- src/run.rt:41:9
 is-delimiter-requires : tie.Need-is-delimiter-requires
 is-delimiter-requires c κs = search needs
 
--- src/run.rt:41:9
 returns : tie.Need-returns
 returns c =
     c .is-delimiter .ensures ∙ ends-delimiter (c .before .before .args .quote) (c .before .before .args .b) (c .before .if1 .taken)
 
--- src/run.rt:37:1
 returns-2 : tie.Need-returns-2
 returns-2 c = ends-quote (c .before .args .quote) (c .before .args .b) (c .if1 .left)
 

@@ -16,33 +16,26 @@ Inv-loop run i₀ i = (i ≤ length run) × (hasEscape (drop i run) ≡ hasEscap
 abbrev μ-loop : tie.MeasureT-loop
 μ-loop run i₀ i = length run - i
 
--- src/run.rt:74:5
 loop-holds : tie.Need-loop-holds Inv-loop μ-loop
 loop-holds c = (omega arith, refl)
 
--- src/run.rt:75:12
 shared-slice-read-if1 : tie.Need-shared-slice-read-if1 Inv-loop μ-loop
 shared-slice-read-if1 c = search needs
 
--- src/run.rt:76:13
 returns : tie.Need-returns Inv-loop μ-loop
 returns c =
     escape-here (c .before .before .before .before .args .run .now) (c .before .before .before .loop .i) (omega arith) (c .if1 .taken) ∙ c .before .before .before .loop .inv .1
 
--- src/run.rt:78:9
 add-i : tie.Need-add-i Inv-loop μ-loop
 add-i c = search needs
 
--- src/run.rt:74:5
 loop-less : tie.Need-loop-less Inv-loop μ-loop
 loop-less c = search needs
 
--- src/run.rt:74:5
 loop-again : tie.Need-loop-again Inv-loop μ-loop
 loop-again c =
     (omega arith, escape-later (c .before .before .before .before .args .run .now) (c .before .before .before .loop .i) (omega arith) (c .if1 .left) ∙ c .before .before .before .loop .inv .1)
 
--- src/run.rt:70:1
 returns-2 : tie.Need-returns-2 Inv-loop μ-loop
 returns-2 c = no-escape (c .before .before .args .run .now) (c .before .loop .i) (omega arith) ∙ c .before .loop .inv .1
 

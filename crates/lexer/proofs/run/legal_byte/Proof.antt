@@ -5,15 +5,12 @@ use Rattle.lexer.proofs.run.legal_byte.Reads as reads
 use Rattle.lexer.proofs.run.legal_byte.Lts as lts
 use Rattle.lexer.proofs.byte.is_plain.Reads as is-plain-reads
 
--- src/run.rt:136:9
 returns : tie.Need-returns
 returns c = rw (c .if1 .taken)
 
--- src/run.rt:138:5
 is-plain-requires : tie.Need-is-plain-requires
 is-plain-requires c κs = search needs
 
--- src/run.rt:132:1
 returns-2 : tie.Need-returns-2
 returns-2 c = rw (c .before .if1 .left) (c .is-plain .ensures)
 

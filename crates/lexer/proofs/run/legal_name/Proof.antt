@@ -20,48 +20,38 @@ Inv-loop run taken₀ i₀ taken i = (i ≤ length run) × (legalName taken (dro
 abbrev μ-loop : tie.MeasureT-loop
 μ-loop run taken₀ i₀ taken i = length run - i
 
--- src/run.rt:146:5
 loop-holds : tie.Need-loop-holds Inv-loop μ-loop
 loop-holds c = (omega arith, refl)
 
--- src/run.rt:147:31
 shared-slice-read-legal-byte : tie.Need-shared-slice-read-legal-byte Inv-loop μ-loop
 shared-slice-read-legal-byte c = search needs
 
--- src/run.rt:147:13
 legal-byte-requires : tie.Need-legal-byte-requires Inv-loop μ-loop
 legal-byte-requires c κs = search needs
 
--- src/run.rt:148:13
 returns : tie.Need-returns Inv-loop μ-loop
 returns c =
     let e = not-true _ (c .if1 .taken) in
     illegal (c .before .before .before .before .before .before .args .run .now) (c .before .before .before .before .loop .i) (omega arith) (c .before .before .before .before .loop .taken) (sym (c .before .legal-byte .ensures) ∙ e) ∙ c .before .before .before .before .loop .inv .1
 
--- src/run.rt:150:30
 shared-slice-read-takes : tie.Need-shared-slice-read-takes Inv-loop μ-loop
 shared-slice-read-takes c = search needs
 
--- src/run.rt:150:9
 takes-requires : tie.Need-takes-requires Inv-loop μ-loop
 takes-requires c κs = search needs
 
--- src/run.rt:151:9
 add-i : tie.Need-add-i Inv-loop μ-loop
 add-i c = search needs
 
--- src/run.rt:146:5
 loop-less : tie.Need-loop-less Inv-loop μ-loop
 loop-less c = search needs
 
--- src/run.rt:146:5
 loop-again : tie.Need-loop-again Inv-loop μ-loop
 loop-again c =
     let e = not-false _ (c .before .before .if1 .left) in
     let m = legal-so-far (c .before .before .before .before .before .before .before .before .args .run .now) (c .before .before .before .before .before .before .loop .i) (omega arith) (c .before .before .before .before .before .before .loop .taken) (sym (c .before .before .before .legal-byte .ensures) ∙ e) in
     (omega arith, rw (c .takes .ensures) (m ∙ c .before .before .before .before .before .before .loop .inv .1))
 
--- src/run.rt:141:1
 returns-2 : tie.Need-returns-2 Inv-loop μ-loop
 returns-2 c =
     legal-end (c .before .before .before .args .run .now) (c .before .loop .i) (omega arith) (c .before .loop .taken) ∙ c .before .loop .inv .1

@@ -6,19 +6,15 @@ use Rattle.lexer.proofs.run.put.Tie as tie
 use Rattle.lexer.proofs.run.put.Reads as reads
 use Rattle.lexer.proofs.run.put.Lts as lts
 
--- src/run.rt:107:9
 slice-write-part : tie.Need-slice-write-part
 slice-write-part c = search needs
 
--- src/run.rt:103:1
 same-length : tie.Need-same-length
 same-length c = search needs
 
--- src/run.rt:103:1
 returns : tie.Need-returns
 returns c = search needs
 
--- src/run.rt:103:1
 returns-2 : tie.Need-returns-2
 returns-2 c = sym (set-out (c .before .args .part .now) (c .before .args .at) (c .before .args .b) (c .if1 .left))
 

@@ -5,31 +5,24 @@ use Rattle.lexer.proofs.run.rest.Tie as tie
 use Rattle.lexer.proofs.run.rest.Reads as reads
 use Rattle.lexer.proofs.run.rest.Lts as lts
 
--- src/run.rt:24:16
 sub-result : tie.Need-sub-result
 sub-result c = search needs
 
--- src/run.rt:24:16
 part-result-start : tie.Need-part-result-start
 part-result-start c = search needs
 
--- src/run.rt:24:16
 part-result-end : tie.Need-part-result-end
 part-result-end c = search needs
 
--- src/run.rt:24:9
 returns : tie.Need-returns
 returns c = past-part (c .before .before .args .s .now) (c .before .before .args .at) (c .before .if1 .taken)
 
--- src/run.rt:26:5
 part-result-start-2 : tie.Need-part-result-start-2
 part-result-start-2 c = search needs
 
--- src/run.rt:26:5
 part-result-end-2 : tie.Need-part-result-end-2
 part-result-end-2 c = search needs
 
--- src/run.rt:19:1
 returns-2 : tie.Need-returns-2
 returns-2 c = to-end (c .before .before .args .s .now) (c .before .before .args .at)
 

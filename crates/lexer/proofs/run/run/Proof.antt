@@ -11,30 +11,24 @@ use Rattle.lexer.proofs.run.run.Lts as lts
 use Rattle.lexer.proofs.run.rest.Reads as rest-reads
 use Rattle.lexer.proofs.run.run_length.Reads as run-length-reads
 
--- src/run.rt:65:9
 rest-requires : tie.Need-rest-requires
 rest-requires c κs = search needs
 
--- src/run.rt:66:9
 run-length-requires : tie.Need-run-length-requires
 run-length-requires c κs = search needs
 
--- src/run.rt:67:5
 sub-result : tie.Need-sub-result
 sub-result c = search needs
 
--- src/run.rt:67:5
 part-result-start : tie.Need-part-result-start
 part-result-start c = search needs
 
--- src/run.rt:67:5
 part-result-end : tie.Need-part-result-end
 part-result-end c =
     let s = c .before .rest .result .now in
     let q = c .before .before .before .args .quote in
     omega (arith, first-fits (runOf q s) s (run-first q false s), c .run-length .ensures)
 
--- src/run.rt:62:1
 returns : tie.Need-returns
 returns c =
     let s = c .before .before .rest .result .now in

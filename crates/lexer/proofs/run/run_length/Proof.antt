@@ -19,47 +19,37 @@ Inv-loop s quote taken₀ i₀ taken i = (i ≤ length s) × (i + length (runFro
 abbrev μ-loop : tie.MeasureT-loop
 μ-loop s quote taken₀ i₀ taken i = length s - i
 
--- src/run.rt:51:5
 loop-holds : tie.Need-loop-holds Inv-loop μ-loop
 loop-holds c = (omega arith, omega arith)
 
--- src/run.rt:52:35
 shared-slice-read-ends : tie.Need-shared-slice-read-ends Inv-loop μ-loop
 shared-slice-read-ends c = search needs
 
--- src/run.rt:52:23
 ends-requires : tie.Need-ends-requires Inv-loop μ-loop
 ends-requires c κs = search needs
 
--- src/run.rt:53:13
 returns : tie.Need-returns Inv-loop μ-loop
 returns c =
     let z = run-stop (c .before .before .before .before .before .before .args .s .now) (c .before .before .before .before .loop .i) (omega arith) (c .before .before .before .before .before .before .args .quote) (c .before .before .before .before .loop .taken) (rw (c .before .ends .ensures) at (c .if1 .taken)) in
     omega (arith, z, c .before .before .before .before .loop .inv .1)
 
--- src/run.rt:55:30
 shared-slice-read-takes : tie.Need-shared-slice-read-takes Inv-loop μ-loop
 shared-slice-read-takes c = search needs
 
--- src/run.rt:55:9
 takes-requires : tie.Need-takes-requires Inv-loop μ-loop
 takes-requires c κs = search needs
 
--- src/run.rt:56:9
 add-i : tie.Need-add-i Inv-loop μ-loop
 add-i c = search needs
 
--- src/run.rt:51:5
 loop-less : tie.Need-loop-less Inv-loop μ-loop
 loop-less c = search needs
 
--- src/run.rt:51:5
 loop-again : tie.Need-loop-again Inv-loop μ-loop
 loop-again c =
     let m = run-more (c .before .before .before .before .before .before .before .before .args .s .now) (c .before .before .before .before .before .before .loop .i) (omega arith) (c .before .before .before .before .before .before .before .before .args .quote) (c .before .before .before .before .before .before .loop .taken) (rw (c .before .before .before .ends .ensures) at (c .before .before .if1 .left)) in
     (omega arith, rw (c .takes .ensures) (omega (arith, m, c .before .before .before .before .before .before .loop .inv .1)))
 
--- src/run.rt:46:1
 returns-2 : tie.Need-returns-2 Inv-loop μ-loop
 returns-2 c =
     let z = run-end (c .before .before .before .args .s .now) (c .before .loop .i) (omega arith) (c .before .before .before .args .quote) (c .before .loop .taken) in

@@ -21,57 +21,45 @@ Inv-loop run part₀ n₀ taken₀ i₀ part n taken i =
 abbrev μ-loop : tie.MeasureT-loop
 μ-loop run part₀ n₀ taken₀ i₀ part n taken i = length run - i
 
--- src/run.rt:118:5
 loop-holds : tie.Need-loop-holds Inv-loop μ-loop
 loop-holds c = (omega arith, omega arith, refl, refl)
 
--- src/run.rt:119:17
 shared-slice-read-b : tie.Need-shared-slice-read-b Inv-loop μ-loop
 shared-slice-read-b c = search needs
 
--- src/run.rt:120:9
 add-i : tie.Need-add-i Inv-loop μ-loop
 add-i c = search needs
 
--- src/run.rt:121:12
 takes-requires : tie.Need-takes-requires Inv-loop μ-loop
 takes-requires c κs = search needs
 
--- src/run.rt:118:5
 loop-less : tie.Need-loop-less Inv-loop μ-loop
 loop-less c = search needs
 
--- src/run.rt:118:5
 loop-again : tie.Need-loop-again Inv-loop μ-loop
 loop-again c =
     let l = c .before .before .before .before .loop in
     let d = dropped (c .before .before .before .before .before .before .before .args .run .now) (l .i) (omega arith) (l .taken) (sym (c .before .takes .ensures) ∙ c .if1 .taken) in
     (omega arith, omega arith, l .inv .2, rw d (l .inv .3))
 
--- src/run.rt:126:9
 put-requires : tie.Need-put-requires Inv-loop μ-loop
 put-requires c κs = search needs
 
--- src/run.rt:127:9
 add-n : tie.Need-add-n Inv-loop μ-loop
 add-n c = search needs
 
--- src/run.rt:118:5
 loop-less-2 : tie.Need-loop-less-2 Inv-loop μ-loop
 loop-less-2 c = search needs
 
--- src/run.rt:118:5
 loop-again-2 : tie.Need-loop-again-2 Inv-loop μ-loop
 loop-again-2 c =
     let l = c .before .before .before .before .before .before .before .before .loop in
     let p = c .before .before .put in
     (omega arith, omega arith, ap length (p .ensures) ∙ simp length-set (l .inv .2), copied (c .before .before .before .before .before .before .before .before .before .before .before .args .run .now) (l .i) (omega arith) (l .taken) (p .last .0) (l .part) (l .n) (sym (c .before .before .before .before .before .takes .ensures) ∙ c .before .before .before .before .if1 .left) (p .ensures) ∙ l .inv .3)
 
--- src/run.rt:112:1
 same-length : tie.Need-same-length Inv-loop μ-loop
 same-length c = search needs
 
--- src/run.rt:112:1
 returns : tie.Need-returns Inv-loop μ-loop
 returns c =
     let l = c .before .loop in

@@ -18,47 +18,37 @@ Inv-loop run n₀ taken₀ i₀ n taken i = (i ≤ length run) × (n ≤ i) × (
 abbrev μ-loop : tie.MeasureT-loop
 μ-loop run n₀ taken₀ i₀ n taken i = length run - i
 
--- src/run.rt:89:5
 loop-holds : tie.Need-loop-holds Inv-loop μ-loop
 loop-holds c = (omega arith, omega arith, omega arith)
 
--- src/run.rt:90:17
 shared-slice-read-b : tie.Need-shared-slice-read-b Inv-loop μ-loop
 shared-slice-read-b c = search needs
 
--- src/run.rt:91:9
 add-i : tie.Need-add-i Inv-loop μ-loop
 add-i c = search needs
 
--- src/run.rt:92:12
 takes-requires : tie.Need-takes-requires Inv-loop μ-loop
 takes-requires c κs = search needs
 
--- src/run.rt:89:5
 loop-less : tie.Need-loop-less Inv-loop μ-loop
 loop-less c = search needs
 
--- src/run.rt:89:5
 loop-again : tie.Need-loop-again Inv-loop μ-loop
 loop-again c =
     let d = dropped (c .before .before .before .before .before .before .args .run .now) (c .before .before .before .before .loop .i) (omega arith) (c .before .before .before .before .loop .taken) (sym (c .before .takes .ensures) ∙ c .if1 .taken) in
     (omega arith, omega arith, omega (arith, ap length d, c .before .before .before .before .loop .inv .2))
 
--- src/run.rt:97:9
 add-n : tie.Need-add-n Inv-loop μ-loop
 add-n c = search needs
 
--- src/run.rt:89:5
 loop-less-2 : tie.Need-loop-less-2 Inv-loop μ-loop
 loop-less-2 c = search needs
 
--- src/run.rt:89:5
 loop-again-2 : tie.Need-loop-again-2 Inv-loop μ-loop
 loop-again-2 c =
     let d = kept (c .before .before .before .before .before .before .args .run .now) (c .before .before .before .before .loop .i) (omega arith) (c .before .before .before .before .loop .taken) (sym (c .before .takes .ensures) ∙ c .if1 .left) in
     (omega arith, omega arith, omega (arith, ap length d, c .before .before .before .before .loop .inv .2))
 
--- src/run.rt:83:1
 returns : tie.Need-returns Inv-loop μ-loop
 returns c =
     let z = unescaped-end (c .before .before .before .args .run .now) (c .before .loop .i) (omega arith) (c .before .loop .taken) in

@@ -5,27 +5,21 @@ use Rattle.lexer.proofs.symbol.doubled.Tie as tie
 use Rattle.lexer.proofs.symbol.doubled.Reads as reads
 use Rattle.lexer.proofs.symbol.doubled.Lts as lts
 
--- src/symbol.rt:31:1
 returns : tie.Need-returns
 returns c = rw (c .match .keys1)
 
--- src/symbol.rt:31:1
 returns-2 : tie.Need-returns-2
 returns-2 c = rw (c .match .keys2)
 
--- src/symbol.rt:31:1
 returns-3 : tie.Need-returns-3
 returns-3 c = rw (c .match .keys3)
 
--- src/symbol.rt:31:1
 returns-4 : tie.Need-returns-4
 returns-4 c = rw (c .match .keys4)
 
--- src/symbol.rt:31:1
 returns-5 : tie.Need-returns-5
 returns-5 c = rw (c .match .keys5)
 
--- src/symbol.rt:31:1
 returns-6 : tie.Need-returns-6
 returns-6 c =
     let a = c .before .args .a in

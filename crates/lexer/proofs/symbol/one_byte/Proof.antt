@@ -5,67 +5,51 @@ use Rattle.lexer.proofs.symbol.one_byte.Tie as tie
 use Rattle.lexer.proofs.symbol.one_byte.Reads as reads
 use Rattle.lexer.proofs.symbol.one_byte.Lts as lts
 
--- src/symbol.rt:56:1
 returns : tie.Need-returns
 returns c = rw (c .match .keys1)
 
--- src/symbol.rt:56:1
 returns-2 : tie.Need-returns-2
 returns-2 c = rw (c .match .keys2)
 
--- src/symbol.rt:56:1
 returns-3 : tie.Need-returns-3
 returns-3 c = rw (c .match .keys3)
 
--- src/symbol.rt:56:1
 returns-4 : tie.Need-returns-4
 returns-4 c = rw (c .match .keys4)
 
--- src/symbol.rt:56:1
 returns-5 : tie.Need-returns-5
 returns-5 c = rw (c .match .keys5)
 
--- src/symbol.rt:56:1
 returns-6 : tie.Need-returns-6
 returns-6 c = rw (c .match .keys6)
 
--- src/symbol.rt:56:1
 returns-7 : tie.Need-returns-7
 returns-7 c = rw (c .match .keys7)
 
--- src/symbol.rt:56:1
 returns-8 : tie.Need-returns-8
 returns-8 c = rw (c .match .keys8)
 
--- src/symbol.rt:56:1
 returns-9 : tie.Need-returns-9
 returns-9 c = rw (c .match .keys9)
 
--- src/symbol.rt:56:1
 returns-10 : tie.Need-returns-10
 returns-10 c = rw (c .match .keys10)
 
--- src/symbol.rt:56:1
 returns-11 : tie.Need-returns-11
 returns-11 c = rw (c .match .keys11)
 
--- src/symbol.rt:56:1
 returns-12 : tie.Need-returns-12
 returns-12 c = rw (c .match .keys12)
 
--- src/symbol.rt:56:1
 returns-13 : tie.Need-returns-13
 returns-13 c = rw (c .match .keys13)
 
--- src/symbol.rt:56:1
 returns-14 : tie.Need-returns-14
 returns-14 c = rw (c .match .keys14)
 
--- src/symbol.rt:56:1
 returns-15 : tie.Need-returns-15
 returns-15 c = rw (c .match .keys15)
 
--- src/symbol.rt:56:1
 returns-16 : tie.Need-returns-16
 returns-16 c =
     let a = c .before .args .a in

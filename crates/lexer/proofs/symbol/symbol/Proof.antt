@@ -10,32 +10,26 @@ use Rattle.lexer.proofs.symbol.one_byte.Reads as one-byte-reads
 use Rattle.lexer.proofs.symbol.three_bytes.Reads as three-bytes-reads
 use Rattle.lexer.proofs.symbol.two_bytes.Reads as two-bytes-reads
 
--- src/symbol.rt:83:9
 three-bytes-requires : tie.Need-three-bytes-requires
 three-bytes-requires c κs = search needs
 
--- src/symbol.rt:85:9
 returns : tie.Need-returns
 returns c =
     let a = c .before .before .args in
     first-is (threeBytes (a .a) (a .b) (a .c)) (firstOf (twoBytes (a .a) (a .b)) (oneByte (a .a))) _ (c .before .three-bytes .ensures) (c .if1 .taken)
 
--- src/symbol.rt:87:9
 two-bytes-requires : tie.Need-two-bytes-requires
 two-bytes-requires c κs = search needs
 
--- src/symbol.rt:89:9
 returns-2 : tie.Need-returns-2
 returns-2 c =
     let a = c .before .before .before .before .args in
     first-is (twoBytes (a .a) (a .b)) (oneByte (a .a)) _ (c .before .two-bytes .ensures) (c .if2 .taken)
     ∙ first-not (threeBytes (a .a) (a .b) (a .c)) (firstOf (twoBytes (a .a) (a .b)) (oneByte (a .a))) _ (c .before .before .before .three-bytes .ensures) (c .before .before .if1 .left)
 
--- src/symbol.rt:91:5
 one-byte-requires : tie.Need-one-byte-requires
 one-byte-requires c κs = search needs
 
--- src/symbol.rt:80:1
 returns-3 : tie.Need-returns-3
 returns-3 c =
     let a = c .before .before .before .before .before .args in

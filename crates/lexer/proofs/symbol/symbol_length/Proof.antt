@@ -8,29 +8,24 @@ use Rattle.lexer.proofs.symbol.symbol_length.Lts as lts
 use Rattle.lexer.proofs.symbol.three_bytes.Reads as three-bytes-reads
 use Rattle.lexer.proofs.symbol.two_bytes.Reads as two-bytes-reads
 
--- src/symbol.rt:97:8
 three-bytes-requires : tie.Need-three-bytes-requires
 three-bytes-requires c κs = search needs
 
--- src/symbol.rt:98:12
 two-bytes-requires : tie.Need-two-bytes-requires
 two-bytes-requires c κs = search needs
 
--- src/symbol.rt:99:13
 returns : tie.Need-returns
 returns c =
     let e = rw (c .before .before .before .three-bytes .ensures) at (eq-eqb (c .before .before .before .three-bytes .result) 0 (c .before .before .if1 .taken)) in
     let f = rw (c .before .two-bytes .ensures) at (eq-eqb (c .before .two-bytes .result) 0 (c .if2 .taken)) in
     rw (e, f)
 
--- src/symbol.rt:101:9
 returns-2 : tie.Need-returns-2
 returns-2 c =
     let e = rw (c .before .before .before .three-bytes .ensures) at (eq-eqb (c .before .before .before .three-bytes .result) 0 (c .before .before .if1 .taken)) in
     let f = rw (c .before .two-bytes .ensures) at (ne-eqb (c .before .two-bytes .result) 0 (c .if2 .left)) in
     rw (e, f)
 
--- src/symbol.rt:94:1
 returns-3 : tie.Need-returns-3
 returns-3 c =
     let e = rw (c .before .three-bytes .ensures) at (ne-eqb (c .before .three-bytes .result) 0 (c .if1 .left)) in

@@ -4,11 +4,9 @@ use Rattle.lexer.proofs.symbol.three_bytes.Tie as tie
 use Rattle.lexer.proofs.symbol.three_bytes.Reads as reads
 use Rattle.lexer.proofs.symbol.three_bytes.Lts as lts
 
--- src/symbol.rt:7:1
 returns : tie.Need-returns
 returns c = rw (c .if1 .taken)
 
--- src/symbol.rt:7:1
 returns-2 : tie.Need-returns-2
 returns-2 c = rw (c .if1 .left)
 

@@ -8,24 +8,19 @@ use Rattle.lexer.proofs.symbol.two_bytes.Lts as lts
 use Rattle.lexer.proofs.symbol.doubled.Reads as doubled-reads
 use Rattle.lexer.proofs.symbol.with_equal.Reads as with-equal-reads
 
--- src/symbol.rt:48:9
 with-equal-requires : tie.Need-with-equal-requires
 with-equal-requires c κs = search needs
 
--- src/symbol.rt:48:9
 returns : tie.Need-returns
 returns c = let a = c .before .before .args in rw (eq-eqb (a .b) 61 (c .before .if1 .taken)) (c .with-equal .ensures)
 
--- src/symbol.rt:51:9
 doubled-requires : tie.Need-doubled-requires
 doubled-requires c κs = search needs
 
--- src/symbol.rt:51:9
 returns-2 : tie.Need-returns-2
 returns-2 c =
     let a = c .before .before .before .args in rw (ne-eqb (a .b) 61 (c .before .before .if1 .left), eq-eqb (a .a) (a .b) (c .before .if2 .taken)) (c .doubled .ensures)
 
--- src/symbol.rt:44:1
 returns-3 : tie.Need-returns-3
 returns-3 c =
     let a = c .before .before .args in rw (ne-eqb (a .b) 61 (c .before .if1 .left), ne-eqb (a .a) (a .b) (c .if2 .left))

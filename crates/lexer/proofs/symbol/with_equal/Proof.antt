@@ -5,23 +5,18 @@ use Rattle.lexer.proofs.symbol.with_equal.Tie as tie
 use Rattle.lexer.proofs.symbol.with_equal.Reads as reads
 use Rattle.lexer.proofs.symbol.with_equal.Lts as lts
 
--- src/symbol.rt:18:1
 returns : tie.Need-returns
 returns c = rw (c .match .keys1)
 
--- src/symbol.rt:18:1
 returns-2 : tie.Need-returns-2
 returns-2 c = rw (c .match .keys2)
 
--- src/symbol.rt:18:1
 returns-3 : tie.Need-returns-3
 returns-3 c = rw (c .match .keys3)
 
--- src/symbol.rt:18:1
 returns-4 : tie.Need-returns-4
 returns-4 c = rw (c .match .keys4)
 
--- src/symbol.rt:18:1
 returns-5 : tie.Need-returns-5
 returns-5 c =
     let a = c .before .args .a in
