@@ -1,6 +1,10 @@
 // Notices: layout, lookup by name, reading and writing. Document 01, "Notice".
 ghost use mathlib.Core.Path.{_≡_};
-ghost use Rattle.notice.specs.Field.{nameRight};
+ghost use Prim.Native.Nat.{_+_, _≤_, _<_};
+ghost use mathlib.Core.List.{[]};
+ghost use lib.ListN.{length};
+ghost use Rattle.notice.specs.Field.{nameRight, sizeRight};
+ghost use Rattle.notice.specs.Layout.{sizeAt, nameSizeAt, liesAt, rightAt, headerRight, countOf, checkFrom, checkOf};
 
 // "u8 name length 1..64; name (bytes 32..126)"
 pub fn name_right(name: &[u8]) -> bool
@@ -24,4 +28,132 @@ pub fn name_right(name: &[u8]) -> bool
         i += 1;
     }
     true
+}
+
+// A notice is well-formed, or its first fault is at a place.
+pub enum Layout {
+    WellFormed,
+    Fault(usize),
+}
+
+// "Kinds: 1 int32 (4 bytes), 2 int64 (8), 3 real64 (8, bits), 4 string, 5 opaque (each 0..1,024)."
+pub fn size_right(kind: u16, size: usize) -> bool
+    ensures { λ r. ⌜ r ≡ sizeRight kind size ⌝ }
+{
+    match kind {
+        1 => size == 4,
+        2 => size == 8,
+        3 => size == 8,
+        4 => size <= 1024,
+        5 => size <= 1024,
+        _ => false,
+    }
+}
+
+// The field's length word, and the length of its name. The callers have tested that the bytes are there.
+fn field_size(notice: &[u8], at: usize) -> usize
+    requires { ⌜ at + 2 ≤ length (now notice) ⌝ }
+    ensures { λ r. ⌜ (r ≡ sizeAt (now (notice .entry)) at) × (r < 65536) ⌝ }
+{
+    word::read_u16(notice, at) as usize
+}
+
+fn name_size(notice: &[u8], at: usize) -> usize
+    requires { ⌜ at + 4 < length (now notice) ⌝ }
+    ensures { λ r. ⌜ (r ≡ nameSizeAt (now (notice .entry)) at) × (r < 256) ⌝ }
+{
+    notice[at + 4] as usize
+}
+
+// Whether the field at `at` lies within the notice.
+fn lies(notice: &[u8], at: usize) -> bool
+    requires { ⌜ at ≤ length (now notice) ⌝ }
+    ensures { λ r. ⌜ r ≡ liesAt (now (notice .entry)) at ⌝ }
+{
+    let left = notice.len() - at;
+    if left < 5 {
+        return false;
+    }
+    let size = field_size(notice, at);
+    if size < 3 + name_size(notice, at) {
+        return false;
+    }
+    size <= left - 2
+}
+
+// Whether a field that is right by itself starts at `at`.
+fn stands(notice: &[u8], at: usize) -> bool
+    requires { ⌜ at ≤ length (now notice) ⌝ }
+    ensures { λ r. ⌜ r ≡ rightAt (now (notice .entry)) at ⌝ }
+{
+    if lies(notice, at) {
+        let name = at + 5;
+        let value = name + name_size(notice, at);
+        if name_right(&notice[name..value]) {
+            let end = at + 2 + field_size(notice, at);
+            return size_right(word::read_u16(notice, at + 2), end - value);
+        }
+    }
+    false
+}
+
+fn header_right(notice: &[u8]) -> bool
+    ensures { λ r. ⌜ r ≡ headerRight (now (notice .entry)) ⌝ }
+{
+    let n = notice.len();
+    if n < 8 {
+        return false;
+    }
+    if 16384 < n {
+        return false;
+    }
+    if 4 + word::read_u32(notice, 0) as usize != n {
+        return false;
+    }
+    if word::read_u16(notice, 4) != 1 {
+        return false;
+    }
+    word::read_u16(notice, 6) <= 64
+}
+
+// The fields in order, each name after the last one, and nothing after them.
+fn check_fields(notice: &[u8]) -> Layout
+    requires { ⌜ 8 ≤ length (now notice) ⌝ }
+    ensures { λ r. ⌜ r ≡ checkFrom (countOf (now (notice .entry))) [] (now (notice .entry)) 8 ⌝ }
+{
+    let mut left = word::read_u16(notice, 6);
+    let mut at = 8;
+    let mut last = 0;
+    let mut last_end = 0;
+    while 0 < left {
+        if stands(notice, at) {
+            let name = at + 5;
+            let end = name + name_size(notice, at);
+            if octets::before(&notice[last..last_end], false, &notice[name..end], false) {
+                last = name;
+                last_end = end;
+                at = at + 2 + field_size(notice, at);
+                left -= 1;
+            } else {
+                return Layout::Fault(at);
+            }
+        } else {
+            return Layout::Fault(at);
+        }
+    }
+    if at == notice.len() {
+        Layout::WellFormed
+    } else {
+        Layout::Fault(at)
+    }
+}
+
+// Whether a slice is a notice, and the place of the first fault if it is none.
+pub fn check(notice: &[u8]) -> Layout
+    ensures { λ r. ⌜ r ≡ checkOf (now (notice .entry)) ⌝ }
+{
+    if header_right(notice) {
+        return check_fields(notice);
+    }
+    Layout::Fault(0)
 }
