@@ -1,3 +1,4 @@
 pub mod Field
 pub mod Render
 pub mod Layout
+pub mod Lookup

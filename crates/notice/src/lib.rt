@@ -5,6 +5,7 @@ ghost use mathlib.Core.List.{[]};
 ghost use lib.ListN.{length};
 ghost use Rattle.notice.specs.Field.{nameRight, sizeRight};
 ghost use Rattle.notice.specs.Layout.{sizeAt, nameSizeAt, liesAt, rightAt, headerRight, countOf, checkFrom, checkOf};
+ghost use Rattle.notice.specs.Lookup.{lookupOf};
 
 // "u8 name length 1..64; name (bytes 32..126)"
 pub fn name_right(name: &[u8]) -> bool
@@ -156,4 +157,43 @@ pub fn check(notice: &[u8]) -> Layout
         return check_fields(notice);
     }
     Layout::Fault(0)
+}
+
+// A field's kind and where its value lies, or none.
+pub enum Found {
+    At { kind: u16, start: u16, len: u16 },
+    Nothing,
+}
+
+// The field of a name. On any slice it looks at the fields that lie within it; `check` says whether it is a notice.
+pub fn lookup(notice: &[u8], name: &[u8]) -> Found
+    ensures { λ r. ⌜ r ≡ lookupOf (now (notice .entry)) (now (name .entry)) ⌝ }
+{
+    if notice.len() < 8 {
+        return Found::Nothing;
+    }
+    if 16384 < notice.len() {
+        return Found::Nothing;
+    }
+    let mut left = word::read_u16(notice, 6);
+    let mut at = 8;
+    while 0 < left {
+        if lies(notice, at) {
+            let start = at + 5;
+            let value = start + name_size(notice, at);
+            let next = at + 2 + field_size(notice, at);
+            if octets::same(&notice[start..value], false, name, false) {
+                return Found::At {
+                    kind: word::read_u16(notice, at + 2),
+                    start: value as u16,
+                    len: (next - value) as u16,
+                };
+            }
+            at = next;
+            left -= 1;
+        } else {
+            return Found::Nothing;
+        }
+    }
+    Found::Nothing
 }
