@@ -47,7 +47,7 @@ module _ (s : List ℕ) (at : ℕ) (last : List ℕ) where
   unfolding checkFrom
   fault-suc n e = rw e
 
-  more-suc : (n : ℕ) → standsAt last s at ≡ true → checkFrom n (nameAt s at) s (nextAt s at) ≡ checkFrom (suc n) last s at
+  pub more-suc : (n : ℕ) → standsAt last s at ≡ true → checkFrom n (nameAt s at) s (nextAt s at) ≡ checkFrom (suc n) last s at
   unfolding checkFrom
   more-suc n e = rw e
 
