@@ -4,3 +4,4 @@ pub mod Checks
 pub mod Walks
 pub mod Fields
 pub mod Renders
+pub mod Stores

@@ -6,11 +6,12 @@ use Prim.Native.Nat.{ℕ, zero, suc, _+_, _-_, _≤_, _<_}
 use native.Mathlib.Omega.{arith}
 use lib.ListN.{length}
 use borrow.Author.Tests.{le-leb, lt-leb}
-use Rattle.octets.specs.Octets.{sameOf}
+use Rattle.octets.specs.Octets.{sameOf, beforeOf}
 use Rattle.notice.specs.declared.Found.{Found}
 use Rattle.notice.specs.declared.Found.the-variants.{At, Nothing}
 use Rattle.notice.specs.Layout.{kindAt, valueStart, valueSizeAt, nameAt, nextAt, liesAt, countOf, startsFrom, startsOf}
 use Rattle.notice.specs.Lookup.{lookupIn, lookupOf}
+use Rattle.notice.specs.Write.{placeIn}
 
 pub same-place : {k k′ a a′ n n′ : ℕ} → k ≡ k′ → a ≡ a′ → n ≡ n′ → At k a n ≡ At k′ a′ n′
 same-place p q r = cc
@@ -57,3 +58,13 @@ module _ (s : List ℕ) where
 
     pub cut : liesAt s at ≡ false → Nothing ≡ lookupIn s name (startsFrom n s at)
     cut e = rw (starts-stop at n p e)
+
+    -- a turn of `place_for`
+    pub here : liesAt s at ≡ true → beforeOf name (nameAt s at) ≡ true → at ≡ placeIn s name (startsFrom n s at)
+    here e h = rw (starts-more at n p e, h)
+
+    pub further : liesAt s at ≡ true → beforeOf name (nameAt s at) ≡ false → placeIn s name (startsFrom (n - 1) s (nextAt s at)) ≡ placeIn s name (startsFrom n s at)
+    further e h = rw (starts-more at n p e, h)
+
+    pub no-further : liesAt s at ≡ false → length s ≡ placeIn s name (startsFrom n s at)
+    no-further e = rw (starts-stop at n p e)

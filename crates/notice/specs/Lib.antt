@@ -2,3 +2,4 @@ pub mod Field
 pub mod Render
 pub mod Layout
 pub mod Lookup
+pub mod Write

@@ -1,11 +1,14 @@
 // Notices: layout, lookup by name, reading and writing. Document 01, "Notice".
 ghost use mathlib.Core.Path.{_≡_};
-ghost use Prim.Native.Nat.{_+_, _≤_, _<_};
+ghost use Prim.Native.Nat.{_+_, _-_, _≤_, _<_};
 ghost use mathlib.Core.List.{[]};
-ghost use lib.ListN.{length};
+ghost use lib.ListN.{length, take, drop};
+ghost use lib.Seq.{sets};
 ghost use Rattle.notice.specs.Field.{nameRight, sizeRight};
 ghost use Rattle.notice.specs.Layout.{sizeAt, nameSizeAt, liesAt, rightAt, headerRight, countOf, checkFrom, checkOf};
+ghost use Rattle.notice.specs.Render.{fieldBytes};
 ghost use Rattle.notice.specs.Lookup.{lookupOf};
+ghost use Rattle.notice.specs.Write.{field, placeFor};
 
 // "u8 name length 1..64; name (bytes 32..126)"
 pub fn name_right(name: &[u8]) -> bool
@@ -196,4 +199,70 @@ pub fn lookup(notice: &[u8], name: &[u8]) -> Found
         }
     }
     Found::Nothing
+}
+
+// The start of the first field that a name is before, or the notice's end.
+fn place_for(notice: &[u8], name: &[u8]) -> usize
+    requires { ⌜ (8 ≤ length (now notice)) × (length (now notice) ≤ 16384) ⌝ }
+    ensures { λ r. ⌜ r ≡ placeFor (now (notice .entry)) (now (name .entry)) ⌝ }
+{
+    let mut left = word::read_u16(notice, 6);
+    let mut at = 8;
+    while 0 < left {
+        if lies(notice, at) {
+            let start = at + 5;
+            let value = start + name_size(notice, at);
+            if octets::before(name, false, &notice[start..value], false) {
+                return at;
+            }
+            at = at + 2 + field_size(notice, at);
+            left -= 1;
+        } else {
+            return notice.len();
+        }
+    }
+    notice.len()
+}
+
+// Moves the bytes from `at` to `end` up by `by`.
+fn move_up(buffer: &mut [u8], at: usize, end: usize, by: usize)
+    requires { ⌜ (at ≤ end) × (end + by ≤ length (now buffer)) ⌝ }
+    ensures { λ _. ⌜ now (buffer .exit) ≡ sets (now (buffer .entry)) (at + by) (take (end - at) (drop at (now (buffer .entry)))) ⌝ }
+{
+    let mut i = end;
+    while at < i {
+        i -= 1;
+        buffer[i + by] = buffer[i];
+    }
+}
+
+// Copies a slice to `at`.
+fn copy_to(buffer: &mut [u8], at: usize, s: &[u8])
+    requires { ⌜ at + length (now s) ≤ length (now buffer) ⌝ }
+    ensures { λ _. ⌜ now (buffer .exit) ≡ sets (now (buffer .entry)) at (now (s .entry)) ⌝ }
+{
+    let mut i = 0;
+    while i < s.len() {
+        buffer[at + i] = s[i];
+        i += 1;
+    }
+}
+
+// Stores a field's bytes from `at` on. The callers have judged its parts and the room.
+fn put_field(buffer: &mut [u8], at: usize, name: &[u8], kind: u16, value: &[u8])
+    requires { ⌜ (length (now name) ≤ 64) × (length (now value) ≤ 1024) × (at + 5 + length (now name) + length (now value) ≤ length (now buffer)) ⌝ }
+    ensures { λ _. ⌜ now (buffer .exit) ≡ sets (now (buffer .entry)) at (fieldBytes (field kind (now (name .entry)) (now (value .entry)))) ⌝ }
+{
+    word::write_u16(buffer, at, (3 + name.len() + value.len()) as u16);
+    word::write_u16(buffer, at + 2, kind);
+    buffer[at + 4] = name.len() as u8;
+    copy_to(buffer, at + 5, name);
+    copy_to(buffer, at + 5 + name.len(), value);
+}
+
+// What writing answers: document 01's number and place, and the notice's length afterwards.
+pub struct Written {
+    pub number: u8,
+    pub place: usize,
+    pub len: usize,
 }
