@@ -5,3 +5,5 @@ pub mod Walks
 pub mod Fields
 pub mod Renders
 pub mod Stores
+pub mod Inserts
+pub mod Writes

@@ -1,13 +1,14 @@
 -- Writing: "Writing adds one field, at its name's place, to a notice at the start of a lent buffer whose length the caller names; the bytes after the new notice stay."
-use Prim.Native.Nat.{ℕ, _+_}
-use mathlib.Core.Bool.{Bool, true, false, cond, _&&_, _||_}
+use Prim.Native.Nat.{ℕ, _+_, _≤_}
+use mathlib.Core.Path.{_≡_}
+use mathlib.Core.Bool.{Bool, true, false, cond, not, _&&_, _||_}
 use mathlib.Core.List.{List, [], _∷_, _++_}
 use lib.Dec.{eqb, leb, ltb}
 use lib.ListN.{length, take, drop}
 use Rattle.octets.specs.Octets.{sameOf, beforeOf}
 use Rattle.notice.specs.Field.{Field, nameRight, sizeRight}
 use Rattle.notice.specs.Render.{render}
-use Rattle.notice.specs.Layout.{pick, nameAt, checkOf, placeOf, startsOf, fieldsOf}
+use Rattle.notice.specs.Layout.{pick, nameAt, countOf, checkOf, placeOf, startsOf, fieldsOf}
 use Rattle.notice.specs.declared.Layout.{Layout}
 use Rattle.notice.specs.declared.Layout.the-variants.{WellFormed, Fault}
 use Rattle.notice.specs.declared.Written.{Written}
@@ -45,16 +46,19 @@ layoutIn buffer len = pick (leb len (length buffer)) (λ _. checkOf (take len bu
 abbrev pub hasRoom : ℕ → ℕ → ℕ → Bool
 hasRoom count size room = ltb count 64 && (leb size 16384 && leb size room)
 
+-- a refusal's number unless a test holds, and then the next one's
+abbrev pub unless : Bool → ℕ → ℕ → ℕ
+unless true number next = next
+unless false number next = number
+
 -- the refusals of a field for a notice s in `room` bytes, in their order: "13, 16, 14, 15"; 0 for none
 abbrev pub refusalIn : List ℕ → ℕ → Field → ℕ
 refusalIn s room f =
-    pick (nameRight (f .name))
-    (λ _. pick (sizeRight (f .kind) (length (f .value)))
-    (λ _. pick (hasName (f .name) (fieldsOf s))
-    (λ _. 14)
-    (λ _. pick (hasRoom (length (fieldsOf s)) (length s + fieldSize f) room) (λ _. 0) (λ _. 15)))
-    (λ _. 16))
-    (λ _. 13)
+    unless (nameRight (f .name)) 13
+    (unless (sizeRight (f .kind) (length (f .value))) 16
+    (unless (not (hasName (f .name) (fieldsOf s))) 14
+    (unless (hasRoom (countOf s) (length s + fieldSize f) room) 15
+    0)))
 
 -- "Writing: 11, 13, 16, 14, 15"
 abbrev pub refusalBy : Layout → List ℕ → ℕ → Field → ℕ
@@ -64,6 +68,16 @@ refusalBy WellFormed buffer len f = refusalIn (take len buffer) (length buffer) 
 abbrev pub refusalOf : List ℕ → ℕ → Field → ℕ
 refusalOf buffer len f = refusalBy (layoutIn buffer len) buffer len f
 
+-- a field that no refusal meets
+pub record Insertable (buffer : List ℕ) (len : ℕ) (f : Field) : Type 0 where
+  pub within : len ≤ length buffer
+  pub well : checkOf (take len buffer) ≡ WellFormed
+  pub accepted : refusalIn (take len buffer) (length buffer) f ≡ 0
+
+-- the new notice, and "the bytes after the new notice stay"
+abbrev pub insertedBytes : List ℕ → ℕ → Field → List ℕ
+insertedBytes buffer len f = render (insertField f (fieldsOf (take len buffer))) ++ drop (len + fieldSize f) buffer
+
 -- "writing answers number, place and the new length, or the old one if refused"
 abbrev pub writtenOf : List ℕ → ℕ → Field → Written
 writtenOf buffer len f = record {
@@ -72,9 +86,6 @@ writtenOf buffer len f = record {
   len = cond (eqb (refusalOf buffer len f) 0) (len + fieldSize f) len;
 }
 
--- the new notice and "the bytes after the new notice stay"; a refusal changes nothing
+-- a refusal changes nothing
 abbrev pub writtenBytes : List ℕ → ℕ → Field → List ℕ
-writtenBytes buffer len f =
-    pick (eqb (refusalOf buffer len f) 0)
-    (λ _. render (insertField f (fieldsOf (take len buffer))) ++ drop (len + fieldSize f) buffer)
-    (λ _. buffer)
+writtenBytes buffer len f = pick (eqb (refusalOf buffer len f) 0) (λ _. insertedBytes buffer len f) (λ _. buffer)

@@ -8,7 +8,7 @@ ghost use Rattle.notice.specs.Field.{nameRight, sizeRight};
 ghost use Rattle.notice.specs.Layout.{sizeAt, nameSizeAt, liesAt, rightAt, headerRight, countOf, checkFrom, checkOf};
 ghost use Rattle.notice.specs.Render.{fieldBytes};
 ghost use Rattle.notice.specs.Lookup.{lookupOf};
-ghost use Rattle.notice.specs.Write.{field, placeFor};
+ghost use Rattle.notice.specs.Write.{field, placeFor, hasRoom, refusalIn, Insertable, insertedBytes, writtenOf, writtenBytes};
 
 // "u8 name length 1..64; name (bytes 32..126)"
 pub fn name_right(name: &[u8]) -> bool
@@ -260,9 +260,98 @@ fn put_field(buffer: &mut [u8], at: usize, name: &[u8], kind: u16, value: &[u8])
     copy_to(buffer, at + 5 + name.len(), value);
 }
 
+fn has_room(count: u16, size: usize, room: usize) -> bool
+    ensures { λ r. ⌜ r ≡ hasRoom count size room ⌝ }
+{
+    (count < 64) & ((size <= 16384) & (size <= room))
+}
+
+// The refusals of a field for a notice in `room` bytes: 13, 16, 14, 15 in this order, and 0 for none.
+fn refusal(notice: &[u8], room: usize, name: &[u8], kind: u16, value: &[u8]) -> u8
+    requires { ⌜ 8 ≤ length (now notice) ⌝ }
+    ensures { λ r. ⌜ r ≡ refusalIn (now (notice .entry)) room (field kind (now (name .entry)) (now (value .entry))) ⌝ }
+{
+    if name_right(name) {
+        if size_right(kind, value.len()) {
+            let found = lookup(notice, name);
+            match found {
+                Found::At {
+                    kind: _,
+                    start: _,
+                    len: _,
+                } => 14,
+                Found::Nothing => {
+                    let size = notice.len() + (5 + name.len() + value.len());
+                    if has_room(word::read_u16(notice, 6), size, room) {
+                        0
+                    } else {
+                        15
+                    }
+                }
+            }
+        } else {
+            16
+        }
+    } else {
+        13
+    }
+}
+
+// Adds a field that was judged to the notice at the start of the buffer.
+fn insert(buffer: &mut [u8], len: usize, name: &[u8], kind: u16, value: &[u8])
+    requires { ⌜ Insertable (now buffer) len (field kind (now name) (now value)) ⌝ }
+    ensures { λ _. ⌜ now (buffer .exit) ≡ insertedBytes (now (buffer .entry)) len (field kind (now (name .entry)) (now (value .entry))) ⌝ }
+{
+    let size = 5 + name.len() + value.len();
+    let at = place_for(&buffer[0..len], name);
+    let count = word::read_u16(&buffer[0..len], 6);
+    move_up(buffer, at, len, size);
+    put_field(buffer, at, name, kind, value);
+    word::write_u32(buffer, 0, (len + size - 4) as u32);
+    word::write_u16(buffer, 6, count + 1);
+}
+
 // What writing answers: document 01's number and place, and the notice's length afterwards.
 pub struct Written {
     pub number: u8,
     pub place: usize,
     pub len: usize,
+}
+
+// Adds one field, at its name's place, to the notice of the first `len` bytes. A refusal changes no byte.
+pub fn write(buffer: &mut [u8], len: usize, name: &[u8], kind: u16, value: &[u8]) -> Written
+    ensures { λ r. ⌜ (r ≡ writtenOf (now (buffer .entry)) len (field kind (now (name .entry)) (now (value .entry)))) × (now (buffer .exit) ≡ writtenBytes (now (buffer .entry)) len (field kind (now (name .entry)) (now (value .entry)))) ⌝ }
+{
+    if buffer.len() < len {
+        return Written {
+            number: 11,
+            place: 0,
+            len,
+        };
+    }
+    let room = buffer.len();
+    let layout = check(&buffer[0..len]);
+    match layout {
+        Layout::Fault(place) => Written {
+            number: 11,
+            place,
+            len,
+        },
+        Layout::WellFormed => {
+            let number = refusal(&buffer[0..len], room, name, kind, value);
+            if number != 0 {
+                return Written {
+                    number,
+                    place: 0,
+                    len,
+                };
+            }
+            insert(buffer, len, name, kind, value);
+            Written {
+                number: 0,
+                place: 0,
+                len: len + (5 + name.len() + value.len()),
+            }
+        }
+    }
 }
