@@ -7,3 +7,4 @@ pub mod Renders
 pub mod Stores
 pub mod Inserts
 pub mod Writes
+pub mod Orders
