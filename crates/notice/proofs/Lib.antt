@@ -8,3 +8,5 @@ pub mod Stores
 pub mod Inserts
 pub mod Writes
 pub mod Orders
+pub mod Trips
+pub mod Theorems

@@ -155,10 +155,10 @@ pub fresh-inserted : (f : Field) (fs acc : List Field) → fresh fs (f ∷ acc) 
 fresh-inserted f fs acc e = fresh-same fs (insertField f acc) (f ∷ acc) (λ name. insert-named f name acc) ∙ e
 
 -- the same fields in any order
-perm-fresh : {gs fs : List Field} → List·Permᴰ gs fs → (acc : List Field) → fresh gs acc ≡ fresh fs acc
+pub perm-fresh : {gs fs : List Field} → List·Permᴰ gs fs → (acc : List Field) → fresh gs acc ≡ fresh fs acc
 perm-fresh List·Permᴰ·nil acc = refl
-perm-fresh (List·Permᴰ·cons {a = a} {b = b} {l₁ = gs} e d) acc =
-    ap₂ (λ (f : Field) (x : Bool). not (hasName (f .name) acc) && x) e (perm-fresh d (a ∷ acc) ∙ ap (λ (f : Field). fresh _ (f ∷ acc)) e)
+perm-fresh (List·Permᴰ·cons {a = a} {l₂ = fs} e d) acc =
+    ap₂ (λ (f : Field) (x : Bool). not (hasName (f .name) acc) && x) e (perm-fresh d (a ∷ acc) ∙ ap (λ (f : Field). fresh fs (f ∷ acc)) e)
 perm-fresh (List·Permᴰ·swap {a = a} {b = b} {l = l} e₁ e₂) acc =
     turn (hasName (a .name) acc) (hasName (b .name) acc) (sameOf (a .name) (b .name)) (fresh l (b ∷ (a ∷ acc))) (fresh l (a ∷ (b ∷ acc)))
     (fresh-same l (b ∷ (a ∷ acc)) (a ∷ (b ∷ acc)) (λ name. either (sameOf (b .name) name) (sameOf (a .name) name) (hasName name acc)))
@@ -230,12 +230,12 @@ perm-size (List·Permᴰ·swap {a = a} {b = b} {a′ = a′} {b′ = b′} {l = 
 perm-size (List·Permᴰ·trans d₁ d₂) = perm-size d₁ ∙ perm-size d₂
 
 -- fields that rise are new when they come in their own order, and each goes to the end
-abbrev allBefore : List Field → List ℕ → Bool
+abbrev pub allBefore : List Field → List ℕ → Bool
 allBefore [] name = true
 allBefore (g ∷ gs) name = beforeOf (g .name) name && allBefore gs name
 
 -- .. before the first of some fields
-abbrev allBeforeFirst : List Field → List Field → Bool
+abbrev pub allBeforeFirst : List Field → List Field → Bool
 allBeforeFirst acc [] = true
 allBeforeFirst acc (f ∷ fs) = allBefore acc (f .name)
 

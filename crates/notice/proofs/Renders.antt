@@ -171,7 +171,7 @@ module _ (fs : List Field) (ok : NoticeFields fs) where
       let a : 8 ≤ length (render fs) = omega arith in
       ap₂ (λ (x y : Bool). x && y) (le-leb 8 (length (render fs)) a) (le-leb (length (render fs)) 16384 (ok .short))
 
-  rendered-count : countOf (render fs) ≡ length fs
+  pub rendered-count : countOf (render fs) ≡ length fs
   rendered-count =
       let b : length fs < 256 ^ 2 = omega (arith, ok .few) in
       count-read size (length fs) (fieldsBytes fs) b

@@ -3,3 +3,4 @@ pub mod Render
 pub mod Layout
 pub mod Lookup
 pub mod Write
+pub mod Theorems

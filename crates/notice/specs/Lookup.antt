@@ -1,7 +1,9 @@
 -- Lookup by name, over the fields of a notice: "5 the field's or bottom" of document 01's run asks it.
-use Prim.Native.Nat.{ℕ}
+use Prim.Native.Nat.{ℕ, _+_, _≤_}
+use mathlib.Core.Path.{_≡_}
 use mathlib.Core.List.{List, [], _∷_}
 use mathlib.Core.Option.{Option, some, none}
+use lib.ListN.{length, take, drop}
 use Rattle.octets.specs.Octets.{sameOf}
 use Rattle.notice.specs.Field.{Field}
 use Rattle.notice.specs.Layout.{pick, kindAt, valueStart, valueSizeAt, nameAt, startsOf}
@@ -20,3 +22,10 @@ lookupIn s name (at ∷ ats) = pick (sameOf (nameAt s at) name) (λ _. At (kindA
 
 abbrev pub lookupOf : List ℕ → List ℕ → Found
 lookupOf s name = lookupIn s name (startsOf s)
+
+-- the kind and the bytes that were found are those of the field, and lie within the notice
+abbrev pub FoundIs : List ℕ → Found → Option Field → Type 0
+FoundIs s Nothing none = Unit {0}
+FoundIs s Nothing (some f) = ⊥
+FoundIs s (At kind start len) none = ⊥
+FoundIs s (At kind start len) (some f) = (kind ≡ f .kind) × (start + len ≤ length s) × (take len (drop start s) ≡ f .value)

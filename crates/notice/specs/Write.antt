@@ -89,3 +89,9 @@ writtenOf buffer len f = record {
 -- a refusal changes nothing
 abbrev pub writtenBytes : List ℕ → ℕ → Field → List ℕ
 writtenBytes buffer len f = pick (eqb (refusalOf buffer len f) 0) (λ _. insertedBytes buffer len f) (λ _. buffer)
+
+-- fields written one after the other, none refused, from a buffer and a length to a buffer and a length
+unfoldable pub Writes : List Field → List ℕ → ℕ → List ℕ → ℕ → Type 0
+Writes [] buffer len after after-len = (buffer ≡ after) × (len ≡ after-len)
+Writes (f ∷ fs) buffer len after after-len =
+    (writtenOf buffer len f .number ≡ 0) × Writes fs (writtenBytes buffer len f) (writtenOf buffer len f .len) after after-len
