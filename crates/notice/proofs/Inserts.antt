@@ -18,9 +18,9 @@ use Rattle.notice.specs.declared.Found.{Found}
 use Rattle.notice.specs.declared.Found.the-variants.{At, Nothing}
 use Rattle.notice.specs.Field.{Field, nameRight, sizeRight, fieldRight, allRight}
 use Rattle.notice.specs.Render.{fieldBytes, fieldsBytes, headerBytes, render, NoticeFields}
-use Rattle.notice.specs.Layout.{pick, nameAt, kindAt, valueStart, valueSizeAt, fieldAt, countOf, checkOf, startsFrom, startsOf, fieldsOf}
+use Rattle.notice.specs.Layout.{pick, unless, nameAt, kindAt, valueStart, valueSizeAt, fieldAt, countOf, checkOf, startsFrom, startsOf, fieldsOf}
 use Rattle.notice.specs.Lookup.{lookupIn, lookupOf}
-use Rattle.notice.specs.Write.{fieldSize, hasName, insertField, placeIn, placeFor, hasRoom, unless, refusalIn, Insertable, insertedBytes}
+use Rattle.notice.specs.Write.{fieldSize, hasName, insertField, placeIn, placeFor, hasRoom, refusalIn, Insertable, insertedBytes}
 use Rattle.notice.proofs.Walks.{starts-end, starts-more}
 use Rattle.notice.proofs.Fields.{Small, right-small, length-field, field-read, next-read, lies-read}
 use Rattle.notice.proofs.Renders.{fieldsFrom, length-header, length-render, well-header, well-starts, well-count, well-render, well-fields}

@@ -10,3 +10,4 @@ pub mod Writes
 pub mod Orders
 pub mod Trips
 pub mod Theorems
+pub mod Readings

@@ -22,7 +22,7 @@ use Rattle.notice.specs.Field.{Field, nameRight, sizeRight, fieldRight, 
 use Rattle.notice.specs.Render.{fieldsBytes, headerBytes, render, NoticeFields}
 use Rattle.notice.specs.Layout.{pick, kindAt, valueStart, valueSizeAt, nextAt, nameAt, fieldAt, liesAt, countOf, checkOf, startsFrom, startsOf, fieldsOf}
 use Rattle.notice.specs.Lookup.{fieldNamed, lookupIn, lookupOf, FoundIs}
-use Rattle.notice.specs.Write.{fieldSize, hasName, insertField, hasRoom, unless, layoutIn, refusalIn, refusalBy, refusalOf, writtenOf, insertedBytes, writtenBytes, Writes, Insertable}
+use Rattle.notice.specs.Write.{fieldSize, hasName, insertField, hasRoom, layoutIn, refusalIn, refusalBy, refusalOf, writtenOf, insertedBytes, writtenBytes, Writes, Insertable}
 use Rattle.notice.specs.Theorems.{WellFormed, OneList, FieldsRead, Lookup, NamedField, NoneNamed, EachFound, WriteAdds, InsertAdds, WrittenAgain, EmptyNotice, Op42}
 use Rattle.notice.proofs.Places.{Lies, lies-true}
 use Rattle.notice.proofs.Walks.{starts-end, starts-more, starts-stop}

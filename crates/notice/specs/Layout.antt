@@ -16,6 +16,11 @@ abbrev pub pick : {A : Type 0} → Bool → (Unit {0} → A) → (Unit {0} → A
 pick true x y = x tt
 pick false x y = y tt
 
+-- a refusal's number unless a test holds, and then the next one's
+abbrev pub unless : Bool → ℕ → ℕ → ℕ
+unless true number next = next
+unless false number next = number
+
 -- "Field: u16 length of all after it; u16 kind; u8 name length 1..64; name; the value takes the rest." The field starts at `at`.
 abbrev pub sizeAt : List ℕ → ℕ → ℕ
 sizeAt s at = le 2 s at

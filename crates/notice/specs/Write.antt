@@ -8,7 +8,7 @@ use lib.ListN.{length, take, drop}
 use Rattle.octets.specs.Octets.{sameOf, beforeOf}
 use Rattle.notice.specs.Field.{Field, nameRight, sizeRight}
 use Rattle.notice.specs.Render.{render}
-use Rattle.notice.specs.Layout.{pick, nameAt, countOf, checkOf, placeOf, startsOf, fieldsOf}
+use Rattle.notice.specs.Layout.{pick, unless, nameAt, countOf, checkOf, placeOf, startsOf, fieldsOf}
 use Rattle.notice.specs.declared.Layout.{Layout}
 use Rattle.notice.specs.declared.Layout.the-variants.{WellFormed, Fault}
 use Rattle.notice.specs.declared.Written.{Written}
@@ -45,11 +45,6 @@ layoutIn buffer len = pick (leb len (length buffer)) (λ _. checkOf (take len bu
 -- "15: 65th field, over 16,384 bytes, or buffer too short"
 abbrev pub hasRoom : ℕ → ℕ → ℕ → Bool
 hasRoom count size room = ltb count 64 && (leb size 16384 && leb size room)
-
--- a refusal's number unless a test holds, and then the next one's
-abbrev pub unless : Bool → ℕ → ℕ → ℕ
-unless true number next = next
-unless false number next = number
 
 -- the refusals of a field for a notice s in `room` bytes, in their order: "13, 16, 14, 15"; 0 for none
 abbrev pub refusalIn : List ℕ → ℕ → Field → ℕ
