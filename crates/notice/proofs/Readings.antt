@@ -16,7 +16,7 @@ use Rattle.notice.specs.declared.Layout.the-variants.{WellFormed, Fault}
 use Rattle.notice.specs.declared.Place.{Place}
 use Rattle.notice.specs.Field.{Field}
 use Rattle.notice.specs.Layout.{pick, kindAt, nameSizeAt, valueSizeAt, nextAt, valueStart, nameAt, valueAt, fieldAt, liesAt, lengthRight, countOf, checkOf, startsFrom, startsOf, fieldsOf}
-use Rattle.notice.specs.Read.{partOf, readBy, readNumber, readPlace, blank, readField, locateAt, nowhere, locateOf}
+use Rattle.notice.specs.Read.{partOf, readBy, readNumber, readPlace, blank, readField, locateAt, nowhere, locateOf, Located}
 use Rattle.notice.proofs.Places.{Lies, lies-true}
 use Rattle.notice.proofs.Walks.{starts-end, starts-more, starts-stop}
 use Rattle.notice.proofs.Renders.{fault-well, well-starts, well-count}
@@ -131,41 +131,45 @@ module _ (s : List ℕ) (bytes : Bytes s) (k : ℕ) where
           getD-mapped (at ∷ ats) (suc j) p = getD-mapped ats j (omega arith)
 
   -- the field's parts lie where `locate` says
-  pub record Parts (p : Place) : Type 0 where
-    pub kind-is : p .kind ≡ readField s k .kind
-    pub name-is : partOf s (p .name) (p .value) ≡ readField s k .name
-    pub value-is : partOf s (p .value) (p .end) ≡ readField s k .value
-
-  no-parts : (n place : ℕ) → nowhere n place ≡ locateOf s k → readField s k ≡ blank → Parts (locateOf s k)
-  no-parts n place p f = rw (← p) (record {
+  no-parts : (n place : ℕ) → nowhere n place ≡ locateOf s k → readNumber s k ≡ n → readPlace s ≡ place → readField s k ≡ blank → Located s k (locateOf s k)
+  no-parts n place p r q f = rw (← p) (record {
+    is = p;
+    number-is = sym r;
+    place-is = sym q;
     kind-is = ap (λ (x : Field). x .kind) (sym f);
     name-is = sym (is-part s 0 0 (omega arith) (omega arith)) ∙ ap (λ (x : Field). x .name) (sym f);
     value-is = sym (is-part s 0 0 (omega arith) (omega arith)) ∙ ap (λ (x : Field). x .value) (sym f);
   })
 
-  some-parts : (at : ℕ) → Lies s at → locateAt s at ≡ locateOf s k → readField s k ≡ fieldAt s at → Parts (locateOf s k)
-  some-parts at l p f =
+  some-parts : (at : ℕ) → Lies s at → locateAt s at ≡ locateOf s k → readNumber s k ≡ 0 → readPlace s ≡ 0 → readField s k ≡ fieldAt s at → Located s k (locateOf s k)
+  some-parts at l p r q f =
       let room = l .room in
       let within = l .within in
       let n : valueStart s at - (at + 5) ≡ nameSizeAt s at = omega arith in
       let m : nextAt s at - valueStart s at ≡ valueSizeAt s at = omega arith in
       rw (← p) (record {
+        is = p;
+        number-is = sym r;
+        place-is = sym q;
         kind-is = ap (λ (x : Field). x .kind) (sym f);
         name-is = sym (is-part s (at + 5) (valueStart s at) (omega arith) (omega arith)) ∙ (ap (λ (j : ℕ). take j (drop (at + 5) s)) n ∙ ap (λ (x : Field). x .name) (sym f));
         value-is = sym (is-part s (valueStart s at) (nextAt s at) (omega arith) (omega arith)) ∙ (ap (λ (j : ℕ). take j (drop (valueStart s at) s)) m ∙ ap (λ (x : Field). x .value) (sym f));
       })
 
-  pub parts : Parts (locateOf s k)
+  parts : Located s k (locateOf s k)
   parts = by-layout (checkOf s) refl
     where
-      by-count : checkOf s ≡ WellFormed → (b : Bool) → ltb k (countOf s) ≡ b → Parts (locateOf s k)
+      by-count : checkOf s ≡ WellFormed → (b : Bool) → ltb k (countOf s) ≡ b → Located s k (locateOf s k)
       by-count e true p =
           let h : k < countOf s = ltb-true k (countOf s) p in
-          some-parts (getD (startsOf s) k 0) (lies-true s (getD (startsOf s) k 0) (start-lies s k (has-start e h))) (located e h) (field-is e h)
+          some-parts (getD (startsOf s) k 0) (lies-true s (getD (startsOf s) k 0) (start-lies s k (has-start e h))) (located e h) (rw (e, p)) (rw e) (field-is e h)
       by-count e false p =
           let h : countOf s ≤ k = ltb-false k (countOf s) p in
-          no-parts 17 0 (past-count e h) (rw (e, p))
+          no-parts 17 0 (past-count e h) (rw (e, p)) (rw e) (rw (e, p))
 
-      by-layout : (l : Layout) → checkOf s ≡ l → Parts (locateOf s k)
+      by-layout : (l : Layout) → checkOf s ≡ l → Located s k (locateOf s k)
       by-layout WellFormed e = by-count e (ltb k (countOf s)) refl
-      by-layout (Fault place) e = no-parts 11 place (at-fault place e) (rw e)
+      by-layout (Fault place) e = no-parts 11 place (at-fault place e) (rw e) (rw e) (rw e)
+
+  pub is-located : (p : Place) → p ≡ locateOf s k → Located s k p
+  is-located p e = rw e parts

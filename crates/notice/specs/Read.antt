@@ -1,5 +1,6 @@
 -- Reading: "Reading field k gives its kind and its name and value as parts of the lent notice."
 use Prim.Native.Nat.{ℕ, _+_, _-_}
+use mathlib.Core.Path.{_≡_}
 use mathlib.Core.Bool.{_&&_}
 use mathlib.Core.List.{List, []}
 use lib.Dec.{eqb, leb, ltb}
@@ -41,3 +42,20 @@ nowhere number place = record { number = number; place = place; kind = 0; name =
 
 abbrev pub locateOf : List ℕ → ℕ → Place
 locateOf s k = pick (eqb (readNumber s k) 0) (λ _. locateAt s (getD (startsOf s) k 0)) (λ _. nowhere (readNumber s k) (readPlace s))
+
+-- where field k lies, and that its parts are there
+pub record Located (s : List ℕ) (k : ℕ) (p : Place) : Type 0 where
+  pub is : p ≡ locateOf s k
+  pub number-is : p .number ≡ readNumber s k
+  pub place-is : p .place ≡ readPlace s
+  pub kind-is : p .kind ≡ readField s k .kind
+  pub name-is : partOf s (p .name) (p .value) ≡ readField s k .name
+  pub value-is : partOf s (p .value) (p .end) ≡ readField s k .value
+
+-- what reading field k answers
+pub record ReadIs (s : List ℕ) (k number place kind : ℕ) (name value : List ℕ) : Type 0 where
+  pub number-is : number ≡ readNumber s k
+  pub place-is : place ≡ readPlace s
+  pub kind-is : kind ≡ readField s k .kind
+  pub name-is : name ≡ readField s k .name
+  pub value-is : value ≡ readField s k .value

@@ -8,7 +8,7 @@ ghost use Rattle.notice.specs.Field.{nameRight, sizeRight};
 ghost use Rattle.notice.specs.Layout.{sizeAt, nameSizeAt, liesAt, rightAt, headerRight, countOf, checkFrom, checkOf, startsOf};
 ghost use Rattle.notice.specs.Render.{fieldBytes};
 ghost use Rattle.notice.specs.Lookup.{lookupOf};
-ghost use Rattle.notice.specs.Read.{partOf, nowhere as nowhereOf, locateOf, readField};
+ghost use Rattle.notice.specs.Read.{partOf, nowhere as nowhereOf, readField, Located, ReadIs};
 ghost use Rattle.notice.specs.Write.{field, placeFor, hasRoom, refusalIn, Insertable, insertedBytes, writtenOf, writtenBytes};
 
 // "u8 name length 1..64; name (bytes 32..126)"
@@ -241,7 +241,7 @@ fn field_start(notice: &[u8], k: usize) -> usize
 
 // Where field k lies, or the refusal.
 pub fn locate(notice: &[u8], k: usize) -> Place
-    ensures { λ r. ⌜ r ≡ locateOf (now (notice .entry)) k ⌝ }
+    ensures { λ r. ⌜ Located (now (notice .entry)) k r ⌝ }
 {
     let layout = check(notice);
     match layout {
@@ -296,6 +296,30 @@ pub fn value_of<'a>(notice: &'a [u8], k: usize) -> &'a [u8]
 {
     let p = locate(notice, k);
     part(notice, p.value, p.end)
+}
+
+// What reading field k answers: document 01's number and place, the field's kind, and its name and value as parts of the notice.
+pub struct FieldParts<'a> {
+    pub number: u8,
+    pub place: usize,
+    pub kind: u16,
+    pub name: &'a [u8],
+    pub value: &'a [u8],
+}
+
+pub fn read<'a>(notice: &'a [u8], k: usize) -> FieldParts<'a>
+    ensures { λ r. ⌜ ReadIs (now (notice .entry)) k (r .number) (r .place) (r .kind) (now (r .name)) (now (r .value)) ⌝ }
+{
+    let p = locate(notice, k);
+    let name = part(notice, p.name, p.value);
+    let value = part(notice, p.value, p.end);
+    FieldParts {
+        number: p.number,
+        place: p.place,
+        kind: p.kind,
+        name,
+        value,
+    }
 }
 
 // The start of the first field that a name is before, or the notice's end.

@@ -9,7 +9,7 @@ use Rattle.notice.specs.Layout.{countOf, checkOf, startsOf}
 use Rattle.notice.specs.Read.{locateAt}
 use Rattle.notice.proofs.Places.{Lies, lies-true}
 use Rattle.notice.proofs.Renders.{well-header}
-use Rattle.notice.proofs.Readings.{at-fault, past-count, has-start, start-lies, located, same-place}
+use Rattle.notice.proofs.Readings.{at-fault, past-count, has-start, start-lies, located, same-place, is-located}
 use borrow.Author.Needs.{needs}
 use Rattle.notice.proofs.locate.Statement.{statement}
 use Rattle.notice.proofs.locate.Tie as tie
@@ -71,7 +71,8 @@ nowhere-requires-2 c κs = search needs
 -- src/lib.rt:251:17
 returns : tie.Need-returns
 returns c =
-    c .nowhere2 .ensures ∙ past-count (c .before .before .before .before .before .before .before .args .notice .now) (bytes (c .before .before .before .before .before .before)) (c .before .before .before .before .before .before .before .args .k) (well (c .before .before .before)) (omega (arith, c .before .before .read-u16 .ensures))
+    is-located (c .before .before .before .before .before .before .before .args .notice .now) (bytes (c .before .before .before .before .before .before)) (c .before .before .before .before .before .before .before .args .k) (c .nowhere2 .result)
+    (c .nowhere2 .ensures ∙ past-count (c .before .before .before .before .before .before .before .args .notice .now) (bytes (c .before .before .before .before .before .before)) (c .before .before .before .before .before .before .before .args .k) (well (c .before .before .before)) (omega (arith, c .before .before .read-u16 .ensures)))
 
 -- src/lib.rt:253:17
 field-start-requires : tie.Need-field-start-requires
@@ -113,7 +114,8 @@ add-t15 c = let l = lying (c .before .before .before) in omega (arith, l .room, 
 -- src/lib.rt:243:1
 returns-2 : tie.Need-returns-2
 returns-2 c =
-    c .nowhere .ensures ∙ at-fault (c .before .before .before .before .before .before .args .notice .now) (bytes (c .before .before .before .before .before)) (c .before .before .before .before .before .before .args .k) (c .before .before .layout .given .0 .0) (sym (c .before .before .before .before .check .ensures) ∙ c .before .before .layout .given .1)
+    is-located (c .before .before .before .before .before .before .args .notice .now) (bytes (c .before .before .before .before .before)) (c .before .before .before .before .before .before .args .k) (c .nowhere .result)
+    (c .nowhere .ensures ∙ at-fault (c .before .before .before .before .before .before .args .notice .now) (bytes (c .before .before .before .before .before)) (c .before .before .before .before .before .before .args .k) (c .before .before .layout .given .0 .0) (sym (c .before .before .before .before .check .ensures) ∙ c .before .before .layout .given .1))
 
 -- src/lib.rt:243:1
 returns-3 : tie.Need-returns-3
@@ -121,9 +123,10 @@ returns-3 c =
     let s = c .before .before .before .before .before .before .before .before .before .before .args .notice .now in
     let k = c .before .before .before .before .before .before .before .before .before .before .args .k in
     let at = c .before .before .before .field-start .result in
-    same-place s at (c .before .before .read-u162 .result) (at + 5 + c .before .name-size .result) (at + 2 + c .field-size .result)
+    is-located s (bytes (c .before .before .before .before .before .before .before .before .before)) k _
+    (same-place s at (c .before .before .read-u162 .result) (at + 5 + c .before .name-size .result) (at + 2 + c .field-size .result)
     (c .before .before .read-u162 .ensures) (ap (λ (n : ℕ). at + 5 + n) (c .before .name-size .ensures .0)) (ap (λ (n : ℕ). at + 2 + n) (c .field-size .ensures .0))
-    ∙ (ap (locateAt s) (c .before .before .before .field-start .ensures) ∙ located s (bytes (c .before .before .before .before .before .before .before .before .before)) k (well (c .before .before .before .before .before .before)) (below (c .before .before .before .before)))
+    ∙ (ap (locateAt s) (c .before .before .before .field-start .ensures) ∙ located s (bytes (c .before .before .before .before .before .before .before .before .before)) k (well (c .before .before .before .before .before .before)) (below (c .before .before .before .before))))
 
 pub locate-spec : {M : Type 1} → statement M
 locate-spec =

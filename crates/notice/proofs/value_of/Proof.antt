@@ -1,7 +1,4 @@
-use mathlib.Core.Path.{_≡_, ap, _∙_}
-use Rattle.notice.specs.Read.{partOf}
-use Rattle.notice.specs.declared.Place.{Place}
-use Rattle.notice.proofs.Readings.{parts}
+use mathlib.Core.Path.{_∙_}
 use borrow.Author.Needs.{needs}
 use Rattle.notice.proofs.value_of.Statement.{statement}
 use Rattle.notice.proofs.value_of.Tie as tie
@@ -20,10 +17,7 @@ part-requires c κs = search needs
 
 -- src/lib.rt:294:1
 returns : tie.Need-returns
-returns c =
-    let a = c .before .before .before .args in
-    c .part .ensures ∙ (ap (λ (p : Place). partOf (a .notice .now) (p .value) (p .end)) (c .before .locate .ensures)
-    ∙ parts (a .notice .now) (λ i. c .before .before .shared-slice-known .given i .fits) (a .k) .value-is)
+returns c = c .part .ensures ∙ c .before .locate .ensures .value-is
 
 pub value-of-spec : {M : Type 1} → statement M
 value-of-spec = tie.close (tie.spec locate-requires part-requires returns)
