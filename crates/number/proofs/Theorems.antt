@@ -1,0 +1,216 @@
+-- The theorems that specs/Theorems.antt states. Assumes nothing.
+use mathlib.Core.Path.{_≡_, refl, sym, ap, ap₂, _∙_}
+use mathlib.Core.Bool.{Bool, true, false, _&&_, cond}
+use mathlib.Core.Logic.{_⊎_, inl, inr}
+use Prim.Native.Nat.{ℕ, zero, suc, _+_, _-_, _*_, _/_, _%_, _^_, _<_}
+use native.Mathlib.Nat.{div-add-mod', mod-lt, mul-zero, zero-mul}
+use native.Mathlib.Omega.{arith}
+use lib.IntN.{ℤ, pos, negsuc, negℤ, natAbs, _+ℤ_, _-ℤ_, _*ℤ_, negℤ-+ℤ, pos-+ℤ-pos}
+use lib.Signed.{quotZ, remZ}
+use lib.Dec.{leb}
+use lib.Ieee.{Float, nan, inf, fin, binary64, ofInt, toBits, unlike, eq, lt, le}
+use lib.Ieee.Bits.{ofBits-toBits, toBits-ofBits, toBits-lt}
+use lib.Ieee.Back.{round-whole}
+use mir.Val.{bits, toZ}
+use mir.ValLaws.{half-full, toZ-pos, toZ-neg}
+use borrow.Author.Tests.{lt-leb, le-ltb}
+use Rattle.truth.specs.Truth.{ofBool}
+use Rattle.number.specs.declared.Number.{Number}
+use Rattle.number.specs.declared.Number.the-variants.{Int32, Int64, Real, None}
+use Rattle.opcode.specs.declared.Order.{Order}
+use Rattle.opcode.specs.declared.Order.the-variants.{Less, LessEqual, Greater, GreaterEqual}
+use Rattle.number.specs.Integer.{isNegative, signedOf}
+use Rattle.number.specs.Number.{isInteger, isReal, integerOf, divides, zeroDivisor, asReal, shiftOf, orderReal}
+use Rattle.number.specs.Theorems.{QuotientRemainder, Ends, Complement, LeftNone, RightNone, ZeroDivisor, NegativeZero, LargeBesideReal, NanFalse, ZerosEqual, WholesExact, PowersExact, RealBits, BitsReal, NanBits, BitsBounded}
+use Rattle.number.proofs.Ints.{never, and-no}
+use Rattle.number.proofs.Tens.{powers-hold}
+
+-- by sign and magnitude
+product-of : (s t : Bool) (m n : ℕ) → signedOf s m *ℤ signedOf t n ≡ signedOf (unlike s t) (m * n)
+product-of false false m n = refl
+product-of false true m zero = rw mul-zero
+product-of false true m (suc n) = refl
+product-of true false zero n = rw zero-mul
+product-of true false (suc m) n = refl
+product-of true true zero zero = refl
+product-of true true zero (suc n) = rw zero-mul
+product-of true true (suc m) zero = rw mul-zero
+product-of true true (suc m) (suc n) = refl
+
+sum-of : (s : Bool) (m n : ℕ) → signedOf s m +ℤ signedOf s n ≡ signedOf s (m + n)
+sum-of false m n = pos-+ℤ-pos m n
+sum-of true m n = sym (negℤ-+ℤ (pos m) (pos n)) ∙ ap negℤ (pos-+ℤ-pos m n)
+
+whole : (z : ℤ) → signedOf (isNegative z) (natAbs z) ≡ z
+whole (pos n) = refl
+whole (negsuc n) = refl
+
+quotient-of : (a b : ℤ) → quotZ a b ≡ signedOf (unlike (isNegative a) (isNegative b)) (natAbs a / natAbs b)
+quotient-of (pos a) (pos b) = refl
+quotient-of (pos a) (negsuc b) = refl
+quotient-of (negsuc a) (pos b) = refl
+quotient-of (negsuc a) (negsuc b) = refl
+
+remainder-of : (a b : ℤ) → remZ a b ≡ signedOf (isNegative a) (natAbs a % natAbs b)
+remainder-of (pos a) b = refl
+remainder-of (negsuc a) b = refl
+
+sign-back : (s t : Bool) → unlike (unlike s t) t ≡ s
+sign-back true true = refl
+sign-back true false = refl
+sign-back false true = refl
+sign-back false false = refl
+
+size-of : (s : Bool) (m : ℕ) → natAbs (signedOf s m) ≡ m
+size-of false m = refl
+size-of true zero = refl
+size-of true (suc m) = refl
+
+sign-of : (s : Bool) (m : ℕ) → (signedOf s m ≡ pos 0) ⊎ (isNegative (signedOf s m) ≡ s)
+sign-of false m = inr refl
+sign-of true zero = inl refl
+sign-of true (suc m) = inr refl
+
+pub quotient-remainder : QuotientRemainder
+quotient-remainder a b h = (back, rw (remainder-of a b, size-of (isNegative a) (natAbs a % natAbs b)) (mod-lt (natAbs a) h), rw (remainder-of a b) (sign-of (isNegative a) (natAbs a % natAbs b)))
+  where
+    times : quotZ a b *ℤ b ≡ signedOf (isNegative a) (natAbs a / natAbs b * natAbs b)
+    times =
+        ap₂ _*ℤ_ (quotient-of a b) (sym (whole b))
+        ∙ product-of (unlike (isNegative a) (isNegative b)) (isNegative b) (natAbs a / natAbs b) (natAbs b)
+        ∙ ap (λ (s : Bool). signedOf s (natAbs a / natAbs b * natAbs b)) (sign-back (isNegative a) (isNegative b))
+
+    back : quotZ a b *ℤ b +ℤ remZ a b ≡ a
+    back =
+        ap₂ _+ℤ_ times (remainder-of a b)
+        ∙ sum-of (isNegative a) (natAbs a / natAbs b * natAbs b) (natAbs a % natAbs b)
+        ∙ ap (signedOf (isNegative a)) (div-add-mod' (natAbs a) (natAbs b))
+        ∙ whole a
+
+pub ends : Ends
+ends = (refl, refl, refl, refl)
+
+pub complement : Complement
+complement w (pos n) f =
+    let h : n < 2 ^ bits w = half-full w (f .sfits) in
+    let e : 2 ^ bits w - 1 - n ≡ 2 ^ bits w - suc n = omega arith in
+    ap (toZ w) e ∙ toZ-neg w n (f .sfits) ∙ opposite n
+  where
+    opposite : (n : ℕ) → negsuc n ≡ negℤ (pos n) -ℤ pos 1
+    opposite zero = refl
+    opposite (suc n) = let e : suc n ≡ suc (n + 0) = omega arith in ap negsuc e
+complement w (negsuc n) f =
+    let h : n < 2 ^ bits w = half-full w (f .sfits) in
+    let e : 2 ^ bits w - 1 - (2 ^ bits w - suc n) ≡ n = omega arith in
+    let d : n ≡ suc n - 1 = omega arith in
+    ap (toZ w) e ∙ toZ-pos w n (f .sfits) ∙ rw (le-ltb (suc n) 1 (omega arith)) (ap pos d)
+
+-- a test that is never met, and one that does not matter
+no : (t : Bool) → (t && false) ≡ false
+no t = and-no t false refl
+
+alike : {A : Type 0} (t : Bool) (x : A) → cond t x x ≡ x
+alike true x = refl
+alike false x = refl
+
+pub left-none : LeftNone
+left-none b o p q r = (alike (zeroDivisor o b) None, refl, refl, refl, refl)
+
+pub right-none : RightNone
+right-none a o p q r = (
+  rw (no (divides o), no (isInteger a), no (isReal (asReal a))),
+  rw (no (isInteger a)),
+  shifts a,
+  rw (no (isInteger a), no (isReal (asReal a))),
+  rw (no (isInteger a), no (isReal (asReal a))),
+)
+  where
+    shifts : (a : Number) → shiftOf q a None ≡ None
+    shifts (Int32 z) = refl
+    shifts (Int64 z) = refl
+    shifts (Real x) = refl
+    shifts None = refl
+
+pub zero-divisor : ZeroDivisor
+zero-divisor a b e = (rw e, rw e)
+
+pub negative-zero : NegativeZero
+unfolding eq
+negative-zero = refl
+
+pub large-beside-real : LargeBesideReal
+large-beside-real a b o r i h e =
+    let l = large a i h in let n = not-integer b e in let z = no (isReal (asReal b)) in let y = no (isInteger a) in (
+      rw (n, y, l) (alike (zeroDivisor o b) None),
+      rw (n, l, z) (alike (zeroDivisor o a) None),
+      rw (n, y, l),
+      rw (n, l, z),
+      rw (n, y, l),
+      rw (n, l, z),
+    )
+  where
+    large : (a : Number) → isInteger a ≡ true → 2 ^ 53 < natAbs (integerOf a) → asReal a ≡ None
+    large (Int32 z) i h = rw (lt-leb (natAbs z) (2 ^ 53) h)
+    large (Int64 z) i h = rw (lt-leb (natAbs z) (2 ^ 53) h)
+    large (Real x) i h = never (sym i)
+    large None i h = never (sym i)
+
+    not-integer : (b : Number) → isReal b ≡ true → isInteger b ≡ false
+    not-integer (Int32 z) e = never (sym e)
+    not-integer (Int64 z) e = never (sym e)
+    not-integer (Real x) e = refl
+    not-integer None e = never (sym e)
+
+pub nan-false : NanFalse
+unfolding eq lt le
+nan-false x r = (ap ofBool (equal-left x), ap ofBool (equal-right x), ap ofBool (before r x), ap ofBool (after r x))
+  where
+    equal-left : (x : Float) → eq nan x ≡ false
+    equal-left x = refl
+
+    equal-right : (x : Float) → eq x nan ≡ false
+    equal-right nan = refl
+    equal-right (inf s) = refl
+    equal-right (fin s m e) = refl
+
+    less-right : (x : Float) → lt x nan ≡ false
+    less-right nan = refl
+    less-right (inf s) = refl
+    less-right (fin s m e) = refl
+
+    before : (r : Order) (x : Float) → orderReal r nan x ≡ false
+    before Less x = refl
+    before LessEqual x = refl
+    before Greater x = less-right x
+    before GreaterEqual x = rw (less-right x, equal-right x)
+
+    after : (r : Order) (x : Float) → orderReal r x nan ≡ false
+    after Less x = less-right x
+    after LessEqual x = rw (less-right x, equal-right x)
+    after Greater x = refl
+    after GreaterEqual x = refl
+
+pub zeros-equal : ZerosEqual
+unfolding eq
+zeros-equal = refl
+
+pub real-bits : RealBits
+real-bits x f = ofBits-toBits binary64 x f
+
+pub bits-real : BitsReal
+bits-real n h e = toBits-ofBits binary64 n (omega arith) (rw e tt)
+
+pub nan-bits : NanBits
+unfolding toBits
+nan-bits = refl
+
+pub bits-bounded : BitsBounded
+bits-bounded x f = omega (arith, toBits-lt binary64 x f)
+
+pub wholes-exact : WholesExact
+unfolding ofInt
+wholes-exact (pos n) h = round-whole binary64 false n h
+wholes-exact (negsuc n) h = round-whole binary64 true _ h
+
+pub powers-exact : PowersExact
+powers-exact e h = powers-hold e (omega arith)

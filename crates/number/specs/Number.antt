@@ -1,0 +1,187 @@
+-- Numbers and the operators on them. Document 01, "Meaning". `None` is no number: bottom, which every operator hands on.
+use Prim.Native.Nat.{ℕ, _^_}
+use mathlib.Core.Bool.{Bool, true, false, _&&_, cond}
+use lib.IntN.{ℤ, pos, negsuc, natAbs}
+use lib.Dec.{ltb, leb, eqb}
+use lib.Ieee.{Float, fin, binary64, ofInt, add, sub, mul, div, eq, lt, le}
+use mir.Syntax.{w32, w64}
+use Rattle.truth.specs.declared.Truth.{Truth}
+use Rattle.truth.specs.declared.Truth.the-variants.{Bottom}
+use Rattle.truth.specs.Truth.{ofBool}
+use Rattle.number.specs.declared.Number.{Number}
+use Rattle.number.specs.declared.Number.the-variants.{Int32, Int64, Real, None}
+use Rattle.number.specs.declared.Count.{Count}
+use Rattle.number.specs.declared.Count.the-variants.{Places, Outside}
+use Rattle.number.specs.declared.Sides.{Sides}
+use Rattle.number.specs.declared.Sides.the-variants.{Integers, Reals, Neither}
+use Rattle.number.specs.declared.integer.Magnitude.{Magnitude}
+use Rattle.number.specs.declared.integer.Magnitude.the-variants.{Fits, Over}
+use Rattle.opcode.specs.declared.Arithmetic.{Arithmetic}
+use Rattle.opcode.specs.declared.Arithmetic.the-variants.{Mul, Div, Rem, Add, Sub}
+use Rattle.opcode.specs.declared.Bitwise.{Bitwise}
+use Rattle.opcode.specs.declared.Shift.{Shift}
+use Rattle.opcode.specs.declared.Order.{Order}
+use Rattle.opcode.specs.declared.Order.the-variants.{Less, LessEqual, Greater, GreaterEqual}
+use Rattle.number.specs.Integer.{fitsIn, exactOf, equalZ, orderZ}
+use Rattle.number.specs.Bits.{onBits, turned, shifted}
+
+-- Kinds of numbers, and their values: 0 where there is none.
+abbrev pub isInt32 : Number → Bool
+isInt32 (Int32 z) = true
+isInt32 (Int64 z) = false
+isInt32 (Real x) = false
+isInt32 None = false
+
+abbrev pub isInteger : Number → Bool
+isInteger (Int32 z) = true
+isInteger (Int64 z) = true
+isInteger (Real x) = false
+isInteger None = false
+
+abbrev pub isReal : Number → Bool
+isReal (Int32 z) = false
+isReal (Int64 z) = false
+isReal (Real x) = true
+isReal None = false
+
+abbrev pub integerOf : Number → ℤ
+integerOf (Int32 z) = z
+integerOf (Int64 z) = z
+integerOf (Real x) = pos 0
+integerOf None = pos 0
+
+abbrev pub zeroReal : Float
+zeroReal = fin false 0 (pos 0)
+
+abbrev pub realOf : Number → Float
+realOf (Int32 z) = zeroReal
+realOf (Int64 z) = zeroReal
+realOf (Real x) = x
+realOf None = zeroReal
+
+-- "The result is int32 if both are int32 and it fits, else int64, else bottom."
+abbrev pub typed : Bool → ℤ → Number
+typed both z = cond (both && fitsIn w32 z) (Int32 z) (cond (fitsIn w64 z) (Int64 z) None)
+
+-- "real if its size is at most 2^53, else bottom"
+abbrev pub exactReal : ℤ → Number
+exactReal z = cond (leb (natAbs z) (2 ^ 53)) (Real (ofInt binary64 z)) None
+
+abbrev pub asReal : Number → Number
+asReal (Int32 z) = exactReal z
+asReal (Int64 z) = exactReal z
+asReal (Real x) = Real x
+asReal None = None
+
+-- "With a real, the other side becomes real if its size is at most 2^53, else bottom, ..": a side of an arithmetic operator ..
+abbrev pub inArithmetic : Number → Number
+inArithmetic a = asReal a
+
+-- ".. also in comparisons": .. and a side of a comparison
+abbrev pub inComparison : Number → Number
+inComparison a = asReal a
+
+-- two reals, or nothing where a side is none
+abbrev pub onReals : {A : Type 0} → Number → Number → (Float → Float → A) → A → A
+onReals a b f none = cond (isReal a && isReal b) (f (realOf a) (realOf b)) none
+
+-- "Real with real is f64's own `+ - * /`, rounded once to the nearest, ties to even, with its infinities and NaN." "`%` with a real" is bottom.
+abbrev pub realArithmetic : Arithmetic → Float → Float → Number
+realArithmetic Mul x y = Real (mul binary64 x y)
+realArithmetic Div x y = Real (div binary64 x y)
+realArithmetic Rem x y = None
+realArithmetic Add x y = Real (add binary64 x y)
+realArithmetic Sub x y = Real (sub binary64 x y)
+
+-- "A zero divisor, whole or real, gives bottom.": f64's own equality, under which zeros of both signs are equal
+abbrev pub divides : Arithmetic → Bool
+divides Mul = false
+divides Div = true
+divides Rem = true
+divides Add = false
+divides Sub = false
+
+abbrev pub isZero : Number → Bool
+isZero (Int32 z) = eqb (natAbs z) 0
+isZero (Int64 z) = eqb (natAbs z) 0
+isZero (Real x) = eq x zeroReal
+isZero None = false
+
+abbrev pub zeroDivisor : Arithmetic → Number → Bool
+zeroDivisor op b = divides op && isZero b
+
+-- `+ - * / %`
+abbrev pub arithmeticOf : Arithmetic → Number → Number → Number
+arithmeticOf op a b =
+    cond (zeroDivisor op b)
+    None
+    (cond (isInteger a && isInteger b)
+    (typed (isInt32 a && isInt32 b) (exactOf op (integerOf a) (integerOf b)))
+    (onReals (inArithmetic a) (inArithmetic b) (realArithmetic op) None))
+
+-- "integers only. Unlike integers are widened by sign.": two int32 have their bits in 32, other integers in 64
+abbrev pub bitwiseOf : Bitwise → Number → Number → Number
+bitwiseOf op a b =
+    cond (isInteger a && isInteger b)
+    (cond (isInt32 a && isInt32 b) (Int32 (onBits op w32 (integerOf a) (integerOf b))) (Int64 (onBits op w64 (integerOf a) (integerOf b))))
+    None
+
+abbrev pub complementOf : Number → Number
+complementOf (Int32 z) = Int32 (turned w32 z)
+complementOf (Int64 z) = Int64 (turned w64 z)
+complementOf (Real x) = None
+complementOf None = None
+
+-- "the count must be 0 to width less 1, else bottom"
+abbrev pub placesIn : ℕ → ℤ → Bool
+placesIn width (pos k) = ltb k width
+placesIn width (negsuc k) = false
+
+abbrev pub countOf : ℕ → Number → Count
+countOf width b = cond (isInteger b && placesIn width (integerOf b)) (Places (natAbs (integerOf b))) Outside
+
+abbrev pub counted : Count → (ℕ → Number) → Number
+counted (Places k) f = f k
+counted Outside f = None
+
+-- "A shift has its left side's width and type"
+abbrev pub shiftOf : Shift → Number → Number → Number
+shiftOf op (Int32 z) b = counted (countOf 32 b) (λ k. Int32 (shifted op w32 z k))
+shiftOf op (Int64 z) b = counted (countOf 64 b) (λ k. Int64 (shifted op w64 z k))
+shiftOf op (Real x) b = None
+shiftOf op None b = None
+
+-- Comparisons: two integers as integers, else both as reals.
+abbrev pub sidesOf : Number → Number → Sides
+sidesOf a b =
+    cond (isInteger a && isInteger b)
+    (Integers (integerOf a) (integerOf b))
+    (onReals (inComparison a) (inComparison b) Reals Neither)
+
+abbrev pub comparedBy : (ℤ → ℤ → Bool) → (Float → Float → Bool) → Sides → Truth
+comparedBy f g (Integers x y) = ofBool (f x y)
+comparedBy f g (Reals x y) = ofBool (g x y)
+comparedBy f g Neither = Bottom
+
+-- `==` and the orders are f64's own: "NaN equals nothing and orders with nothing (false). Zeros of both signs are equal."
+abbrev pub orderReal : Order → Float → Float → Bool
+orderReal Less x y = lt x y
+orderReal LessEqual x y = le x y
+orderReal Greater x y = lt y x
+orderReal GreaterEqual x y = le y x
+
+abbrev pub equalOf : Number → Number → Truth
+equalOf a b = comparedBy equalZ eq (sidesOf a b)
+
+abbrev pub orderOf : Order → Number → Number → Truth
+orderOf op a b = comparedBy (orderZ op) (orderReal op) (sidesOf a b)
+
+-- Inside the code: an int32's value, and a magnitude that 64 bits hold.
+abbrev pub int32Of : Number → ℤ
+int32Of (Int32 z) = z
+int32Of (Int64 z) = pos 0
+int32Of (Real x) = pos 0
+int32Of None = pos 0
+
+abbrev pub magnitudeOf : ℕ → Magnitude
+magnitudeOf p = cond (ltb p (2 ^ 64)) (Fits p) Over

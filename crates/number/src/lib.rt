@@ -1,0 +1,294 @@
+// Numbers: int32, int64 and real64, with the operators of document 01, "Meaning".
+ghost use mathlib.Core.Path.{_≡_};
+ghost use mathlib.Core.Bool.{true, _&&_};
+ghost use Prim.Native.Nat.{_<_};
+ghost use lib.IntN.{natAbs};
+ghost use Rattle.number.specs.Integer.{exactOf};
+ghost use Rattle.number.specs.Number.{isInt32, isInteger, isReal, integerOf, int32Of, realOf, typed, asReal, inArithmetic, inComparison, onReals, realArithmetic, divides, isZero, zeroDivisor, arithmeticOf, bitwiseOf, complementOf, countOf, shiftOf, sidesOf, equalOf, orderOf};
+
+mod bits;
+mod integer;
+mod real;
+
+use opcode::Arithmetic;
+use opcode::Bitwise;
+use opcode::Order;
+use opcode::Shift;
+pub use real::bits_of_real;
+pub use real::decimal;
+pub use real::is_nan;
+pub use real::real_of_bits;
+use truth::Truth;
+
+// `None` is no number: bottom.
+pub enum Number {
+    Int32(i32),
+    Int64(i64),
+    Real(f64),
+    None,
+}
+
+// Kinds of numbers, and their values: 0 where there is none.
+fn is_int32(a: Number) -> bool
+    ensures { λ r. ⌜ r ≡ isInt32 a ⌝ }
+{
+    match a {
+        Number::Int32(_) => true,
+        Number::Int64(_) => false,
+        Number::Real(_) => false,
+        Number::None => false,
+    }
+}
+
+fn is_integer(a: Number) -> bool
+    ensures { λ r. ⌜ r ≡ isInteger a ⌝ }
+{
+    match a {
+        Number::Int32(_) => true,
+        Number::Int64(_) => true,
+        Number::Real(_) => false,
+        Number::None => false,
+    }
+}
+
+fn is_real(a: Number) -> bool
+    ensures { λ r. ⌜ r ≡ isReal a ⌝ }
+{
+    match a {
+        Number::Int32(_) => false,
+        Number::Int64(_) => false,
+        Number::Real(_) => true,
+        Number::None => false,
+    }
+}
+
+fn int32_of(a: Number) -> i32
+    ensures { λ r. ⌜ r ≡ int32Of a ⌝ }
+{
+    match a {
+        Number::Int32(x) => x,
+        Number::Int64(_) => 0,
+        Number::Real(_) => 0,
+        Number::None => 0,
+    }
+}
+
+fn integer_of(a: Number) -> i64
+    ensures { λ r. ⌜ r ≡ integerOf a ⌝ }
+{
+    match a {
+        Number::Int32(x) => x as i64,
+        Number::Int64(x) => x,
+        Number::Real(_) => 0,
+        Number::None => 0,
+    }
+}
+
+fn real_of(a: Number) -> f64
+    ensures { λ r. ⌜ r ≡ realOf a ⌝ }
+{
+    match a {
+        Number::Int32(_) => 0.0,
+        Number::Int64(_) => 0.0,
+        Number::Real(x) => x,
+        Number::None => 0.0,
+    }
+}
+
+// A number as a real, an integer only up to 2^53 in size.
+fn as_real(a: Number) -> Number
+    ensures { λ r. ⌜ r ≡ asReal a ⌝ }
+{
+    match a {
+        Number::Int32(z) => real::exact_real(z as i64),
+        Number::Int64(z) => real::exact_real(z),
+        Number::Real(x) => Number::Real(x),
+        Number::None => Number::None,
+    }
+}
+
+// "With a real, the other side becomes real if its size is at most 2^53, else bottom, ..": a side of an arithmetic operator ..
+fn in_arithmetic(a: Number) -> Number
+    ensures { λ r. ⌜ r ≡ inArithmetic a ⌝ }
+{
+    as_real(a)
+}
+
+// ".. also in comparisons": .. and a side of a comparison.
+fn in_comparison(a: Number) -> Number
+    ensures { λ r. ⌜ r ≡ inComparison a ⌝ }
+{
+    as_real(a)
+}
+
+// "A zero divisor, whole or real, gives bottom."
+fn zero_divisor(op: Arithmetic, b: Number) -> bool
+    ensures { λ r. ⌜ r ≡ zeroDivisor op b ⌝ }
+{
+    divides(op) & is_zero(b)
+}
+
+fn divides(op: Arithmetic) -> bool
+    ensures { λ r. ⌜ r ≡ divides op ⌝ }
+{
+    match op {
+        Arithmetic::Mul => false,
+        Arithmetic::Div => true,
+        Arithmetic::Rem => true,
+        Arithmetic::Add => false,
+        Arithmetic::Sub => false,
+    }
+}
+
+fn is_zero(b: Number) -> bool
+    ensures { λ r. ⌜ r ≡ isZero b ⌝ }
+{
+    match b {
+        Number::Int32(x) => x == 0,
+        Number::Int64(x) => x == 0,
+        Number::Real(x) => x == 0.0,
+        Number::None => false,
+    }
+}
+
+// `+ - * / %`
+pub fn arithmetic(op: Arithmetic, a: Number, b: Number) -> Number
+    ensures { λ r. ⌜ r ≡ arithmeticOf op a b ⌝ }
+{
+    if zero_divisor(op, b) {
+        return Number::None;
+    }
+    if is_integer(a) & is_integer(b) {
+        return on_integers(op, a, b);
+    }
+    on_reals(op, in_arithmetic(a), in_arithmetic(b))
+}
+
+// Two integers, the divisor not 0: two int32 in their own width, other integers in 64 bits.
+fn on_integers(op: Arithmetic, a: Number, b: Number) -> Number
+    requires { ⌜ (divides op ≡ true → 0 < natAbs (integerOf b)) ⌝ }
+    ensures { λ r. ⌜ r ≡ typed (isInt32 a && isInt32 b) (exactOf op (integerOf a) (integerOf b)) ⌝ }
+{
+    if is_int32(a) & is_int32(b) {
+        return integer::narrow(integer::arithmetic_i32(op, int32_of(a), int32_of(b)));
+    }
+    integer::arithmetic_i64(op, integer_of(a), integer_of(b))
+}
+
+fn on_reals(op: Arithmetic, a: Number, b: Number) -> Number
+    ensures { λ r. ⌜ r ≡ onReals a b (realArithmetic op) Number.None ⌝ }
+{
+    if is_real(a) & is_real(b) {
+        return real::real_arithmetic(op, real_of(a), real_of(b));
+    }
+    Number::None
+}
+
+// `& ^ |`
+pub fn bitwise(op: Bitwise, a: Number, b: Number) -> Number
+    ensures { λ r. ⌜ r ≡ bitwiseOf op a b ⌝ }
+{
+    if is_int32(a) & is_int32(b) {
+        return Number::Int32(bits::bitwise_i32(op, int32_of(a), int32_of(b)));
+    }
+    if is_integer(a) & is_integer(b) {
+        return Number::Int64(bits::bitwise_i64(op, integer_of(a), integer_of(b)));
+    }
+    Number::None
+}
+
+// `~`
+pub fn complement(a: Number) -> Number
+    ensures { λ r. ⌜ r ≡ complementOf a ⌝ }
+{
+    match a {
+        Number::Int32(x) => Number::Int32(!x),
+        Number::Int64(x) => Number::Int64(!x),
+        Number::Real(_) => Number::None,
+        Number::None => Number::None,
+    }
+}
+
+// The places of a shift.
+enum Count {
+    Places(u64),
+    Outside,
+}
+
+// "the count must be 0 to width less 1"
+fn places(width: u64, b: Number) -> Count
+    ensures { λ r. ⌜ r ≡ countOf width b ⌝ }
+{
+    let z = integer_of(b);
+    if !is_integer(b) | integer::is_negative(z) {
+        return Count::Outside;
+    }
+    let k = integer::absolute(z);
+    if k < width {
+        Count::Places(k)
+    } else {
+        Count::Outside
+    }
+}
+
+// `<< >> >>>`
+pub fn shift(op: Shift, a: Number, b: Number) -> Number
+    ensures { λ r. ⌜ r ≡ shiftOf op a b ⌝ }
+{
+    match a {
+        Number::Int32(x) => match places(32, b) {
+            Count::Places(k) => Number::Int32(bits::shift_i32(op, x, k)),
+            Count::Outside => Number::None,
+        },
+        Number::Int64(x) => match places(64, b) {
+            Count::Places(k) => Number::Int64(bits::shift_i64(op, x, k)),
+            Count::Outside => Number::None,
+        },
+        Number::Real(_) => Number::None,
+        Number::None => Number::None,
+    }
+}
+
+// Two numbers as a comparison takes them.
+enum Sides {
+    Integers(i64, i64),
+    Reals(f64, f64),
+    Neither,
+}
+
+// Two integers as integers, else both as reals.
+fn sides_of(a: Number, b: Number) -> Sides
+    ensures { λ r. ⌜ r ≡ sidesOf a b ⌝ }
+{
+    if is_integer(a) & is_integer(b) {
+        return Sides::Integers(integer_of(a), integer_of(b));
+    }
+    let x = in_comparison(a);
+    let y = in_comparison(b);
+    if is_real(x) & is_real(y) {
+        return Sides::Reals(real_of(x), real_of(y));
+    }
+    Sides::Neither
+}
+
+// `==`
+pub fn equal(a: Number, b: Number) -> Truth
+    ensures { λ r. ⌜ r ≡ equalOf a b ⌝ }
+{
+    match sides_of(a, b) {
+        Sides::Integers(x, y) => truth::of_bool(integer::equal_i64(x, y)),
+        Sides::Reals(x, y) => truth::of_bool(x == y),
+        Sides::Neither => Truth::Bottom,
+    }
+}
+
+// `< <= > >=`
+pub fn order(op: Order, a: Number, b: Number) -> Truth
+    ensures { λ r. ⌜ r ≡ orderOf op a b ⌝ }
+{
+    match sides_of(a, b) {
+        Sides::Integers(x, y) => truth::of_bool(integer::order_i64(op, x, y)),
+        Sides::Reals(x, y) => truth::of_bool(real::order_real(op, x, y)),
+        Sides::Neither => Truth::Bottom,
+    }
+}
