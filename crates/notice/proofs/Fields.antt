@@ -1,15 +1,14 @@
 -- One field as bytes: what is written is read, and what is read is written again. Assumes nothing.
 use mathlib.Core.Path.{_≡_, refl, sym, ap, ap₂, _∙_}
 use mathlib.Core.Bool.{Bool, true, false, cond, _&&_, _||_}
-use mathlib.Core.Logic.{_⊎_, inl, inr, ⊎-elim}
+use mathlib.Core.Logic.{⊎-elim}
 use mathlib.Core.List.{List, [], _∷_, _++_, append-assoc}
-use Prim.Native.Nat.{ℕ, zero, suc, _+_, _-_, _≤_, _<_, _^_}
+use Prim.Native.Nat.{ℕ, suc, _+_, _≤_, _<_, _^_}
 use native.Mathlib.Omega.{arith}
-use native.Mathlib.Numerals.{add-one}
-use lib.Dec.{leb, eqb, lit<}
+use lib.Dec.{leb, eqb}
 use lib.ListN.{length, getD, take, drop, length-append, take-append-drop}
-use lib.Seq.{getD-at, take-at, drop-at, drop-drop, drop-cons, take-append-seam}
-use borrow.Author.Tests.{le-leb, leb-true, eqb-true}
+use lib.Seq.{getD-at, drop-at, drop-drop, drop-cons, take-append-seam}
+use borrow.Author.Tests.{leb-true, eqb-true}
 use Rattle.word.specs.Word.{le, leBytes, Bytes}
 use Rattle.word.proofs.Laws.{length-leBytes}
 use Rattle.word.proofs.Theorems.{bytes-read, read-bytes}

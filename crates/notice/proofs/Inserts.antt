@@ -1,29 +1,27 @@
 -- A field at its name's place: in the list of fields, and in the bytes. Assumes nothing.
 use mathlib.Core.Path.{_≡_, refl, sym, ap, ap₂, _∙_}
-use mathlib.Core.Bool.{Bool, true, false, cond, not, _&&_, _||_}
+use mathlib.Core.Bool.{Bool, true, false, not, _&&_, _||_}
 use mathlib.Core.List.{List, [], _∷_, _++_, map, append-assoc, append-nil}
 use Prim.Native.Nat.{ℕ, zero, suc, _+_, _-_, _≤_, _<_}
 use native.Mathlib.Omega.{arith}
-use lib.Dec.{leb, ltb, eqb}
-use lib.ListN.{length, getD, take, drop, length-append, length-take, length-drop, take-append-drop, List·getD-eq-default}
-use lib.Seq.{sets, length-take-le, getD-take, drop-drop, drop-at, take-at, drop-append-seam}
-use borrow.Author.Tests.{not-true, le-leb, lt-leb, leb-true, ltb-true, eqb-true}
+use lib.Dec.{leb, ltb}
+use lib.ListN.{length, take, drop, length-append, length-drop, take-append-drop}
+use lib.Seq.{sets, length-take-le, drop-drop, drop-at, take-at}
+use borrow.Author.Tests.{not-true, leb-true, ltb-true}
 use Rattle.word.specs.Word.{leBytes, Bytes}
 use Rattle.word.proofs.Laws.{length-leBytes}
 use Rattle.octets.specs.Octets.{sameOf, beforeOf}
-use Rattle.octets.proofs.Theorems.{and-parts, true-false}
-use Rattle.notice.specs.declared.Layout.{Layout}
-use Rattle.notice.specs.declared.Layout.the-variants.{WellFormed, Fault}
+use Rattle.octets.proofs.Theorems.{and-parts}
 use Rattle.notice.specs.declared.Found.{Found}
 use Rattle.notice.specs.declared.Found.the-variants.{At, Nothing}
 use Rattle.notice.specs.Field.{Field, nameRight, sizeRight, fieldRight, allRight}
-use Rattle.notice.specs.Render.{fieldBytes, fieldsBytes, headerBytes, render, NoticeFields}
-use Rattle.notice.specs.Layout.{pick, unless, nameAt, kindAt, valueStart, valueSizeAt, fieldAt, countOf, checkOf, startsFrom, startsOf, fieldsOf}
+use Rattle.notice.specs.Render.{fieldBytes, fieldsBytes, headerBytes, render}
+use Rattle.notice.specs.Layout.{pick, unless, nameAt, kindAt, valueStart, valueSizeAt, fieldAt, countOf, startsFrom, startsOf, fieldsOf}
 use Rattle.notice.specs.Lookup.{lookupIn, lookupOf}
 use Rattle.notice.specs.Write.{fieldSize, hasName, insertField, placeIn, placeFor, hasRoom, refusalIn, Insertable, insertedBytes}
 use Rattle.notice.proofs.Walks.{starts-end, starts-more}
 use Rattle.notice.proofs.Fields.{Small, right-small, length-field, field-read, next-read, lies-read}
-use Rattle.notice.proofs.Renders.{fieldsFrom, length-header, length-render, well-header, well-starts, well-count, well-render, well-fields}
+use Rattle.notice.proofs.Renders.{length-header, length-render, well-header, well-starts, well-count, well-render, well-fields}
 use Rattle.notice.proofs.Stores.{sets-between}
 
 -- a part of a slice of bytes

@@ -1,14 +1,14 @@
 -- Fields in the order of their names: insertion keeps the order, and fields of different names may be inserted in any order. Assumes nothing.
-use mathlib.Core.Path.{_≡_, refl, sym, ap, ap₂, _∙_, subst}
-use mathlib.Core.Logic.{_⊎_, inl, inr, ⊎-elim}
+use mathlib.Core.Path.{_≡_, refl, sym, ap, ap₂, _∙_}
+use mathlib.Core.Logic.{⊎-elim}
 use mathlib.Core.Bool.{Bool, true, false, cond, not, _&&_, _||_}
 use mathlib.Core.List.{List, [], _∷_, _++_, append-assoc, append-nil, List·Permᴰ, List·Permᴰ·nil, List·Permᴰ·cons, List·Permᴰ·swap, List·Permᴰ·trans}
-use Prim.Native.Nat.{ℕ, suc, _+_, _≤_, _<_}
+use Prim.Native.Nat.{ℕ, suc, _+_}
 use native.Mathlib.Omega.{arith}
 use lib.ListN.{length, length-append}
 use borrow.Author.Tests.{not-true}
 use Rattle.octets.specs.Octets.{sameOf, beforeOf}
-use Rattle.octets.proofs.Theorems.{and-parts, or-parts, true-false, same, same-refl, before-irreflexive, before-transitive, before-total}
+use Rattle.octets.proofs.Theorems.{and-parts, true-false, same, before-irreflexive, before-transitive, before-total}
 use Rattle.notice.specs.Field.{Field, fieldRight, allRight, beforeFirst, rising}
 use Rattle.notice.specs.Render.{fieldBytes, fieldsBytes}
 use Rattle.notice.specs.Write.{fieldSize, hasName, insertField}

@@ -1,25 +1,24 @@
 -- Where field k of a notice lies, and its parts. Assumes nothing.
-use mathlib.Core.Path.{_≡_, refl, sym, ap, ap₂, _∙_}
-use mathlib.Core.Bool.{Bool, true, false, _&&_, and-false}
+use mathlib.Core.Path.{_≡_, refl, sym, ap, _∙_}
+use mathlib.Core.Bool.{Bool, true, false, and-false}
 use mathlib.Core.List.{List, [], _∷_, map}
 use Prim.Native.Nat.{ℕ, zero, suc, _+_, _-_, _≤_, _<_}
 use native.Mathlib.Omega.{arith}
 use native.Mathlib.Numerals.{add-one}
-use lib.Dec.{eqb, leb, ltb}
+use lib.Dec.{ltb}
 use lib.ListN.{length, getD, take, drop, length-drop, length-map}
-use lib.Seq.{drop-cons, take-all}
+use lib.Seq.{drop-cons}
 use borrow.Author.Tests.{le-leb, lt-leb, lt-ltb, le-ltb, ltb-true, ltb-false}
 use Rattle.word.specs.Word.{Bytes}
-use Rattle.octets.proofs.Theorems.{true-false}
 use Rattle.notice.specs.declared.Layout.{Layout}
 use Rattle.notice.specs.declared.Layout.the-variants.{WellFormed, Fault}
 use Rattle.notice.specs.declared.Place.{Place}
 use Rattle.notice.specs.Field.{Field}
-use Rattle.notice.specs.Layout.{pick, kindAt, nameSizeAt, valueSizeAt, nextAt, valueStart, nameAt, valueAt, fieldAt, liesAt, lengthRight, countOf, checkOf, startsFrom, startsOf, fieldsOf}
-use Rattle.notice.specs.Read.{partOf, readBy, readNumber, readPlace, blank, readField, locateAt, nowhere, locateOf, Located}
+use Rattle.notice.specs.Layout.{pick, kindAt, nameSizeAt, valueSizeAt, nextAt, valueStart, fieldAt, liesAt, lengthRight, countOf, checkOf, startsFrom, startsOf}
+use Rattle.notice.specs.Read.{partOf, readNumber, readPlace, blank, readField, locateAt, nowhere, locateOf, Located}
 use Rattle.notice.proofs.Places.{Lies, lies-true}
 use Rattle.notice.proofs.Walks.{starts-end, starts-more, starts-stop}
-use Rattle.notice.proofs.Renders.{fault-well, well-starts, well-count}
+use Rattle.notice.proofs.Renders.{well-count}
 
 -- the bytes from a to e
 module _ (s : List ℕ) (a e : ℕ) where

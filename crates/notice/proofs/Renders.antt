@@ -5,23 +5,22 @@ use mathlib.Core.List.{List, [], _∷_, _++_, map, append-assoc, append-nil}
 use Prim.Native.Nat.{ℕ, zero, suc, _+_, _-_, _≤_, _<_, _^_}
 use native.Mathlib.Omega.{arith}
 use lib.Dec.{leb, eqb}
-use lib.ListN.{length, getD, take, drop, length-append, length-drop, length-map, drop-of-length-le}
-use lib.Seq.{drop-at}
+use lib.ListN.{length, drop, length-append, length-drop, drop-of-length-le}
 use borrow.Author.Tests.{le-leb, eq-eqb, leb-true, eqb-true}
 use Rattle.word.specs.Word.{le, leBytes, Bytes}
 use Rattle.word.proofs.Laws.{length-leBytes}
 use Rattle.word.proofs.Theorems.{bytes-read, read-bytes}
 use Rattle.octets.specs.Octets.{beforeOf}
-use Rattle.octets.proofs.Theorems.{and-parts, true-false}
+use Rattle.octets.proofs.Theorems.{and-parts}
 use Rattle.notice.specs.declared.Layout.{Layout}
 use Rattle.notice.specs.declared.Layout.the-variants.{WellFormed, Fault}
 use Rattle.notice.specs.Field.{Field, fieldRight, allRight, beforeFirst, rising}
 use Rattle.notice.specs.Render.{fieldBytes, fieldsBytes, headerBytes, render, NoticeFields}
 use Rattle.notice.specs.Layout.{pick, nextAt, nameAt, fieldAt, liesAt, rightAt, standsAt, lengthRight, countOf, headerRight, checkFrom, checkOf, startsFrom, startsOf, fieldsOf}
-use Rattle.notice.proofs.Places.{Lies, right-lies}
+use Rattle.notice.proofs.Places.{right-lies}
 use Rattle.notice.proofs.Walks.{starts-end, starts-more}
 use Rattle.notice.proofs.Checks.{more-suc}
-use Rattle.notice.proofs.Fields.{Small, right-small, split-drop, field-read, next-read, lies-read, field-written, length-field}
+use Rattle.notice.proofs.Fields.{right-small, split-drop, field-read, next-read, lies-read, field-written, length-field}
 
 -- a faulty notice is not well-formed
 abbrev at-fault : Layout → ℕ

@@ -1,11 +1,11 @@
 -- Runs of stores: over two lists, before another store, and upwards from the end. Assumes nothing.
 use mathlib.Core.Path.{_≡_, refl, sym, ap, ap₂, _∙_}
 use mathlib.Core.List.{List, [], _∷_, _++_, append-assoc}
-use Prim.Native.Nat.{ℕ, zero, suc, _+_, _-_, _≤_, _<_}
+use Prim.Native.Nat.{ℕ, suc, _+_, _-_, _≤_, _<_}
 use native.Mathlib.Omega.{arith}
 use native.Mathlib.Numerals.{add-one}
-use lib.ListN.{length, getD, set, take, drop, length-append, drop-of-length-le}
-use lib.Seq.{sets, sets-eq, set-comm, getD-set-other, drop-cons, take-at, drop-append-add, take-all}
+use lib.ListN.{length, getD, set, take, drop, length-append}
+use lib.Seq.{sets, sets-eq, set-comm, getD-set-other, drop-cons, take-at, drop-append-add}
 use Rattle.word.specs.Word.{leBytes}
 use Rattle.word.proofs.Laws.{length-leBytes}
 use Rattle.notice.specs.Field.{Field}

@@ -1,36 +1,34 @@
 -- The theorems that specs/Theorems.antt states. Assumes nothing.
 use mathlib.Core.Path.{_≡_, refl, sym, ap, ap₂, _∙_}
-use mathlib.Core.Logic.{_⊎_, inl, inr, ⊎-elim, _↔_}
-use mathlib.Core.Bool.{Bool, true, false, not, _&&_, _||_}
-use mathlib.Core.List.{List, [], _∷_, _++_, map, List·Memᴰ, List·Memᴰ·head, List·Memᴰ·tail, List·Memᴰ·cases-cons, List·Memᴰ·not-nil, List·Permᴰ, append-assoc}
-use mathlib.Core.Option.{Option, some, none}
-use Prim.Native.Nat.{ℕ, zero, suc, _+_, _-_, _≤_, _<_}
+use mathlib.Core.Logic.{_⊎_, inl, inr}
+use mathlib.Core.Bool.{Bool, true, false, _&&_}
+use mathlib.Core.List.{List, [], _∷_, _++_, map, List·Memᴰ, List·Memᴰ·head, List·Memᴰ·tail, List·Memᴰ·cases-cons, List·Memᴰ·not-nil}
+use mathlib.Core.Option.{some, none}
+use Prim.Native.Nat.{ℕ, zero, suc, _+_, _-_, _≤_}
 use native.Mathlib.Omega.{arith}
-use lib.Dec.{eqb, leb, ltb}
-use lib.ListN.{length, take, drop, length-append, take-append-drop}
-use lib.Seq.{take-at, length-take-le, drop-append-add, drop-drop}
-use borrow.Author.Tests.{le-leb, lt-ltb, eqb-true, leb-true, not-true}
-use Rattle.word.specs.Word.{leBytes, Bytes}
+use lib.Dec.{leb}
+use lib.ListN.{length, take, drop, take-append-drop}
+use lib.Seq.{take-at, length-take-le}
+use borrow.Author.Tests.{leb-true}
+use Rattle.word.specs.Word.{leBytes}
 use Rattle.octets.specs.Octets.{sameOf, beforeOf}
-use Rattle.octets.proofs.Theorems.{and-parts, true-false, same, same-refl, before-transitive}
+use Rattle.octets.proofs.Theorems.{and-parts, true-false, same, before-transitive}
 use Rattle.notice.specs.declared.Layout.{Layout}
 use Rattle.notice.specs.declared.Layout.the-variants as layouts
 use Rattle.notice.specs.declared.Written.{Written}
-use Rattle.notice.specs.declared.Found.{Found}
-use Rattle.notice.specs.declared.Found.the-variants.{At, Nothing}
-use Rattle.notice.specs.Field.{Field, nameRight, sizeRight, fieldRight, allRight, beforeFirst, rising}
-use Rattle.notice.specs.Render.{fieldsBytes, headerBytes, render, NoticeFields}
-use Rattle.notice.specs.Layout.{pick, kindAt, valueStart, valueSizeAt, nextAt, nameAt, fieldAt, liesAt, countOf, checkOf, startsFrom, startsOf, fieldsOf}
-use Rattle.notice.specs.Lookup.{fieldNamed, lookupIn, lookupOf, FoundIs}
-use Rattle.notice.specs.Write.{fieldSize, hasName, insertField, hasRoom, layoutIn, refusalIn, refusalBy, refusalOf, writtenOf, insertedBytes, writtenBytes, Writes, Insertable}
+use Rattle.notice.specs.Field.{Field, beforeFirst, rising}
+use Rattle.notice.specs.Render.{fieldsBytes, render, NoticeFields}
+use Rattle.notice.specs.Layout.{pick, nextAt, nameAt, fieldAt, liesAt, countOf, checkOf, startsFrom, fieldsOf}
+use Rattle.notice.specs.Lookup.{fieldNamed, lookupIn, FoundIs}
+use Rattle.notice.specs.Write.{fieldSize, insertField, refusalBy, refusalOf, writtenOf, writtenBytes, Writes, Insertable}
 use Rattle.notice.specs.Theorems.{WellFormed, OneList, FieldsRead, Lookup, NamedField, NoneNamed, EachFound, WriteAdds, InsertAdds, WrittenAgain, EmptyNotice, Op42}
-use Rattle.notice.proofs.Places.{Lies, lies-true}
+use Rattle.notice.proofs.Places.{lies-true}
 use Rattle.notice.proofs.Walks.{starts-end, starts-more, starts-stop}
 use Rattle.notice.proofs.Renders.{render-passes, render-fields, well-render, well-fields, well-count, length-render}
-use Rattle.notice.proofs.Orders.{before-not-same, insert-rising, insert-length, insert-size, insert-right, insert-splits, insertAll, fresh, fresh-inserted, perm-fresh, perm-inserted, perm-right, perm-length, perm-size, allBeforeFirst, rising-fresh, rising-inserted}
+use Rattle.notice.proofs.Orders.{before-not-same, insert-splits, insertAll, fresh, perm-fresh, perm-inserted, perm-right, perm-length, perm-size, allBeforeFirst, rising-fresh, rising-inserted}
 use Rattle.notice.proofs.Trips.{Fitting, added-fields, added-length, over, writes-all}
 use Rattle.notice.proofs.Writes.{added}
-use Rattle.notice.proofs.Inserts.{Accepted, accepted, bytes-take}
+use Rattle.notice.proofs.Inserts.{accepted, bytes-take}
 
 pub well-formed : WellFormed
 well-formed s bytes = (

@@ -1,25 +1,24 @@
 -- Writing into the notice of a list of fields, once and again and again. Assumes nothing.
-use mathlib.Core.Path.{_≡_, refl, sym, ap, ap₂, _∙_}
-use mathlib.Core.Bool.{Bool, true, false, not, _&&_}
+use mathlib.Core.Path.{_≡_, refl, sym, ap, _∙_}
+use mathlib.Core.Bool.{true, false, not}
 use mathlib.Core.List.{List, [], _∷_, _++_}
-use Prim.Native.Nat.{ℕ, zero, suc, _+_, _-_, _≤_, _<_}
+use Prim.Native.Nat.{ℕ, _+_, _≤_, _<_}
 use native.Mathlib.Omega.{arith}
-use lib.Dec.{eqb, leb, ltb}
+use lib.Dec.{ltb}
 use lib.ListN.{length, take, drop, length-append, length-drop}
-use lib.Seq.{take-at, drop-append-add, drop-drop, length-take-le}
+use lib.Seq.{take-at, drop-append-add, drop-drop}
 use borrow.Author.Tests.{le-leb, lt-ltb, not-true}
 use Rattle.octets.proofs.Theorems.{and-parts}
-use Rattle.notice.specs.declared.Layout.{Layout}
-use Rattle.notice.specs.declared.Layout.the-variants.{WellFormed, Fault}
+use Rattle.notice.specs.declared.Layout.the-variants.{WellFormed}
 use Rattle.notice.specs.declared.Written.{Written}
 use Rattle.notice.specs.Field.{Field, nameRight, sizeRight, fieldRight, allRight}
 use Rattle.notice.specs.Render.{fieldBytes, fieldsBytes, render, NoticeFields}
 use Rattle.notice.specs.Layout.{countOf, checkOf, fieldsOf}
-use Rattle.notice.specs.Write.{fieldSize, hasName, insertField, hasRoom, layoutIn, refusalIn, refusalOf, writtenOf, insertedBytes, writtenBytes, Writes}
+use Rattle.notice.specs.Write.{fieldSize, hasName, insertField, refusalIn, writtenOf, writtenBytes, Writes}
 use Rattle.notice.proofs.Fields.{length-field}
 use Rattle.notice.proofs.Renders.{render-passes, render-fields, rendered-count, length-render}
 use Rattle.notice.proofs.Orders.{insert-rising, insert-length, insert-size, insert-right, insertAll, fresh, fresh-inserted}
-use Rattle.notice.proofs.Writes.{Answers, added}
+use Rattle.notice.proofs.Writes.{added}
 
 -- a new right field, with room: the fields with it are a notice's, too
 pub record Fitting (fs : List Field) (f : Field) (room : ℕ) : Type 0 where

@@ -1,16 +1,15 @@
 -- Walks over the starts of a notice's fields, and lookup on such a walk. Assumes nothing.
-use mathlib.Core.Path.{_≡_, refl, sym, ap, _∙_}
-use mathlib.Core.Bool.{Bool, true, false, _&&_}
+use mathlib.Core.Path.{_≡_, refl, ap, _∙_}
+use mathlib.Core.Bool.{true, false}
 use mathlib.Core.List.{List, [], _∷_}
-use Prim.Native.Nat.{ℕ, zero, suc, _+_, _-_, _≤_, _<_}
+use Prim.Native.Nat.{ℕ, suc, _-_, _≤_, _<_}
 use native.Mathlib.Omega.{arith}
 use lib.ListN.{length}
 use borrow.Author.Tests.{le-leb, lt-leb}
 use Rattle.octets.specs.Octets.{sameOf, beforeOf}
-use Rattle.notice.specs.declared.Found.{Found}
 use Rattle.notice.specs.declared.Found.the-variants.{At, Nothing}
 use Rattle.notice.specs.Layout.{kindAt, valueStart, valueSizeAt, nameAt, nextAt, liesAt, countOf, startsFrom, startsOf}
-use Rattle.notice.specs.Lookup.{lookupIn, lookupOf}
+use Rattle.notice.specs.Lookup.{lookupIn}
 use Rattle.notice.specs.Write.{placeIn}
 
 pub same-place : {k k′ a a′ n n′ : ℕ} → k ≡ k′ → a ≡ a′ → n ≡ n′ → At k a n ≡ At k′ a′ n′
