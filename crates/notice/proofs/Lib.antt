@@ -8,6 +8,7 @@ pub mod Stores
 pub mod Inserts
 pub mod Writes
 pub mod Orders
+pub mod Faults
 pub mod Trips
 pub mod Theorems
 pub mod Readings

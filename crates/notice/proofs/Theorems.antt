@@ -4,28 +4,30 @@ use mathlib.Core.Logic.{_⊎_, inl, inr}
 use mathlib.Core.Bool.{Bool, true, false, _&&_}
 use mathlib.Core.List.{List, [], _∷_, _++_, map, List·Memᴰ, List·Memᴰ·head, List·Memᴰ·tail, List·Memᴰ·cases-cons, List·Memᴰ·not-nil}
 use mathlib.Core.Option.{some, none}
-use Prim.Native.Nat.{ℕ, zero, suc, _+_, _-_, _≤_}
+use Prim.Native.Nat.{ℕ, zero, suc, _+_, _-_, _≤_, _<_}
 use native.Mathlib.Omega.{arith}
-use lib.Dec.{leb}
+use lib.Dec.{leb, ltb}
 use lib.ListN.{length, take, drop, take-append-drop}
 use lib.Seq.{take-at, length-take-le}
-use borrow.Author.Tests.{leb-true}
+use borrow.Author.Tests.{leb-true, lt-ltb}
 use Rattle.word.specs.Word.{leBytes}
 use Rattle.octets.specs.Octets.{sameOf, beforeOf}
 use Rattle.octets.proofs.Theorems.{and-parts, true-false, same, before-transitive}
 use Rattle.notice.specs.declared.Layout.{Layout}
 use Rattle.notice.specs.declared.Layout.the-variants as layouts
 use Rattle.notice.specs.declared.Written.{Written}
-use Rattle.notice.specs.Field.{Field, beforeFirst, rising}
+use Rattle.notice.specs.Field.{Field, allRight, beforeFirst, rising}
 use Rattle.notice.specs.Render.{fieldsBytes, render, NoticeFields}
-use Rattle.notice.specs.Layout.{pick, nextAt, nameAt, fieldAt, liesAt, countOf, checkOf, startsFrom, fieldsOf}
+use Rattle.notice.specs.Layout.{pick, nextAt, nameAt, fieldAt, liesAt, countOf, checkOf, startsFrom, fieldsOf, headerRight, standsAt, checkFrom, placeOf}
 use Rattle.notice.specs.Lookup.{fieldNamed, lookupIn, FoundIs}
 use Rattle.notice.specs.Write.{fieldSize, insertField, refusalBy, refusalOf, writtenOf, writtenBytes, Writes, Insertable}
-use Rattle.notice.specs.Theorems.{WellFormed, OneList, FieldsRead, Lookup, NamedField, NoneNamed, EachFound, WriteAdds, InsertAdds, WrittenAgain, EmptyNotice, Op42}
+use Rattle.notice.specs.Theorems.{WellFormed, lastName, FaultPlace, OneList, FieldsRead, ReadEach, Lookup, NamedField, NoneNamed, EachFound, WriteAdds, InsertAdds, WrittenAgain, EmptyNotice, Op42}
 use Rattle.notice.proofs.Places.{lies-true}
 use Rattle.notice.proofs.Walks.{starts-end, starts-more, starts-stop}
 use Rattle.notice.proofs.Renders.{render-passes, render-fields, well-render, well-fields, well-count, length-render}
 use Rattle.notice.proofs.Orders.{before-not-same, insert-splits, insertAll, fresh, perm-fresh, perm-inserted, perm-right, perm-length, perm-size, allBeforeFirst, rising-fresh, rising-inserted}
+use Rattle.notice.proofs.Checks.{header-long}
+use Rattle.notice.proofs.Faults.{faulted}
 use Rattle.notice.proofs.Trips.{Fitting, added-fields, added-length, over, writes-all}
 use Rattle.notice.proofs.Writes.{added}
 use Rattle.notice.proofs.Inserts.{accepted, bytes-take}
@@ -36,11 +38,28 @@ well-formed s bytes = (
   λ r. ap checkOf (r .2) ∙ render-passes (r .0) (r .1),
 )
 
+pub fault-place : FaultPlace
+fault-place s place bytes e = go (headerRight s) refl e
+  where
+    go : (b : Bool) → headerRight s ≡ b → pick b (λ _. checkFrom (countOf s) [] s 8) (λ _. layouts.Fault 0) ≡ layouts.Fault place
+        → ((headerRight s ≡ false) × (place ≡ 0))
+        ⊎ ((fs : List Field) × (headerRight s ≡ true) × (allRight fs ≡ true) × (rising fs ≡ true) × (drop 8 s ≡ fieldsBytes fs ++ drop place s) × (place ≡ 8 + length (fieldsBytes fs))
+        × (((length fs < countOf s) × (standsAt (lastName [] fs) s place ≡ false)) ⊎ ((length fs ≡ countOf s) × (place < length s))))
+    go false p x = inl (p, ap placeOf (sym x))
+    go true p x =
+        let f = faulted (countOf s) [] s 8 place bytes (header-long s p) x in
+        inr (f .fs, p, f .right, f .rises, f .bytes, f .place-is, f .why)
+
 pub fields-read : FieldsRead
 fields-read = render-fields
 
 pub one-list : OneList
 one-list fs gs p q e = sym (fields-read fs p) ∙ (ap fieldsOf e ∙ fields-read gs q)
+
+pub read-each : ReadEach
+read-each s k bytes well h =
+    let b : ltb k (countOf s) ≡ true = lt-ltb k (countOf s) (omega (arith, well-count s bytes well)) in
+    (rw (well, b), rw (well, b))
 
 -- lookup, on every walk over fields that lie within the notice
 found-from : (n : ℕ) (s name : List ℕ) (at : ℕ) → FoundIs s (lookupIn s name (startsFrom n s at)) (fieldNamed name (map (fieldAt s) (startsFrom n s at)))

@@ -1,4 +1,4 @@
--- Lookup by name, over the fields of a notice: "5 the field's or bottom" of document 01's run asks it.
+-- Lookup by name, over the fields of a notice. Document 01, "Table": ops 1..4 push their value, "5 the field's or bottom".
 use Prim.Native.Nat.{ℕ, _+_, _≤_}
 use mathlib.Core.Path.{_≡_}
 use mathlib.Core.List.{List, [], _∷_}

@@ -6,7 +6,7 @@ use mathlib.Core.List.{List, []}
 use lib.Dec.{eqb, leb, ltb}
 use lib.ListN.{length, getD, take, drop}
 use Rattle.notice.specs.Field.{Field}
-use Rattle.notice.specs.Layout.{pick, unless, kindAt, valueStart, nextAt, countOf, checkOf, placeOf, startsOf, fieldsOf}
+use Rattle.notice.specs.Layout.{pick, unless, kindAt, valueStart, nextAt, countOf, checkOf, numberOf, placeOf, startsOf, fieldsOf}
 use Rattle.notice.specs.declared.Layout.{Layout}
 use Rattle.notice.specs.declared.Layout.the-variants.{WellFormed, Fault}
 use Rattle.notice.specs.declared.Place.{Place}
@@ -17,7 +17,7 @@ partOf s a e = pick (leb a e && leb e (length s)) (λ _. take (e - a) (drop a s)
 
 -- "Reading: 11, 17"; "17: field k not below the count"; 0 for none
 abbrev pub readBy : Layout → ℕ → ℕ → ℕ
-readBy (Fault place) count k = 11
+readBy (Fault place) count k = numberOf (Fault place)
 readBy WellFormed count k = unless (ltb k count) 17 0
 
 abbrev pub readNumber : List ℕ → ℕ → ℕ

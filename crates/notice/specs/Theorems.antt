@@ -1,29 +1,49 @@
 -- What holds of notices. The proofs are in proofs/Theorems.antt, under the same names.
 use mathlib.Core.Path.{_≡_}
-use mathlib.Core.Logic.{_↔_}
-use mathlib.Core.Bool.{true}
+use mathlib.Core.Logic.{_↔_, _⊎_}
+use mathlib.Core.Bool.{true, false}
 use mathlib.Core.List.{List, [], _∷_, _++_, List·Memᴰ, List·Permᴰ}
 use mathlib.Core.Option.{some, none}
-use Prim.Native.Nat.{ℕ, _≤_}
-use lib.ListN.{length, take, drop}
+use Prim.Native.Nat.{ℕ, _+_, _≤_, _<_}
+use lib.ListN.{length, getD, take, drop}
 use Rattle.word.specs.Word.{Bytes}
 use Rattle.notice.specs.declared.Layout.{Layout}
-use Rattle.notice.specs.Field.{Field, rising}
-use Rattle.notice.specs.Render.{render, NoticeFields}
-use Rattle.notice.specs.Layout.{checkOf, fieldsOf}
+use Rattle.notice.specs.Field.{Field, allRight, rising}
+use Rattle.notice.specs.Render.{fieldsBytes, render, NoticeFields}
+use Rattle.notice.specs.Layout.{countOf, headerRight, standsAt, checkOf, fieldsOf}
 use Rattle.notice.specs.Lookup.{fieldNamed, lookupOf, FoundIs}
+use Rattle.notice.specs.Read.{readNumber, blank, readField}
 use Rattle.notice.specs.Write.{field, insertField, writtenOf, writtenBytes, Writes}
 
 -- A slice is a well-formed notice exactly if it is the bytes of some list of at most 64 right fields with rising names, at most 16,384 bytes in all.
 abbrev pub WellFormed : Type 0
 WellFormed = (s : List ℕ) → Bytes s → (checkOf s ≡ Layout.WellFormed) ↔ ((fs : List Field) × NoticeFields fs × (s ≡ render fs))
 
--- That list is unique, and is the one that the walk over the bytes gives.
+-- the last of some names, the first of which comes before the fields
+abbrev pub lastName : List ℕ → List Field → List ℕ
+lastName name [] = name
+lastName name (f ∷ fs) = lastName (f .name) fs
+
+-- "for 11 the faulty field's start, the first spare byte, or 0 for the header": if the header is right, some right fields with rising names lie before the place. Either fewer than the header counts, and at the place
+-- no field starts that is right and comes after them; or as many, and the place is the first byte after them.
+abbrev pub FaultPlace : Type 0
+FaultPlace =
+    (s : List ℕ) (place : ℕ) → Bytes s → checkOf s ≡ Layout.Fault place →
+    ((headerRight s ≡ false) × (place ≡ 0))
+    ⊎ ((fs : List Field) × (headerRight s ≡ true) × (allRight fs ≡ true) × (rising fs ≡ true) × (drop 8 s ≡ fieldsBytes fs ++ drop place s) × (place ≡ 8 + length (fieldsBytes fs))
+    × (((length fs < countOf s) × (standsAt (lastName [] fs) s place ≡ false)) ⊎ ((length fs ≡ countOf s) × (place < length s))))
+
+-- The list of a well-formed notice is unique, and is the one that the walk over the bytes gives.
 abbrev pub OneList : Type 0
 OneList = (fs gs : List Field) → NoticeFields fs → NoticeFields gs → render fs ≡ render gs → fs ≡ gs
 
 abbrev pub FieldsRead : Type 0
 FieldsRead = (fs : List Field) → NoticeFields fs → fieldsOf (render fs) ≡ fs
+
+-- Reading gives each of these fields and is not refused.
+abbrev pub ReadEach : Type 0
+ReadEach =
+    (s : List ℕ) (k : ℕ) → Bytes s → checkOf s ≡ Layout.WellFormed → k < length (fieldsOf s) → (readNumber s k ≡ 0) × (readField s k ≡ getD (fieldsOf s) k blank)
 
 -- Lookup finds what the list of fields has under the name: the field's kind, and its value as a part of the notice.
 abbrev pub Lookup : Type 0

@@ -8,7 +8,7 @@ use lib.ListN.{length, take, drop}
 use Rattle.octets.specs.Octets.{sameOf, beforeOf}
 use Rattle.notice.specs.Field.{Field, nameRight, sizeRight}
 use Rattle.notice.specs.Render.{render}
-use Rattle.notice.specs.Layout.{pick, unless, nameAt, countOf, checkOf, placeOf, startsOf, fieldsOf}
+use Rattle.notice.specs.Layout.{pick, unless, nameAt, countOf, checkOf, numberOf, placeOf, startsOf, fieldsOf}
 use Rattle.notice.specs.declared.Layout.{Layout}
 use Rattle.notice.specs.declared.Layout.the-variants.{WellFormed, Fault}
 use Rattle.notice.specs.declared.Written.{Written}
@@ -57,7 +57,7 @@ refusalIn s room f =
 
 -- "Writing: 11, 13, 16, 14, 15"
 abbrev pub refusalBy : Layout → List ℕ → ℕ → Field → ℕ
-refusalBy (Fault place) buffer len f = 11
+refusalBy (Fault place) buffer len f = numberOf (Fault place)
 refusalBy WellFormed buffer len f = refusalIn (take len buffer) (length buffer) f
 
 abbrev pub refusalOf : List ℕ → ℕ → Field → ℕ
