@@ -1,0 +1,108 @@
+use Prim.Native.Nat.{_-_}
+use native.Mathlib.Omega.{arith}
+use borrow.Author.Tests.{not-true, not-false}
+use Rattle.table.proofs.Laid.{laid, inside}
+use Rattle.table.proofs.Passing.{Passed, pass-start, pass-more, pass-end, pass-wrong, pass-stuck}
+use borrow.Author.Needs.{needs}
+use Rattle.table.proofs.shapes_right.Statement.{statement}
+use Rattle.table.proofs.shapes_right.Tie as tie
+use Rattle.table.proofs.shapes_right.Reads as reads
+use Rattle.table.proofs.shapes_right.Lts as lts
+use Rattle.table.proofs.entry_at.Reads as entry-at-reads
+use Rattle.table.proofs.entry_right.Reads as entry-right-reads
+use Rattle.table.proofs.flow.Reads as flow-reads
+use Rattle.table.proofs.pool.Reads as pool-reads
+
+abbrev Inv-loop : tie.InvT-loop
+Inv-loop table n shapes₀ strings i₀ shapes i = Passed table shapes i
+
+abbrev μ-loop : tie.MeasureT-loop
+μ-loop table n shapes₀ strings i₀ shapes i = n - i
+
+pool-requires : tie.Need-pool-requires Inv-loop μ-loop
+pool-requires c κs = let l = laid (c .before .args .table .now) (c .before .pre .0) in (l .head, omega arith)
+
+element-write-shapes : tie.Need-element-write-shapes Inv-loop μ-loop
+element-write-shapes c = search needs
+
+loop-holds : tie.Need-loop-holds Inv-loop μ-loop
+loop-holds c =
+    let s = c .before .before .args .table .now in
+    pass-start s (c .before .before .args .shapes .now) (c .before .before .pre .2) (laid s (c .before .before .pre .0) .few)
+
+entry-at-requires : tie.Need-entry-at-requires Inv-loop μ-loop
+entry-at-requires c κs =
+    inside (c .before .before .before .before .args .table .now) (c .before .before .before .before .pre .0) (c .before .loop .i) (omega (arith, c .before .before .before .before .pre .1))
+
+entry-right-requires : tie.Need-entry-right-requires Inv-loop μ-loop
+entry-right-requires c κs = search needs
+
+returns : tie.Need-returns Inv-loop μ-loop
+returns c =
+    let l = c .before .before .before .before .loop in
+    let e = c .before .before .entry-at in
+    pass-wrong (c .before .before .before .before .before .before .before .args .table .now) (l .shapes) (l .i) (l .inv) (omega (arith, c .before .before .before .before .before .before .before .pre .1)) (e .result) (e .ensures)
+    _ _ (c .before .before .before .before .before .pool .ensures) (c .before .entry-right .ensures) (not-true _ (c .if1 .taken))
+
+mul-flow : tie.Need-mul-flow Inv-loop μ-loop
+mul-flow c = search needs
+
+element-copy-out-flow : tie.Need-element-copy-out-flow Inv-loop μ-loop
+element-copy-out-flow c = search needs
+
+flow-requires : tie.Need-flow-requires Inv-loop μ-loop
+flow-requires c κs = search needs
+
+returns-2 : tie.Need-returns-2 Inv-loop μ-loop
+returns-2 c =
+    let l = c .before .before .before .before .before .before .before .loop in
+    let e = c .before .before .before .before .before .entry-at in
+    let f = c .before .flow in
+    pass-stuck (c .before .before .before .before .before .before .before .before .before .before .args .table .now) (l .shapes) (l .i) (l .inv) (omega (arith, c .before .before .before .before .before .before .before .before .before .before .pre .1)) (e .result) (e .ensures) (f .result) (f .ensures) (c .if2 .taken)
+
+add-i : tie.Need-add-i Inv-loop μ-loop
+add-i c = search needs
+
+mul-shapes : tie.Need-mul-shapes Inv-loop μ-loop
+mul-shapes c = search needs
+
+element-write-shapes-2 : tie.Need-element-write-shapes-2 Inv-loop μ-loop
+element-write-shapes-2 c = search needs
+
+loop-less : tie.Need-loop-less Inv-loop μ-loop
+loop-less c = search needs
+
+loop-again : tie.Need-loop-again Inv-loop μ-loop
+loop-again c =
+    let l = c .before .before .before .before .before .before .before .loop in
+    let e = c .before .before .before .before .before .entry-at in
+    let f = c .before .flow in
+    pass-more (c .before .before .before .before .before .before .before .before .before .before .args .table .now) (l .shapes) (l .i) (l .inv) (omega (arith, c .before .before .before .before .before .before .before .before .before .before .pre .1)) (e .result) (e .ensures) (f .result) (f .ensures)
+    _ _ (c .before .before .before .before .before .before .before .before .pool .ensures) (c .before .before .before .before .entry-right .ensures) (not-false _ (c .before .before .before .if1 .left)) (c .if2 .left)
+
+returns-3 : tie.Need-returns-3 Inv-loop μ-loop
+returns-3 c =
+    pass-end (c .before .before .before .before .args .table .now) (c .before .loop .shapes) (c .before .loop .i) (c .before .loop .inv) (omega (arith, c .before .before .before .before .pre .1))
+
+pub shapes-right-spec : {M : Type 1} → statement M
+shapes-right-spec =
+    tie.close
+    (tie.spec
+    Inv-loop
+    μ-loop
+    pool-requires
+    element-write-shapes
+    loop-holds
+    entry-at-requires
+    entry-right-requires
+    returns
+    mul-flow
+    element-copy-out-flow
+    flow-requires
+    returns-2
+    add-i
+    mul-shapes
+    element-write-shapes-2
+    loop-less
+    loop-again
+    returns-3)
