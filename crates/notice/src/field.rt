@@ -1,0 +1,91 @@
+// One field: its rules by itself, and where its parts lie.
+ghost use mathlib.Core.Path.{_≡_};
+ghost use Prim.Native.Nat.{_+_, _≤_, _<_};
+ghost use lib.ListN.{length};
+ghost use Rattle.notice.specs.Field.{nameRight, sizeRight};
+ghost use Rattle.notice.specs.Layout.{sizeAt, nameSizeAt, liesAt, rightAt};
+
+// "u8 name length 1..64; name (bytes 32..126)"
+pub fn name_right(name: &[u8]) -> bool
+    ensures { λ r. ⌜ r ≡ nameRight (now (name .entry)) ⌝ }
+{
+    if name.len() == 0 {
+        return false;
+    }
+    if 64 < name.len() {
+        return false;
+    }
+    let mut i = 0;
+    while i < name.len() {
+        let b = name[i];
+        if b < 32 {
+            return false;
+        }
+        if 126 < b {
+            return false;
+        }
+        i += 1;
+    }
+    true
+}
+
+// "Kinds: 1 int32 (4 bytes), 2 int64 (8), 3 real64 (8, bits), 4 string, 5 opaque (each 0..1,024)."
+pub fn size_right(kind: u16, size: usize) -> bool
+    ensures { λ r. ⌜ r ≡ sizeRight kind size ⌝ }
+{
+    match kind {
+        1 => size == 4,
+        2 => size == 8,
+        3 => size == 8,
+        4 => size <= 1024,
+        5 => size <= 1024,
+        _ => false,
+    }
+}
+
+// The field's length word, and the length of its name. The callers have tested that the bytes are there.
+pub fn field_size(notice: &[u8], at: usize) -> usize
+    requires { ⌜ at + 2 ≤ length (now notice) ⌝ }
+    ensures { λ r. ⌜ (r ≡ sizeAt (now (notice .entry)) at) × (r < 65536) ⌝ }
+{
+    word::read_u16(notice, at) as usize
+}
+
+pub fn name_size(notice: &[u8], at: usize) -> usize
+    requires { ⌜ at + 4 < length (now notice) ⌝ }
+    ensures { λ r. ⌜ (r ≡ nameSizeAt (now (notice .entry)) at) × (r < 256) ⌝ }
+{
+    notice[at + 4] as usize
+}
+
+// Whether the field at `at` lies within the notice.
+pub fn lies(notice: &[u8], at: usize) -> bool
+    requires { ⌜ at ≤ length (now notice) ⌝ }
+    ensures { λ r. ⌜ r ≡ liesAt (now (notice .entry)) at ⌝ }
+{
+    let left = notice.len() - at;
+    if left < 5 {
+        return false;
+    }
+    let size = field_size(notice, at);
+    if size < 3 + name_size(notice, at) {
+        return false;
+    }
+    size <= left - 2
+}
+
+// Whether a field that is right by itself starts at `at`.
+pub fn stands(notice: &[u8], at: usize) -> bool
+    requires { ⌜ at ≤ length (now notice) ⌝ }
+    ensures { λ r. ⌜ r ≡ rightAt (now (notice .entry)) at ⌝ }
+{
+    if lies(notice, at) {
+        let name = at + 5;
+        let value = name + name_size(notice, at);
+        if name_right(&notice[name..value]) {
+            let end = at + 2 + field_size(notice, at);
+            return size_right(word::read_u16(notice, at + 2), end - value);
+        }
+    }
+    false
+}
