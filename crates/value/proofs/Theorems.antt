@@ -1,0 +1,1 @@
+-- The theorems that specs/Theorems.antt states. Assumes nothing.

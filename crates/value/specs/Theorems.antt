@@ -1,0 +1,1 @@
+-- What holds of values and items. The proofs are in proofs/Theorems.antt, under the same names.
