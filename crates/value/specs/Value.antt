@@ -207,6 +207,19 @@ abbrev pub kindOf : Item → Kind
 kindOf (logic t) = Kind.logic
 kindOf (value v) = Kind.value
 
+-- bottom of either kind
+abbrev pub bottomOf : Kind → Item
+bottomOf Kind.logic = logic Bottom
+bottomOf Kind.value = value missing
+
+-- the operators of two operands that bottom on either side makes bottom: all but `&&` and `||`
+abbrev pub isStrict : Binary → Bool
+isStrict (Binary.Combine o) = true
+isStrict (Binary.Compare o) = true
+isStrict (Binary.Connect Connective.And) = false
+isStrict (Binary.Connect Connective.Xor) = true
+isStrict (Binary.Connect Connective.Or) = false
+
 -- One later operand after the other: what is known of the first before any of them, and what is known with one more.
 abbrev pub startOf : Many → Item → Truth
 startOf (Many.Fit f) x = cond (isText (valueIn x)) False Bottom
