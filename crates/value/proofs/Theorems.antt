@@ -154,39 +154,19 @@ equal-otherwise v w e (inl n) = rw (e, n) (none-equal (numberOf w) .0)
 equal-otherwise v w e (inr n) = rw (e, n) (none-equal (numberOf v) .1)
 
 -- one later operand after the other
-or-assoc : (r s t : Truth) → orOf (orOf r s) t ≡ orOf r (orOf s t)
-or-assoc True True True = refl
-or-assoc True True Bottom = refl
-or-assoc True True False = refl
-or-assoc True Bottom True = refl
-or-assoc True Bottom Bottom = refl
-or-assoc True Bottom False = refl
-or-assoc True False True = refl
-or-assoc True False Bottom = refl
-or-assoc True False False = refl
-or-assoc Bottom True True = refl
-or-assoc Bottom True Bottom = refl
-or-assoc Bottom True False = refl
-or-assoc Bottom Bottom True = refl
-or-assoc Bottom Bottom Bottom = refl
-or-assoc Bottom Bottom False = refl
-or-assoc Bottom False True = refl
-or-assoc Bottom False Bottom = refl
-or-assoc Bottom False False = refl
-or-assoc False True True = refl
-or-assoc False True Bottom = refl
-or-assoc False True False = refl
-or-assoc False Bottom True = refl
-or-assoc False Bottom Bottom = refl
-or-assoc False Bottom False = refl
-or-assoc False False True = refl
-or-assoc False False Bottom = refl
-or-assoc False False False = refl
-
 or-false : (t : Truth) → (orOf t False ≡ t) × (orOf False t ≡ t)
 or-false True = (refl, refl)
 or-false Bottom = (refl, refl)
 or-false False = (refl, refl)
+
+or-assoc : (r s t : Truth) → orOf (orOf r s) t ≡ orOf r (orOf s t)
+or-assoc True s t = rw (or-true s .0, or-true t .0, or-true (orOf s t) .0)
+or-assoc False s t = rw (or-false s .1, or-false (orOf s t) .1)
+or-assoc Bottom True t = rw (or-true t .0)
+or-assoc Bottom False t = rw (or-false t .1)
+or-assoc Bottom Bottom True = refl
+or-assoc Bottom Bottom Bottom = refl
+or-assoc Bottom Bottom False = refl
 
 equals-from : (x : Item) (known : Truth) (ys : List Item) → tallyOf Many.Equals x known ys ≡ orOf known (anyEqual (valueIn x) (map valueIn ys))
 equals-from x known [] = sym (or-false known .0)
