@@ -203,4 +203,5 @@ def main():
     (here / "stdout").write_text("".join(row + "\n" for _, row in cases))
 
 
-main()
+if __name__ == "__main__":
+    main()

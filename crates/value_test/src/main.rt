@@ -1,0 +1,171 @@
+// Runs every op on the cases of standard input: a pool, a notice, then a part for each case. A case is some entries of 12 bytes, as in a table.
+// All but the last give the operands in their order: ops 1..5, with 256 added where the value is folded, or 0 for the truth value of rank a.
+// The last is the op to run; 0 gives its one operand. An answer is a truth value, or a type and its bits or bytes in hex.
+use libc::STDOUT_FILENO;
+use opcode::Change;
+use opcode::Many;
+use opcode::Op;
+use opcode::Unary;
+use truth::Truth;
+use value::Held;
+use value::Piece;
+use value::Typed;
+
+fn put(s: &[u8]) {
+    io::write_all(STDOUT_FILENO, s);
+}
+
+fn put_bits(n: u64) {
+    io::print_hex(STDOUT_FILENO, n, 16);
+}
+
+fn wide(b: u8) -> u64 {
+    b as u64
+}
+
+fn put_bytes(s: &[u8], mark: bool) {
+    if s.len() == 0 {
+        put(b"-");
+    }
+    let mut i = 0;
+    while i < s.len() {
+        io::print_hex(STDOUT_FILENO, wide(octets::fold(mark, s[i])), 2);
+        i += 1;
+    }
+}
+
+fn put_piece<'a>(pool: &'a [u8], notice: &'a [u8], p: Piece) {
+    put_bytes(value::fetch(pool, notice, p), p.folded);
+}
+
+fn put_value<'a>(pool: &'a [u8], notice: &'a [u8], v: Typed) {
+    match v {
+        Typed::Missing => put(b"bottom"),
+        Typed::Int32(x) => {
+            put(b"int32 ");
+            put_bits(word::bits_of_i32(x) as u64);
+        }
+        Typed::Int64(x) => {
+            put(b"int64 ");
+            put_bits(word::bits_of_i64(x));
+        }
+        Typed::Real(x) => {
+            put(b"real64 ");
+            put_bits(number::bits_of_real(x));
+        }
+        Typed::Text(p) => {
+            put(b"string ");
+            put_piece(pool, notice, p);
+        }
+        Typed::Opaque(p) => {
+            put(b"opaque ");
+            put_piece(pool, notice, p);
+        }
+    }
+}
+
+fn put_truth(t: Truth) {
+    match t {
+        Truth::True => put(b"true"),
+        Truth::Bottom => put(b"bottom"),
+        Truth::False => put(b"false"),
+    }
+}
+
+fn put_held<'a>(pool: &'a [u8], notice: &'a [u8], h: Held) {
+    match h {
+        Held::Logic(t) => put_truth(t),
+        Held::Value(v) => put_value(pool, notice, v),
+    }
+    put(b"\n");
+}
+
+fn truth_of(rank: u16) -> Truth {
+    match rank {
+        0 => Truth::False,
+        1 => Truth::Bottom,
+        _ => Truth::True,
+    }
+}
+
+fn folded<'a>(pool: &'a [u8], notice: &'a [u8], number: u16, h: Held) -> Held {
+    if number < 256 {
+        return h;
+    }
+    value::unary(pool, notice, Unary::Change(Change::FoldCase), h)
+}
+
+// The operand of entry i; bottom where there is none.
+fn operand<'a>(pool: &'a [u8], notice: &'a [u8], entries: &'a [u8], i: usize) -> Held {
+    if entries.len() / 12 <= i {
+        return Held::Logic(Truth::Bottom);
+    }
+    let number = word::read_u16(entries, i * 12);
+    let a = word::read_u16(entries, i * 12 + 2);
+    let b = word::read_u64(entries, i * 12 + 4);
+    match opcode::op_of(number % 256) {
+        Op::Load(l) => folded(pool, notice, number, value::load(pool, notice, l, a, b)),
+        _ => Held::Logic(truth_of(a)),
+    }
+}
+
+// The later operands, one after the other.
+fn many<'a>(pool: &'a [u8], notice: &'a [u8], op: Many, entries: &'a [u8], count: usize) -> Held {
+    let first = operand(pool, notice, entries, 0);
+    let mut known = value::start(op, first);
+    let mut i = 1;
+    while i < count {
+        known = value::more(
+            pool,
+            notice,
+            op,
+            first,
+            known,
+            operand(pool, notice, entries, i),
+        );
+        i += 1;
+    }
+    Held::Logic(known)
+}
+
+fn operate<'a>(pool: &'a [u8], notice: &'a [u8], op: Op, entries: &'a [u8], count: usize) -> Held {
+    let first = operand(pool, notice, entries, 0);
+    match op {
+        Op::Unary(o) => value::unary(pool, notice, o, first),
+        Op::Binary(o) => value::binary(pool, notice, o, first, operand(pool, notice, entries, 1)),
+        Op::Many(o) => many(pool, notice, o, entries, count),
+        _ => first,
+    }
+}
+
+// Answers whether there was a case.
+fn next_case<'a>(pool: &'a [u8], notice: &'a [u8]) -> bool {
+    let mut entries = [0u8; 120];
+    let p = cases::next_part(&mut entries);
+    let n = p.len;
+    if n < 12 {
+        return false;
+    }
+    let count = n / 12 - 1;
+    let op = opcode::op_of(word::read_u16(&entries, count * 12));
+    put_held(pool, notice, operate(pool, notice, op, &entries, count));
+    true
+}
+
+// Nothing says that the input ends, so the turns are counted down.
+fn all_cases<'a>(pool: &'a [u8], notice: &'a [u8]) {
+    let mut turns: u64 = 1000000;
+    while turns > 0 && next_case(pool, notice) {
+        turns -= 1;
+    }
+}
+
+fn main() {
+    let mut pool = [0u8; 1024];
+    let mut notice = [0u8; 2048];
+    let p = cases::next_part(&mut pool);
+    let q = cases::next_part(&mut notice);
+    let m = p.len;
+    let n = q.len;
+    all_cases(&pool[0..m], &notice[0..n]);
+}
