@@ -1,0 +1,44 @@
+-- Document 01's P cases, of the meaning of the text itself, from its bytes. The proof is in proofs/Theorems.antt, under the same name.
+use mathlib.Core.Path.{_≡_}
+use mathlib.Core.List.{List, [], _∷_}
+use mathlib.Core.Option.{some}
+use Prim.Native.Nat.{ℕ}
+use Rattle.truth.specs.declared.Truth.{Truth}
+use Rattle.truth.specs.declared.Truth.the-variants.{False, Bottom, True}
+use Rattle.lexer.specs.Ascii.{ascii}
+use Rattle.meaning.specs.Meaning.{textMeaning}
+
+pub record Case : Type 0 where
+  pub text : List ℕ
+  pub notice : List ℕ
+  pub verdict : Truth
+
+-- the notice with the field `Op`, int32 42, and the empty notice
+abbrev pub op42 : List ℕ
+op42 = 0x0f ∷ 0 ∷ 0 ∷ 0 ∷ 1 ∷ 0 ∷ 1 ∷ 0 ∷ 9 ∷ 0 ∷ 1 ∷ 0 ∷ 2 ∷ 0x4f ∷ 0x70 ∷ 0x2a ∷ 0 ∷ 0 ∷ 0 ∷ []
+
+abbrev pub empty : List ℕ
+empty = 4 ∷ 0 ∷ 0 ∷ 0 ∷ 1 ∷ 0 ∷ 0 ∷ 0 ∷ []
+
+abbrev pub cases : List Case
+cases =
+    record { text = ascii "Op == 42"; notice = op42; verdict = True }
+    ∷ record { text = ascii "Op != 42"; notice = empty; verdict = Bottom }
+    ∷ record { text = ascii "Op == 1 && 1 == 2"; notice = empty; verdict = False }
+    ∷ record { text = ascii "1 == 2 && Op == 42"; notice = empty; verdict = False }
+    ∷ record { text = ascii "1 == 1 ^^ 2 == 2"; notice = empty; verdict = False }
+    ∷ record { text = ascii "2 + 3 * 4 & 6 == 14"; notice = empty; verdict = True }
+    ∷ record { text = ascii "-7 / 2 == -3"; notice = empty; verdict = True }
+    ∷ record { text = ascii "2147483647 + 1 == 2147483648L"; notice = empty; verdict = True }
+    ∷ record { text = ascii "9223372036854775807L + 1 == 0"; notice = empty; verdict = Bottom }
+    ∷ record { text = ascii "-1 >>> 28 == 15"; notice = empty; verdict = True }
+    ∷ record { text = ascii "1 / 0 == 0 || 1 == 1"; notice = empty; verdict = True }
+    ∷ []
+
+abbrev pub Each : {A : Type 0} → (A → Type 0) → List A → Type 0
+Each P [] = Unit {0}
+Each P (x ∷ xs) = P x × Each P xs
+
+-- Every P case's text means its verdict on its notice.
+abbrev pub PCases : Type 0
+PCases = Each (λ x. textMeaning (x .text) (x .notice) ≡ some (x .verdict)) cases

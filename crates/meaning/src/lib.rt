@@ -1,0 +1,1 @@
+// The meaning of expressions: definitions and theorems alone, in specs/ and proofs/.
