@@ -1,19 +1,19 @@
 -- Tokens laid over a text: from the tokens of a text to the layout, and back. Assumes nothing.
 use mathlib.Core.Path.{_≡_, refl, sym, ap, _∙_}
-use mathlib.Core.Logic.{_⊎_, inl, inr, ⊎-elim}
-use mathlib.Core.Bool.{Bool, true, false, not, _||_}
+use mathlib.Core.Logic.{_⊎_, inl, inr}
+use mathlib.Core.Bool.{Bool, true, false, _||_}
 use mathlib.Core.List.{List, [], _∷_, _++_}
-use Prim.Native.Nat.{ℕ, zero, suc, _+_, _-_, _≤_, _<_}
+use Prim.Native.Nat.{ℕ, zero, suc, _+_, _≤_, _<_}
 use native.Mathlib.Omega.{arith}
 use lib.Dec.{eqb}
-use lib.ListN.{length, getD, take, drop, length-drop, length-append, take-append-drop}
+use lib.ListN.{length, getD, take, drop, length-drop, take-append-drop}
 use lib.Seq.{drop-append-seam, length-take-le}
 use borrow.Author.Tests.{eqb-true}
-use Rattle.octets.proofs.Theorems.{or-parts, true-false}
+use Rattle.octets.proofs.Theorems.{or-parts}
 use Rattle.lexer.specs.Byte.{isSpace, isQuote, startsName, startsNumber}
-use Rattle.lexer.specs.Symbol.{threeBytes, withEqual, doubled, twoBytes, oneByte, firstOf, symbolOf}
-use Rattle.lexer.specs.Token.{Token, Placed, symbol, Scan, good, bad, judged, scanOf, Lexed, tokens, refused, prepend, tokensFrom}
-use Rattle.lexer.specs.Theorems.{Each, Blank, Laid, Nothing, BadToken}
+use Rattle.lexer.specs.Symbol.{threeBytes, withEqual, doubled, twoBytes, oneByte, symbolOf}
+use Rattle.lexer.specs.Token.{Token, Placed, Scan, good, bad, scanOf, Lexed, tokens, refused, prepend, tokensFrom}
+use Rattle.lexer.specs.Theorems.{Blank, Laid, Nothing, BadToken}
 use Rattle.lexer.proofs.Scans.{is-symbol, scan-fit}
 use Rattle.lexer.proofs.Streams.{first-space, first-bad, first-good}
 

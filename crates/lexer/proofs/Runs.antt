@@ -11,7 +11,7 @@ use lib.Seq.{drop-cons, sets, take-all, take-append-seam, drop-length}
 use borrow.Author.Tests.{eq-eqb, ne-eqb}
 use Rattle.octets.specs.Octets.{folded, sameOf}
 use Rattle.octets.proofs.Theorems.{true-false, not-folded}
-use Rattle.lexer.specs.Run.{takes, ends, runFrom, runOf, unescaped, hasEscape, legalByte, legalName}
+use Rattle.lexer.specs.Run.{takes, ends, runFrom, unescaped, hasEscape, legalByte, legalName}
 
 -- a place past the end
 pub past-byte : (s : List ℕ) (i : ℕ) → length s ≤ i → 0 ≡ getD s i 0

@@ -2,24 +2,23 @@
 use mathlib.Core.Path.{_≡_, refl, sym, ap, _∙_}
 use mathlib.Core.Bool.{Bool, true, false, not, cond, _&&_, _||_}
 use mathlib.Core.List.{List, [], _∷_}
-use Prim.Native.Nat.{ℕ, zero, suc, _+_, _-_, _≤_, _<_}
+use Prim.Native.Nat.{ℕ, _+_, _≤_, _<_}
 use native.Mathlib.Decide.{decLe}
 use native.Mathlib.Omega.{arith}
 use lib.Dec.{eqb, leb}
 use lib.ListN.{length, getD, drop, length-drop, List·getD-eq-default}
-use borrow.Author.Tests.{leb-true, eqb-true, eqb-false, ne-eqb, eq-eqb, not-true}
-use Rattle.octets.proofs.Theorems.{and-parts, or-parts, true-false}
+use borrow.Author.Tests.{leb-true, eqb-true, eqb-false, ne-eqb, eq-eqb}
+use Rattle.octets.proofs.Theorems.{and-parts, true-false}
 use Rattle.lexer.specs.Byte.{startsName, startsNumber, isQuote}
-use Rattle.lexer.specs.Run.{runFrom, runOf, unescaped, takes, hasEscape, legalName, nameFits, bodyOf, isEmpty, isClosed}
+use Rattle.lexer.specs.Run.{runOf, unescaped, takes, hasEscape, legalName, nameFits, bodyOf, isEmpty, isClosed}
 use Rattle.lexer.specs.Digits.{signLength, digitsOf}
 use Rattle.lexer.specs.Integer.{baseOf, prefixLength, integerDigits, suffixAt, isLong, isInteger, integerFits, integerOf}
 use Rattle.lexer.specs.Real.{wholeDigits, fromPoint, fractionDigits, exponentPart, isExponent, isReal, realFits, realOf}
-use Rattle.lexer.specs.Symbol.{threeBytes, twoBytes, doubled, symbolOf, symbolLength}
+use Rattle.lexer.specs.Symbol.{threeBytes, twoBytes, symbolOf, symbolLength}
 use Rattle.lexer.specs.Token.{Token, name, int32, int64, real, text, symbol, kindOf, Scan, good, bad, judged, pick, scanName, integerToken, scanRun, scanNumber, scanString, scanBytes, scanSymbol, scanOf}
 use Rattle.lexer.specs.Answer.{scannedOf}
-use Rattle.lexer.specs.declared.Scanned.{Scanned}
 use Rattle.lexer.specs.declared.Scanned.the-variants.{Good, Bad}
-use Rattle.lexer.proofs.Runs.{First, first-fits, run-first}
+use Rattle.lexer.proofs.Runs.{first-fits, run-first}
 use Rattle.lexer.proofs.Wholes.{digits-first}
 
 pub pick-yes : {A : Type 0} (b : Bool) (x y : Unit {0} → A) → b ≡ true → pick b x y ≡ x tt

@@ -4,18 +4,19 @@ use mathlib.Core.Bool.{Bool, true, false}
 use mathlib.Core.List.{List, [], _∷_, map}
 use Prim.Native.Nat.{ℕ, zero, suc, _+_, _-_, _≤_, _<_}
 use native.Mathlib.Numerals.{add-one}
+use native.Mathlib.Decide.{decLe}
 use native.Mathlib.Omega.{arith}
 use lib.Dec.{ltb}
 use lib.ListN.{length, getD, drop, set, drop-of-length-le, length-drop}
-use lib.Seq.{drop-cons, drop-drop, drop-nil, sets}
+use lib.Seq.{drop-cons, drop-drop, sets}
 use borrow.Author.Tests.{lt-ltb, le-ltb}
 use Rattle.lexer.specs.Byte.{isSpace}
-use Rattle.lexer.specs.Token.{Token, Placed, kindOf, Scan, good, bad, pick, scanOf, Lexed, tokens, refused, prepend, placed, tokensFrom, tokensOf, found, kindsOf, startsOf}
+use Rattle.lexer.specs.Token.{Token, Placed, kindOf, Scan, good, bad, scanOf, Lexed, tokens, refused, prepend, placed, tokensFrom, tokensOf, found, kindsOf, startsOf}
 use Rattle.lexer.specs.Answer.{lexingOf, scannedOf}
 use Rattle.lexer.specs.declared.Lexing.{Lexing}
 use Rattle.lexer.specs.declared.Lexing.the-variants.{Tokens, Refused}
 use Rattle.lexer.specs.declared.Scanned.the-variants.{Good, Bad}
-use Rattle.lexer.proofs.Scans.{pick-yes, pick-no, Fit, scan-fit, good-told, bad-told}
+use Rattle.lexer.proofs.Scans.{pick-yes, pick-no, scan-fit, good-told, bad-told}
 
 -- the bytes of a token are passed over
 pub inside : (k at : ℕ) (s : List ℕ) → tokensFrom k at s ≡ tokensFrom 0 (at + k) (drop k s)
@@ -78,6 +79,31 @@ stream-whole s h = pick-no (ltb 4096 (length s)) _ _ (le-ltb 4096 (length s) h)
 pub too-long : (s : List ℕ) → 4096 < length s → tokensOf s ≡ refused 10 0 []
 unfolding tokensOf
 too-long s h = pick-yes (ltb 4096 (length s)) _ _ (lt-ltb 4096 (length s) h)
+
+-- What holds of every stream: of its end, and before whitespace, a bad token and a token.
+module _ (s : List ℕ) (Q : ℕ → Lexed → Type 0)
+    (ended : (at : ℕ) → length s ≤ at → Q at (tokens []))
+    (spaced : (at : ℕ) (l : Lexed) → at < length s → Q (at + 1) l → Q at l)
+    (stopped : (at k : ℕ) → at < length s → Q at (refused k at []))
+    (going : (at n : ℕ) (t : Token) (l : Lexed) → at < length s → 0 < n → at + n ≤ length s → scanOf (drop at s) ≡ good t n
+    → Q (at + n) l → Q at (prepend (record { token = t; start = at }) l)) where
+  within : (n at : ℕ) → length s ≤ at + n → Q at (from s at)
+  within zero at h = rw (stream-end s at (omega arith)) (ended at (omega arith))
+  within (suc n) at h = go (λ i q. within n i q) (decLe (length s) at) (isSpace (getD s at 0)) refl (scanOf (drop at s)) refl
+    where
+      go : ((i : ℕ) → length s ≤ i + n → Q i (from s i))
+          → Dec (length s ≤ at) → (x : Bool) → isSpace (getD s at 0) ≡ x → (y : Scan) → scanOf (drop at s) ≡ y → Q at (from s at)
+      go ih (yes d) x e y f = rw (stream-end s at d) (ended at d)
+      go ih (no d) true e y f = rw (← space-passed s at (omega arith) e) (spaced at (from s (at + 1)) (omega arith) (ih (at + 1) (omega arith)))
+      go ih (no d) false e (bad k) f = rw (token-bad s at (omega arith) e k f) (stopped at k (omega arith))
+      go ih (no d) false e (good t m) f =
+          let g = length-drop at s in
+          let w = rw f at (scan-fit (drop at s) (omega (arith, g))) in
+          rw (token-here s at (omega arith) e t m f (w .0))
+          (going at m t (from s (at + m)) (omega arith) (w .0) (omega (arith, g, w .1)) f (ih (at + m) (omega (arith, w .0))))
+
+  pub streams : Q 0 (from s 0)
+  streams = within (length s) 0 (omega arith)
 
 -- what the code answers, with n tokens found before
 abbrev pub after : ℕ → Lexed → Lexing

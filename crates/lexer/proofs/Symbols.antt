@@ -1,5 +1,5 @@
 -- The longest match: the first of several kinds that is one. Assumes nothing.
-use mathlib.Core.Path.{_≡_, refl, sym, _∙_}
+use mathlib.Core.Path.{_≡_, sym, _∙_}
 use Prim.Native.Nat.{ℕ, zero, suc}
 use Rattle.lexer.specs.Symbol.{firstOf}
 

@@ -1,32 +1,32 @@
 -- The theorems that specs/Theorems.antt states. Assumes nothing.
-use mathlib.Core.Path.{_≡_, refl, sym, ap, subst, _∙_}
-use mathlib.Core.Logic.{_⊎_, inl, inr, _↔_}
+use mathlib.Core.Path.{_≡_, refl, sym, subst, _∙_}
+use mathlib.Core.Logic.{_⊎_, inl, inr}
 use mathlib.Core.Bool.{Bool, true, false, not, cond, _&&_}
 use mathlib.Core.List.{List, [], _∷_}
 use Prim.Native.Nat.{ℕ, zero, suc, _+_, _-_, _^_, _≤_, _<_}
 use native.Mathlib.Decide.{decLe}
 use native.Mathlib.Omega.{arith}
-use lib.Dec.{eqb, leb, ltb, lit<, lit≤}
-use lib.ListN.{length, getD, drop, length-drop}
+use lib.Dec.{eqb, leb, ltb, lit≤}
+use lib.ListN.{length, getD, drop}
+use lib.Seq.{sets-eq, take-append-seam}
 use lib.IntN.{ℤ, natAbs}
 use lib.Signed.{mag}
 use lib.Ieee.{Float, nan}
 use mir.Syntax.{w32, w64}
-use borrow.Author.Tests.{eqb-false, ltb-true, lt-ltb, leb-true, le-leb, not-true, ne-eqb}
+use borrow.Author.Tests.{eqb-false, ltb-true, lt-ltb, not-true, ne-eqb}
 use Rattle.octets.proofs.Theorems.{and-parts, true-false}
 use Rattle.number.specs.Integer.{fitsIn}
-use Rattle.number.specs.Real.{inLimits}
-use Rattle.lexer.specs.Byte.{isSpace, startsName, startsNumber, isQuote}
+use Rattle.lexer.specs.Byte.{startsName, startsNumber, isQuote}
 use Rattle.lexer.specs.Run.{runOf, unescaped, hasEscape, legalName, nameFits, bodyOf, isClosed}
 use Rattle.lexer.specs.Digits.{wholeOf}
 use Rattle.lexer.specs.Integer.{isLong, isInteger, integerFits, integerOf, held}
 use Rattle.lexer.specs.Real.{exponentPart, exponentDigits, realDigits, noZeros, scaleOf, isReal, realFits, realOf}
 use Rattle.lexer.specs.Symbol.{threeBytes, withEqual, doubled, twoBytes, oneByte, firstOf, symbolOf, symbolLength}
-use Rattle.lexer.specs.Token.{Token, name, int32, int64, real, text, symbol, Placed, Scan, good, bad, judged, scanName, integerToken, scanRun, scanNumber, scanString, scanBytes, scanSymbol, scanOf, Lexed, tokens, refused, prepend, tokensFrom, tokensOf, found, nameAt, escapedAt, stringAt, integerAt, longAt, realAt}
-use Rattle.lexer.specs.Theorems.{Each, Laid, Nothing, BadToken, Whole, FirstBad, ValueAt, Values, Spelled, Longest, RealsHaveValues, Examples}
+use Rattle.lexer.specs.Token.{Token, name, int32, int64, real, text, symbol, Placed, good, judged, scanName, integerToken, scanNumber, scanString, scanSymbol, scanOf, Lexed, tokens, refused, prepend, tokensFrom, tokensOf, found, integerAt, longAt, realAt}
+use Rattle.lexer.specs.Theorems.{Each, Laid, Nothing, BadToken, Whole, FirstBad, ValueAt, Values, StartsInside, Counted, Stored, Spelled, Longest, RealsHaveValues, Examples}
 use Rattle.lexer.proofs.Decimals.{fifteen, real-decimal}
-use Rattle.lexer.proofs.Scans.{is-name, is-number, is-string, is-symbol, scan-real, scan-integer, scan-fit}
-use Rattle.lexer.proofs.Streams.{from, stream-end, space-passed, token-bad, token-here, stream-whole, too-long}
+use Rattle.lexer.proofs.Scans.{is-name, is-number, is-string, is-symbol, scan-real, scan-integer}
+use Rattle.lexer.proofs.Streams.{from, stream-whole, too-long, streams}
 use Rattle.lexer.proofs.Laying.{laid-tokens, laid-bad, tokens-laid, bad-laid}
 
 -- the layout of a text
@@ -174,36 +174,52 @@ value-here s at t n f = go (startsName (getD r 0 0)) refl (startsNumber (getD r 
     go false e false g true h = string-value s at t n (sym (is-string r e g h) ∙ f)
     go false e false g false h = symbol-value s at t n (sym (is-symbol r e g h) ∙ f)
 
--- each token from a place on
-module _ (s : List ℕ) where
-  abbrev Right : Placed → Type 0
-  Right p = ValueAt s (p .start) (p .token)
+-- what holds of the tokens of every text holds of those of a long one, which has none
+of-text : (s : List ℕ) (Q : Lexed → Type 0) → Q (refused 10 0 []) → (length s ≤ 4096 → Q (from s 0)) → Q (tokensOf s)
+of-text s Q long short = go (decLe (length s) 4096)
+  where
+    go : Dec (length s ≤ 4096) → Q (tokensOf s)
+    go (yes h) = rw (stream-whole s h) (short h)
+    go (no h) = rw (too-long s (omega arith)) long
 
-  more-found : (p : Placed) (l : Lexed) → Right p → Each Right (found l) → Each Right (found (prepend p l))
+-- each token
+module _ (s : List ℕ) (P : Placed → Type 0) (here : (at n : ℕ) (t : Token) → at < length s → scanOf (drop at s) ≡ good t n → P (record { token = t; start = at })) where
+  more-found : (p : Placed) (l : Lexed) → P p → Each P (found l) → Each P (found (prepend p l))
   more-found p (tokens ps) r e = (r, e)
   more-found p (refused k at ps) r e = (r, e)
 
-  values-within : (n at : ℕ) → length s ≤ at + n → Each Right (found (from s at))
-  values-within zero at h = rw (stream-end s at (omega arith)) tt
-  values-within (suc n) at h = go (λ i q. values-within n i q) (decLe (length s) at) (isSpace (getD s at 0)) refl (scanOf (drop at s)) refl
-    where
-      go : ((i : ℕ) → length s ≤ i + n → Each Right (found (from s i)))
-          → Dec (length s ≤ at) → (x : Bool) → isSpace (getD s at 0) ≡ x → (y : Scan) → scanOf (drop at s) ≡ y → Each Right (found (from s at))
-      go ih (yes d) x e y f = rw (stream-end s at d) tt
-      go ih (no d) true e y f = rw (← space-passed s at (omega arith) e) (ih (at + 1) (omega arith))
-      go ih (no d) false e (bad k) f = rw (token-bad s at (omega arith) e k f) tt
-      go ih (no d) false e (good t m) f =
-          let g = length-drop at s in
-          let w = rw f at (scan-fit (drop at s) (omega (arith, g))) in
-          rw (token-here s at (omega arith) e t m f (w .0))
-          (more-found (record { token = t; start = at }) (from s (at + m)) (value-here s at t m f) (ih (at + m) (omega (arith, w .0))))
+  each-found : Each P (found (tokensOf s))
+  each-found =
+      of-text s (λ l. Each P (found l)) tt
+      (λ _. streams s (λ at l. Each P (found l)) (λ at h. tt) (λ at l h e. e) (λ at k h. tt)
+      (λ at n t l h p q f e. more-found (record { token = t; start = at }) l (here at n t h f) e))
 
 pub values : Values
-values s = go (decLe (length s) 4096)
-  where
-    go : Dec (length s ≤ 4096) → Each (λ p. ValueAt s (p .start) (p .token)) (found (tokensOf s))
-    go (yes h) = rw (stream-whole s h) (values-within s (length s) 0 (omega arith))
-    go (no h) = rw (too-long s (omega arith)) tt
+values s = each-found s (λ p. ValueAt s (p .start) (p .token)) (λ at n t h f. value-here s at t n f)
+
+pub starts-inside : StartsInside
+starts-inside s = each-found s (λ p. p .start < length s) (λ at n t h f. h)
+
+count-more : (p : Placed) (l : Lexed) → length (found (prepend p l)) ≡ suc (length (found l))
+count-more p (tokens ps) = refl
+count-more p (refused k at ps) = refl
+
+pub counted : Counted
+counted s =
+    of-text s (λ l. (length (found l) ≤ 4096) × (length (found l) ≤ length s)) (omega arith, omega arith)
+    (λ h.
+    let c = streams s (λ at l. length (found l) ≤ length s - at)
+    (λ at h. omega arith)
+    (λ at l h e. omega (arith, e))
+    (λ at k h. omega arith)
+    (λ at n t l h p q f e. omega (arith, e, count-more (record { token = t; start = at }) l))
+    in
+    (omega (arith, c), omega (arith, c)))
+
+pub stored : Stored
+stored d vs h =
+    let e = sets-eq vs d 0 (omega arith) in
+    rw e (take-append-seam vs (drop (0 + length vs) d))
 
 -- an element that a list has
 pub each-at : {A : Type 0} (P : A → Type 0) (xs : List A) (d : A) → Each P xs → (i : ℕ) → i < length xs → P (getD xs i d)

@@ -1,5 +1,4 @@
 -- What the code answers, by the definitions.
-use Prim.Native.Nat.{ℕ}
 use lib.ListN.{length}
 use Rattle.lexer.specs.Token.{Scan, good, bad, kindOf, Lexed, tokens, refused}
 use Rattle.lexer.specs.declared.Lexing.{Lexing}

@@ -1,17 +1,18 @@
 -- What holds of the tokens of a text. The proofs are in proofs/Theorems.antt, under the same names.
 use mathlib.Core.Path.{_≡_}
 use mathlib.Core.Logic.{_↔_, _⊎_}
-use mathlib.Core.Bool.{Bool, true, false}
+use mathlib.Core.Bool.{true, false}
 use mathlib.Core.List.{List, [], _∷_, _++_}
 use Prim.Native.Nat.{ℕ, _+_, _≤_, _<_}
-use lib.ListN.{length, getD}
+use lib.ListN.{length, getD, take}
+use lib.Seq.{sets}
 use lib.IntN.{natAbs}
 use Rattle.number.specs.Real.{inLimits}
 use Rattle.lexer.specs.Byte.{isSpace}
 use Rattle.lexer.specs.Digits.{wholeOf}
 use Rattle.lexer.specs.Real.{realDigits, scaleOf, realFits}
 use Rattle.lexer.specs.Symbol.{symbolLength}
-use Rattle.lexer.specs.Token.{Token, name, int32, int64, real, text, symbol, Placed, good, bad, scanOf, Lexed, tokens, refused, tokensOf, found, nameAt, escapedAt, stringAt, integerAt, longAt, realAt}
+use Rattle.lexer.specs.Token.{Token, name, int32, int64, real, text, symbol, Placed, good, bad, scanOf, tokens, refused, tokensOf, found, nameAt, escapedAt, stringAt, integerAt, longAt, realAt}
 use Rattle.lexer.specs.Ascii.{ascii}
 use Rattle.lexer.specs.Answer.{lexingOf}
 use Rattle.lexer.specs.declared.Lexing.{Lexing}
@@ -69,6 +70,18 @@ ValueAt s at (symbol k) = (7 < k) × (k < 44)
 -- Each token of a text, those before a bad one too, has its value by its start.
 abbrev pub Values : Type 0
 Values = (s : List ℕ) → Each (λ p. ValueAt s (p .start) (p .token)) (found (tokensOf s))
+
+-- Each token starts inside the text.
+abbrev pub StartsInside : Type 0
+StartsInside = (s : List ℕ) → Each (λ p. p .start < length s) (found (tokensOf s))
+
+-- A text has at most 4,096 tokens, and at most one a byte.
+abbrev pub Counted : Type 0
+Counted = (s : List ℕ) → (length (found (tokensOf s)) ≤ 4096) × (length (found (tokensOf s)) ≤ length s)
+
+-- What is stored from the front of an array stands there.
+abbrev pub Stored : Type 0
+Stored = (d vs : List ℕ) → length vs ≤ length d → take (length vs) (sets d 0 vs) ≡ vs
 
 -- "`! != && ^^ || == < <= > >= * / % + - << >> >>> & ^ | ~`", and "`( ) ,`", with their kind numbers
 pub record Spelling : Type 0 where

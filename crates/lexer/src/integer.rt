@@ -1,7 +1,6 @@
 // Integers. Document 01, "Tokens": "Integers".
 ghost use mathlib.Core.Path.{_≡_};
 ghost use Prim.Native.Nat.{_≤_, _<_};
-ghost use lib.ListN.{length};
 ghost use lib.Signed.{mag};
 ghost use lib.Dec.{ltb};
 ghost use Rattle.number.specs.Integer.{signedOf};

@@ -1,6 +1,6 @@
 // Tokens. Document 01, "Tokens", and "Refusals by number", 10, 1 and 3.
 ghost use mathlib.Core.Path.{_≡_};
-ghost use lib.ListN.{length, drop};
+ghost use lib.ListN.{length};
 ghost use lib.Seq.{sets};
 ghost use Rattle.lexer.specs.Token.{scanName, scanNumber, scanString, scanSymbol, scanOf, tokensOf, kindsOf, startsOf, nameAt, escapedAt, nameIs, stringAt, integerAt, realAt};
 ghost use Rattle.lexer.specs.Answer.{lexingOf, scannedOf};
@@ -33,7 +33,7 @@ use symbol::symbol;
 use symbol::symbol_length;
 
 // What stands first: a token's kind number and how many bytes it takes; or the number by which it is refused.
-pub enum Scanned {
+enum Scanned {
     Good(u8, usize),
     Bad(u8),
 }

@@ -1,6 +1,5 @@
 // Operators, parentheses and the comma, by their kind numbers. Document 01, "Tokens": "Operators take the longest match".
 ghost use mathlib.Core.Path.{_≡_};
-ghost use Prim.Native.Nat.{_≤_};
 ghost use Rattle.lexer.specs.Symbol.{threeBytes, withEqual, doubled as doubledOf, twoBytes, oneByte, symbolOf, symbolLength};
 
 // `>>>`

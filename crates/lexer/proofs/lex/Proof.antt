@@ -1,5 +1,5 @@
 use Prim.Native.Nat.{_≤_, _<_, _-_, _+_}
-use mathlib.Core.Path.{_≡_, refl, sym, ap, _∙_}
+use mathlib.Core.Path.{sym, _∙_}
 use native.Mathlib.Omega.{arith}
 use lib.ListN.{length, set}
 use Rattle.lexer.proofs.Streams.{Goes, goes-first, goes-space, goes-on, lexes-long, lexes-end, lexes-bad}

@@ -1,7 +1,5 @@
-use mathlib.Core.Path.{_∙_, sym, ap}
+use mathlib.Core.Path.{_∙_, sym}
 use borrow.Author.Tests.{not-true, not-false}
-use lib.ListN.{length}
-use Rattle.lexer.specs.declared.Scanned.the-variants.{Good}
 use Rattle.lexer.proofs.Scans.{name-illegal, name-over, name-legal}
 use borrow.Author.Needs.{needs}
 use Rattle.lexer.proofs.scan_name.Statement.{statement}

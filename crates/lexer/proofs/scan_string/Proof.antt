@@ -1,4 +1,3 @@
-use mathlib.Core.Path.{_∙_, sym, ap}
 use Rattle.lexer.proofs.Scans.{string-open, string-legal}
 use borrow.Author.Needs.{needs}
 use Rattle.lexer.proofs.scan_string.Statement.{statement}

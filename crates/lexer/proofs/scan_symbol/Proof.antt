@@ -1,4 +1,4 @@
-use mathlib.Core.Path.{_∙_, sym, ap}
+use mathlib.Core.Path.{_∙_, sym}
 use lib.ListN.{getD}
 use Rattle.lexer.proofs.Scans.{symbol-none, symbol-legal}
 use borrow.Author.Needs.{needs}

@@ -1,6 +1,5 @@
 use native.Mathlib.Omega.{arith}
 use Rattle.lexer.proofs.Bytes.{range, tens, smalls, capitals, no-digit}
-use borrow.Author.Needs.{needs}
 use Rattle.lexer.proofs.byte.digit.Statement.{statement}
 use Rattle.lexer.proofs.byte.digit.Tie as tie
 use Rattle.lexer.proofs.byte.digit.Reads as reads

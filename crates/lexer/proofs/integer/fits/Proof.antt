@@ -1,5 +1,4 @@
 use Rattle.lexer.proofs.Signs.{fits-negative, fits-positive}
-use borrow.Author.Needs.{needs}
 use Rattle.lexer.proofs.integer.fits.Statement.{statement}
 use Rattle.lexer.proofs.integer.fits.Tie as tie
 use Rattle.lexer.proofs.integer.fits.Reads as reads

@@ -1,4 +1,3 @@
-use native.Mathlib.Omega.{arith}
 use borrow.Author.Needs.{needs}
 use Rattle.lexer.proofs.integer.magnitude.Statement.{statement}
 use Rattle.lexer.proofs.integer.magnitude.Tie as tie

@@ -1,4 +1,3 @@
-use mathlib.Core.Path.{sym, _∙_}
 use borrow.Author.Needs.{needs}
 use Rattle.lexer.proofs.real.after_sign.Statement.{statement}
 use Rattle.lexer.proofs.real.after_sign.Tie as tie

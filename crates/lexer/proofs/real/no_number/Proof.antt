@@ -1,6 +1,5 @@
 use mathlib.Core.Path.{refl}
 use lib.Ieee.{div, ofBits}
-use borrow.Author.Needs.{needs}
 use Rattle.lexer.proofs.real.no_number.Statement.{statement}
 use Rattle.lexer.proofs.real.no_number.Tie as tie
 use Rattle.lexer.proofs.real.no_number.Reads as reads

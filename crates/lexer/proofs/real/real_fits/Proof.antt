@@ -1,7 +1,4 @@
-use mathlib.Core.Path.{_∙_, sym, ap}
-use native.Mathlib.Omega.{arith}
-use lib.ListN.{length}
-use Rattle.lexer.specs.Real.{wholeDigits, fractionDigits, realDigits}
+use Rattle.lexer.specs.Real.{realDigits}
 use borrow.Author.Tests.{le-leb, lt-leb}
 use Rattle.lexer.proofs.Decimals.{fifteen-capped, real-decimal}
 use borrow.Author.Needs.{needs}

@@ -1,5 +1,5 @@
-use mathlib.Core.Path.{_∙_, sym, ap}
-use borrow.Author.Tests.{not-true, not-false, leb-true}
+use mathlib.Core.Path.{_∙_, sym}
+use borrow.Author.Tests.{not-true, not-false}
 use Rattle.lexer.specs.Real.{realDigits}
 use Rattle.lexer.proofs.Decimals.{real-decimal, kept-small, fits-parts}
 use borrow.Author.Needs.{needs}

@@ -1,5 +1,3 @@
-use mathlib.Core.Path.{_∙_}
-use native.Mathlib.Omega.{arith}
 use lib.Dec.{lit<}
 use Rattle.lexer.specs.Real.{wholeDigits, fractionDigits}
 use Rattle.lexer.proofs.Decimals.{whole-parts}

@@ -1,5 +1,4 @@
 use borrow.Author.Tests.{ne-eqb}
-use borrow.Author.Needs.{needs}
 use Rattle.lexer.proofs.symbol.doubled.Statement.{statement}
 use Rattle.lexer.proofs.symbol.doubled.Tie as tie
 use Rattle.lexer.proofs.symbol.doubled.Reads as reads

@@ -1,5 +1,4 @@
 use borrow.Author.Tests.{ne-eqb}
-use borrow.Author.Needs.{needs}
 use Rattle.lexer.proofs.symbol.one_byte.Statement.{statement}
 use Rattle.lexer.proofs.symbol.one_byte.Tie as tie
 use Rattle.lexer.proofs.symbol.one_byte.Reads as reads

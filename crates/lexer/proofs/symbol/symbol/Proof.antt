@@ -1,4 +1,4 @@
-use mathlib.Core.Path.{_∙_, sym}
+use mathlib.Core.Path.{_∙_}
 use Rattle.lexer.specs.Symbol.{threeBytes, twoBytes, oneByte, firstOf}
 use Rattle.lexer.proofs.Symbols.{first-is, first-not}
 use borrow.Author.Needs.{needs}

@@ -1,4 +1,3 @@
-use mathlib.Core.Path.{_∙_, sym}
 use borrow.Author.Tests.{eq-eqb, ne-eqb}
 use borrow.Author.Needs.{needs}
 use Rattle.lexer.proofs.symbol.symbol_length.Statement.{statement}

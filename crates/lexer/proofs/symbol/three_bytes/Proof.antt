@@ -1,4 +1,3 @@
-use borrow.Author.Needs.{needs}
 use Rattle.lexer.proofs.symbol.three_bytes.Statement.{statement}
 use Rattle.lexer.proofs.symbol.three_bytes.Tie as tie
 use Rattle.lexer.proofs.symbol.three_bytes.Reads as reads

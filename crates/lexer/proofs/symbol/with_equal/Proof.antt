@@ -1,5 +1,4 @@
 use borrow.Author.Tests.{ne-eqb}
-use borrow.Author.Needs.{needs}
 use Rattle.lexer.proofs.symbol.with_equal.Statement.{statement}
 use Rattle.lexer.proofs.symbol.with_equal.Tie as tie
 use Rattle.lexer.proofs.symbol.with_equal.Reads as reads
