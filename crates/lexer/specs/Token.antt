@@ -62,7 +62,7 @@ abbrev pub pick : {A : Type 0} → Bool → (Unit {0} → A) → (Unit {0} → A
 pick true x y = x tt
 pick false x y = y tt
 
--- a run has a real's form, an integer's, or none: no run has both, since only a real has a point
+-- a real's form, else an integer's: no integer has a point
 abbrev pub scanRun : List ℕ → Scan
 scanRun run =
     pick (isReal run)
