@@ -1,7 +1,7 @@
 -- Bytes in a range, and the values of digits. Assumes nothing.
 use mathlib.Core.Path.{_≡_}
 use mathlib.Core.Bool.{true, false}
-use Prim.Native.Nat.{ℕ, _-_, _≤_}
+use Prim.Native.Nat.{ℕ, _+_, _-_, _≤_}
 use native.Mathlib.Omega.{arith}
 use lib.Dec.{leb}
 use borrow.Author.Tests.{leb-true}
@@ -21,10 +21,10 @@ module _ (b : ℕ) where
   pub tens : within 48 57 b ≡ true → Digit b (b - 48)
   tens e = let h = range 48 57 b e in (rw e, omega arith)
 
-  pub smalls : within 48 57 b ≡ false → within 97 102 b ≡ true → Digit b (b - 87)
+  pub smalls : within 48 57 b ≡ false → within 97 102 b ≡ true → Digit b (b - 97 + 10)
   smalls e f = let h = range 97 102 b f in (rw (e, f), omega arith)
 
-  pub capitals : within 48 57 b ≡ false → within 97 102 b ≡ false → within 65 70 b ≡ true → Digit b (b - 55)
+  pub capitals : within 48 57 b ≡ false → within 97 102 b ≡ false → within 65 70 b ≡ true → Digit b (b - 65 + 10)
   capitals e f g = let h = range 65 70 b g in (rw (e, f, g), omega arith)
 
   pub no-digit : within 48 57 b ≡ false → within 97 102 b ≡ false → within 65 70 b ≡ false → Digit b 16

@@ -5,11 +5,11 @@ use mathlib.Core.Bool.{Bool, cond}
 use mathlib.Core.List.{List, [], _∷_}
 use lib.Dec.{eqb}
 use lib.ListN.{getD}
-use Rattle.lexer.specs.Byte.{isDigitIn, digitOf}
+use Rattle.lexer.specs.Byte.{is, isDigitIn, digitOf}
 
 -- "optional `-`"
 abbrev pub isMinus : List ℕ → Bool
-isMinus run = eqb (getD run 0 0) 45
+isMinus run = is "-" (getD run 0 0)
 
 abbrev pub signLength : List ℕ → ℕ
 signLength run = cond (isMinus run) 1 0

@@ -7,16 +7,17 @@ use lib.ListN.{length, getD, drop}
 use lib.IntN.{ℤ, pos}
 use mir.Syntax.{Width, w32, w64}
 use Rattle.number.specs.Integer.{fitsIn, signedOf}
+use Rattle.lexer.specs.Byte.{is}
 use Rattle.lexer.specs.Run.{isEmpty}
 use Rattle.lexer.specs.Digits.{isMinus, signLength, digitsOf, wholeOf}
 
 -- "decimal (`0` or no leading zero), octal (`0` and digits 0..7) or `0x` and hex digits": what starts with `0` and not with `0x` is octal,
 -- since `0` alone has the same value in both
 abbrev pub isHex : List ℕ → Bool
-isHex run = eqb (getD run (signLength run) 0) 48 && eqb (getD run (signLength run + 1) 0) 120
+isHex run = is "0" (getD run (signLength run) 0) && is "x" (getD run (signLength run + 1) 0)
 
 abbrev pub baseOf : List ℕ → ℕ
-baseOf run = cond (isHex run) 16 (cond (eqb (getD run (signLength run) 0) 48) 8 10)
+baseOf run = cond (isHex run) 16 (cond (is "0" (getD run (signLength run) 0)) 8 10)
 
 abbrev pub prefixLength : List ℕ → ℕ
 prefixLength run = signLength run + cond (isHex run) 2 0
@@ -29,7 +30,7 @@ abbrev pub suffixAt : List ℕ → ℕ
 suffixAt run = prefixLength run + length (integerDigits run)
 
 abbrev pub isLong : List ℕ → Bool
-isLong run = eqb (getD run (suffixAt run) 0) 108 || eqb (getD run (suffixAt run) 0) 76
+isLong run = is "l" (getD run (suffixAt run) 0) || is "L" (getD run (suffixAt run) 0)
 
 -- digits, and nothing after them but the suffix
 abbrev pub isInteger : List ℕ → Bool

@@ -8,6 +8,7 @@ use lib.IntN.{ℤ, pos, natAbs, _-ℤ_}
 use lib.Ieee.{Float}
 use Rattle.number.specs.Integer.{isNegative, signedOf}
 use Rattle.number.specs.Real.{decimalOf}
+use Rattle.lexer.specs.Byte.{is}
 use Rattle.lexer.specs.Run.{isEmpty}
 use Rattle.lexer.specs.Digits.{isMinus, signLength, digitsOf, wholeOf}
 
@@ -27,24 +28,24 @@ exponentPart run = drop (length (fractionDigits run)) (drop 1 (fromPoint run))
 
 -- of that part: whether its sign is `-`, what stands after `e` and sign, and the digits there
 abbrev pub isDown : List ℕ → Bool
-isDown part = eqb (getD part 1 0) 45
+isDown part = is "-" (getD part 1 0)
 
 abbrev pub afterSign : List ℕ → List ℕ
-afterSign part = drop (cond (eqb (getD part 1 0) 43 || isDown part) 2 1) part
+afterSign part = drop (cond (is "+" (getD part 1 0) || isDown part) 2 1) part
 
 abbrev pub exponentDigits : List ℕ → List ℕ
 exponentDigits part = digitsOf 10 (afterSign part)
 
 abbrev pub isExponent : List ℕ → Bool
 isExponent part =
-    (eqb (getD part 0 0) 101 || eqb (getD part 0 0) 69)
+    (is "e" (getD part 0 0) || is "E" (getD part 0 0))
     && not (isEmpty (exponentDigits part))
     && isEmpty (drop (length (exponentDigits part)) (afterSign part))
 
 abbrev pub isReal : List ℕ → Bool
 isReal run =
     not (isEmpty (wholeDigits run))
-    && eqb (getD (fromPoint run) 0 0) 46
+    && is "." (getD (fromPoint run) 0 0)
     && not (isEmpty (fractionDigits run))
     && (isEmpty (exponentPart run) || isExponent (exponentPart run))
 

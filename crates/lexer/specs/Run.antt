@@ -5,11 +5,11 @@ use mathlib.Core.Bool.{Bool, true, false, not, cond, _&&_, _||_}
 use mathlib.Core.List.{List, [], _∷_}
 use lib.Dec.{eqb}
 use lib.ListN.{length, getD, drop}
-use Rattle.lexer.specs.Byte.{within, isDelimiter, isPlain}
+use Rattle.lexer.specs.Byte.{is, within, isDelimiter, isPlain}
 
 -- "A backslash takes the next byte": a byte is such a backslash if it is not taken itself
 abbrev pub takes : Bool → ℕ → Bool
-takes taken b = not taken && eqb b 92
+takes taken b = not taken && is "\\" b
 
 -- what ends a string is its quote; what ends a name or a number (quote 0) is "whitespace, end, `(`, `)` or `,`"
 abbrev pub ends : ℕ → ℕ → Bool
@@ -32,7 +32,7 @@ unescaped taken (b ∷ s) = cond (takes taken b) (unescaped true s) (b ∷ unesc
 -- whether there is an escape: the first backslash is one
 abbrev pub hasEscape : List ℕ → Bool
 hasEscape [] = false
-hasEscape (b ∷ s) = eqb b 92 || hasEscape s
+hasEscape (b ∷ s) = is "\\" b || hasEscape s
 
 -- "A backslash takes the next byte, which must be 32..126. Unescaped bytes must be 33..126 and none of `[ ] ' "`."
 abbrev pub legalByte : Bool → ℕ → Bool

@@ -3,29 +3,30 @@
 use Prim.Native.Nat.{ℕ, zero, suc}
 use mathlib.Core.Bool.{cond, _&&_}
 use lib.Dec.{eqb}
+use Rattle.lexer.specs.Byte.{is}
 
 -- `>>>`
 abbrev pub threeBytes : ℕ → ℕ → ℕ → ℕ
-threeBytes a b c = cond (eqb a 62 && eqb b 62 && eqb c 62) 18 0
+threeBytes a b c = cond (is ">" a && is ">" b && is ">" c) 18 0
 
 -- a byte and `=`: `== != <= >=`
 abbrev pub withEqual : ℕ → ℕ
-withEqual a = cond (eqb a 61) 32 (cond (eqb a 33) 33 (cond (eqb a 60) 35 (cond (eqb a 62) 37 0)))
+withEqual a = cond (is "=" a) 32 (cond (is "!" a) 33 (cond (is "<" a) 35 (cond (is ">" a) 37 0)))
 
 -- a byte twice: `<< >> && ^^ ||`
 abbrev pub doubled : ℕ → ℕ
-doubled a = cond (eqb a 60) 16 (cond (eqb a 62) 17 (cond (eqb a 38) 41 (cond (eqb a 94) 42 (cond (eqb a 124) 43 0))))
+doubled a = cond (is "<" a) 16 (cond (is ">" a) 17 (cond (is "&" a) 41 (cond (is "^" a) 42 (cond (is "|" a) 43 0))))
 
 abbrev pub twoBytes : ℕ → ℕ → ℕ
-twoBytes a b = cond (eqb b 61) (withEqual a) (cond (eqb a b) (doubled a) 0)
+twoBytes a b = cond (is "=" b) (withEqual a) (cond (eqb a b) (doubled a) 0)
 
 -- `~ & ^ | * / %`, `+ - < > !` and `( ) ,`
 abbrev pub oneByte : ℕ → ℕ
 oneByte a =
-    cond (eqb a 126) 8 (cond (eqb a 40) 9 (cond (eqb a 41) 10 (cond (eqb a 44) 11
-    (cond (eqb a 38) 19 (cond (eqb a 94) 20 (cond (eqb a 124) 21 (cond (eqb a 42) 22
-    (cond (eqb a 47) 23 (cond (eqb a 37) 24 (cond (eqb a 43) 25 (cond (eqb a 45) 26
-    (cond (eqb a 60) 34 (cond (eqb a 62) 36 (cond (eqb a 33) 40 0))))))))))))))
+    cond (is "~" a) 8 (cond (is "(" a) 9 (cond (is ")" a) 10 (cond (is "," a) 11
+    (cond (is "&" a) 19 (cond (is "^" a) 20 (cond (is "|" a) 21 (cond (is "*" a) 22
+    (cond (is "/" a) 23 (cond (is "%" a) 24 (cond (is "+" a) 25 (cond (is "-" a) 26
+    (cond (is "<" a) 34 (cond (is ">" a) 36 (cond (is "!" a) 40 0))))))))))))))
 
 abbrev pub firstOf : ℕ → ℕ → ℕ
 firstOf zero k = k

@@ -57,10 +57,12 @@ scanName s =
 abbrev pub integerToken : List ℕ → Token
 integerToken run = cond (isLong run) (int64 (integerOf run)) (int32 (integerOf run))
 
+-- one of two, of which only the one that is taken is computed
 abbrev pub pick : {A : Type 0} → Bool → (Unit {0} → A) → (Unit {0} → A) → A
 pick true x y = x tt
 pick false x y = y tt
 
+-- a real's form, else an integer's: no integer has a point
 abbrev pub scanRun : List ℕ → Scan
 scanRun run =
     pick (isReal run)

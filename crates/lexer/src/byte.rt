@@ -42,13 +42,13 @@ pub fn digit(b: u8) -> u64
     ensures { λ r. ⌜ (r ≡ digitOf b) × (r ≤ 16) ⌝ }
 {
     if (b'0' <= b) & (b <= b'9') {
-        return b as u64 - 48;
+        return (b - b'0') as u64;
     }
     if (b'a' <= b) & (b <= b'f') {
-        return b as u64 - 87;
+        return (b - b'a') as u64 + 10;
     }
     if (b'A' <= b) & (b <= b'F') {
-        return b as u64 - 55;
+        return (b - b'A') as u64 + 10;
     }
     16
 }
