@@ -1,0 +1,10 @@
+pub mod Streams
+pub mod Sound
+pub mod Fuel
+pub mod Laws
+pub mod Complete
+pub mod Sizes
+pub mod Climb
+pub mod Steps
+pub mod First
+pub mod Theorems

@@ -1,0 +1,22 @@
+use borrow.Author.Tests.{eq-eqb, ne-eqb}
+use borrow.Author.Needs.{needs}
+use Rattle.grammar.proofs.found.all_texts.Statement.{statement}
+use Rattle.grammar.proofs.found.all_texts.Tie as tie
+use Rattle.grammar.proofs.found.all_texts.Reads as reads
+use Rattle.grammar.proofs.found.all_texts.Lts as lts
+use Rattle.grammar.proofs.found.is_text.Reads as is-text-reads
+
+-- src/found.rt:162:43
+is-text-requires : tie.Need-is-text-requires
+is-text-requires c κs = search needs
+
+-- src/found.rt:159:1
+returns : tie.Need-returns
+returns c = rw (eq-eqb _ _ (c .if1 .taken))
+
+-- src/found.rt:159:1
+returns-2 : tie.Need-returns-2
+returns-2 c = rw (ne-eqb _ _ (c .before .if1 .left), c .is-text .ensures)
+
+pub all-texts-spec : {M : Type 1} → statement M
+all-texts-spec = tie.close (tie.spec is-text-requires returns returns-2)

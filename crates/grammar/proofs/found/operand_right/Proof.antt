@@ -1,0 +1,17 @@
+use borrow.Author.Tests.{le-leb, lt-leb}
+use borrow.Author.Needs.{needs}
+use Rattle.grammar.proofs.found.operand_right.Statement.{statement}
+use Rattle.grammar.proofs.found.operand_right.Tie as tie
+use Rattle.grammar.proofs.found.operand_right.Reads as reads
+use Rattle.grammar.proofs.found.operand_right.Lts as lts
+
+-- src/found.rt:95:1
+returns : tie.Need-returns
+returns c = rw (le-leb _ _ (c .if1 .taken))
+
+-- src/found.rt:95:1
+returns-2 : tie.Need-returns-2
+returns-2 c = rw (lt-leb _ _ (c .if1 .left))
+
+pub operand-right-spec : {M : Type 1} → statement M
+operand-right-spec = tie.close (tie.spec returns returns-2)

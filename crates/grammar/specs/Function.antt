@@ -1,0 +1,56 @@
+-- The functions by name. Document 01, "Grammar", "Functions"; the op of each is that of "Table".
+use Prim.Native.Nat.{ℕ}
+use mathlib.Core.Bool.{Bool, true, false, cond, not, _&&_}
+use mathlib.Core.List.{List, [], _∷_}
+use lib.Dec.{eqb}
+use Rattle.octets.specs.Octets.{sameOf}
+use Rattle.lexer.specs.Ascii.{ascii}
+use Rattle.lexer.specs.Token.{Token, name, int32, int64, real, text, symbol}
+
+-- a name and its op
+pub record Function : Type 0 where
+  pub word : List ℕ
+  pub op : ℕ
+
+abbrev pub changes : List Function
+changes = record { word = ascii "fold-case"; op = 6 } ∷ record { word = ascii "size"; op = 7 } ∷ []
+
+abbrev pub tests : List Function
+tests =
+    record { word = ascii "int32"; op = 48 }
+    ∷ record { word = ascii "int64"; op = 49 }
+    ∷ record { word = ascii "real64"; op = 50 }
+    ∷ record { word = ascii "string"; op = 51 }
+    ∷ record { word = ascii "opaque"; op = 52 }
+    ∷ record { word = ascii "nan"; op = 53 }
+    ∷ record { word = ascii "require"; op = 54 }
+    ∷ []
+
+abbrev pub matches : List Function
+matches =
+    record { word = ascii "begins-with"; op = 56 }
+    ∷ record { word = ascii "contains"; op = 57 }
+    ∷ record { word = ascii "ends-with"; op = 58 }
+    ∷ record { word = ascii "equals"; op = 59 }
+    ∷ []
+
+-- the op of a name among some functions, 0 if it is none of them; "Function names take no escapes"
+abbrev pub among : List Function → List ℕ → Bool → ℕ
+among [] s escaped = 0
+among (f ∷ fs) s escaped = cond (not escaped && sameOf s (f .word)) (f .op) (among fs s escaped)
+
+-- the first that is not 0
+abbrev pub orElse : ℕ → ℕ → ℕ
+orElse a b = cond (eqb a 0) b a
+
+abbrev pub opOfName : List ℕ → Bool → ℕ
+opOfName s escaped = orElse (among changes s escaped) (orElse (among tests s escaped) (among matches s escaped))
+
+-- the op of a called name, 0 if there is no such function
+abbrev pub functionOf : Token → ℕ
+functionOf (name s escaped) = opOfName s escaped
+functionOf (int32 z) = 0
+functionOf (int64 z) = 0
+functionOf (real x) = 0
+functionOf (text s) = 0
+functionOf (symbol k) = 0

@@ -1,0 +1,11 @@
+pub mod Tree
+pub mod Grammar
+pub mod Parse
+pub mod Place
+pub mod Function
+pub mod Size
+pub mod Judge
+pub mod Nesting
+pub mod Answer
+pub mod Stream
+pub mod Theorems

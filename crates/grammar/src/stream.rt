@@ -1,0 +1,217 @@
+// What the parser asks of a single token.
+ghost use mathlib.Core.Path.{_≡_};
+ghost use mathlib.Core.Bool.{true, false};
+ghost use Prim.Native.Nat.{_+_, _≤_, _<_};
+ghost use lib.ListN.{length, getD};
+ghost use Rattle.grammar.specs.Grammar.{isPrefix, isLiteral};
+ghost use Rattle.grammar.specs.Grammar.{rank as rankOf};
+ghost use Rattle.grammar.specs.Parse.{tokenAt};
+ghost use Rattle.grammar.specs.Function.{changes, tests, matches, among, opOfName};
+ghost use Rattle.grammar.specs.Nesting.{openAfter, rowAfter};
+ghost use Rattle.grammar.specs.Tree.{leaf as leafTree};
+ghost use Rattle.grammar.specs.Answer.{foundOf};
+ghost use Rattle.grammar.specs.Stream.{tokensIn};
+ghost use Rattle.lexer.specs.Token.{nameAt, escapedAt};
+use crate::found;
+use crate::found::Found;
+
+// The kind of the token at `at`, and 99 past the end.
+pub fn kind(kinds: &[u8], at: usize) -> u8
+    ensures { λ r. ⌜ r ≡ getD (now (kinds .entry)) at 99 ⌝ }
+{
+    if at < kinds.len() { kinds[at] } else { 99 }
+}
+
+pub fn start(starts: &[u16], at: usize) -> usize
+    ensures { λ r. ⌜ r ≡ getD (now (starts .entry)) at 0 ⌝ }
+{
+    if at < starts.len() {
+        wide(starts[at])
+    } else {
+        0
+    }
+}
+
+fn wide(x: u16) -> usize
+    ensures { λ r. ⌜ r ≡ x ⌝ }
+{
+    x as usize
+}
+
+// The level of each kind: 11 for a kind that is no binary operator.
+const RANKS: [u8; 44] = [
+    11,
+    11,
+    11,
+    11,
+    11,
+    11,
+    11,
+    11,
+    11,
+    11,
+    11,
+    11,
+    11,
+    11,
+    11,
+    11,
+    10,
+    10,
+    10,
+    9,
+    8,
+    7,
+    6,
+    6,
+    6,
+    5,
+    5,
+    11,
+    11,
+    11,
+    11,
+    11,
+    3,
+    3,
+    4,
+    4,
+    4,
+    4,
+    11,
+    11,
+    11,
+    2,
+    1,
+    0,
+];
+
+pub fn rank(k: u8) -> u8
+    ensures { λ r. ⌜ (r ≡ rankOf k) × (r ≤ 11) ⌝ }
+{
+    let i = k as usize;
+    if i < 44 { RANKS[i] } else { 11 }
+}
+
+pub fn is_prefix(k: u8) -> bool
+    ensures { λ r. ⌜ r ≡ isPrefix k ⌝ }
+{
+    (k == 40) | (k == 8)
+}
+
+pub fn is_literal(k: u8) -> bool
+    ensures { λ r. ⌜ r ≡ isLiteral k ⌝ }
+{
+    (1 <= k) & (k <= 4)
+}
+
+// What is known of a literal or a name.
+pub fn leaf(text: &[u8], kinds: &[u8], starts: &[u16], at: usize) -> Found
+    ensures { λ r. ⌜ r ≡ foundOf (leafTree (tokenAt (tokensIn (now (text .entry)) (now (kinds .entry)) (now (starts .entry))) at)) ⌝ }
+{
+    let k = kind(kinds, at);
+    let s = start(starts, at);
+    if k == 5 {
+        return found::leaf(k, lexer::name_length(text, s));
+    }
+    if k == 4 {
+        return found::leaf(k, lexer::string_length(text, s));
+    }
+    found::leaf(k, 0)
+}
+
+// The op of the function that the name at a place of the text calls, 0 if there is none.
+pub fn function(text: &[u8], at: usize) -> u8
+    ensures { λ r. ⌜ r ≡ opOfName (nameAt (now (text .entry)) at) (escapedAt (now (text .entry)) at) ⌝ }
+{
+    let a = change(text, at);
+    if a != 0 {
+        return a;
+    }
+    let b = test(text, at);
+    if b != 0 {
+        return b;
+    }
+    matching(text, at)
+}
+
+fn change(text: &[u8], at: usize) -> u8
+    ensures { λ r. ⌜ r ≡ among changes (nameAt (now (text .entry)) at) (escapedAt (now (text .entry)) at) ⌝ }
+{
+    if lexer::name_is(text, at, b"fold-case") {
+        return 6;
+    }
+    if lexer::name_is(text, at, b"size") {
+        return 7;
+    }
+    0
+}
+
+fn test(text: &[u8], at: usize) -> u8
+    ensures { λ r. ⌜ r ≡ among tests (nameAt (now (text .entry)) at) (escapedAt (now (text .entry)) at) ⌝ }
+{
+    if lexer::name_is(text, at, b"int32") {
+        return 48;
+    }
+    if lexer::name_is(text, at, b"int64") {
+        return 49;
+    }
+    if lexer::name_is(text, at, b"real64") {
+        return 50;
+    }
+    if lexer::name_is(text, at, b"string") {
+        return 51;
+    }
+    if lexer::name_is(text, at, b"opaque") {
+        return 52;
+    }
+    if lexer::name_is(text, at, b"nan") {
+        return 53;
+    }
+    if lexer::name_is(text, at, b"require") {
+        return 54;
+    }
+    0
+}
+
+fn matching(text: &[u8], at: usize) -> u8
+    ensures { λ r. ⌜ r ≡ among matches (nameAt (now (text .entry)) at) (escapedAt (now (text .entry)) at) ⌝ }
+{
+    if lexer::name_is(text, at, b"begins-with") {
+        return 56;
+    }
+    if lexer::name_is(text, at, b"contains") {
+        return 57;
+    }
+    if lexer::name_is(text, at, b"ends-with") {
+        return 58;
+    }
+    if lexer::name_is(text, at, b"equals") {
+        return 59;
+    }
+    0
+}
+
+// What is open after a token of the kind k, and how many prefix operators stand in a row.
+pub fn open_after(k: u8, opened: usize) -> usize
+    requires { ⌜ opened ≤ 24 ⌝ }
+    ensures { λ r. ⌜ r ≡ openAfter k opened ⌝ }
+{
+    if k == 9 {
+        return opened + 1;
+    }
+    if k == 10 {
+        if opened == 0 {
+            return 0;
+        }
+        return opened - 1;
+    }
+    opened
+}
+
+pub fn row_after(k: u8, row: usize) -> usize
+    requires { ⌜ row ≤ 24 ⌝ }
+    ensures { λ r. ⌜ r ≡ rowAfter k row ⌝ }
+{
+    if is_prefix(k) { row + 1 } else { 0 }
+}
