@@ -52,7 +52,7 @@ pub struct Slot {
 }
 
 // What is held as an operand of either kind; the other kind counts as bottom.
-fn truth_in(h: Held) -> Truth
+pub fn truth_in(h: Held) -> Truth
     ensures { λ r. ⌜ ((p : List ℕ) → (q : List ℕ) → r ≡ truthIn (itemOf p q h)) ⌝ }
 {
     match h {
