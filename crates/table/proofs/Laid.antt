@@ -1,0 +1,54 @@
+-- What the layout says, part by part. Assumes nothing.
+use mathlib.Core.Path.{_≡_}
+use mathlib.Core.Bool.{true, _&&_}
+use mathlib.Core.List.{List}
+use Prim.Native.Nat.{ℕ, _+_, _*_, _≤_, _<_}
+use native.Mathlib.Omega.{arith}
+use lib.Dec.{eqb, leb}
+use lib.ListN.{length}
+use borrow.Author.Tests.{leb-true, le-leb, eqb-true, eq-eqb}
+use Rattle.word.specs.Word.{le}
+use Rattle.table.specs.Table.{countOf, poolLengthOf, layoutOf}
+use Rattle.table.proofs.Tests.{both-true, are-true}
+
+pub record Laid (s : List ℕ) : Type 0 where
+  pub head : 10 ≤ length s
+  pub word : 4 + le 4 s 0 ≡ length s
+  pub kind : le 2 s 4 ≡ 2
+  pub some-entry : 1 ≤ countOf s
+  pub few : countOf s ≤ 512
+  pub small : poolLengthOf s ≤ 4096
+  pub whole : 10 + 12 * countOf s + poolLengthOf s ≡ length s
+
+module _ (s : List ℕ) where
+  pub laid : layoutOf s ≡ true → Laid s
+  unfolding layoutOf
+  laid e =
+      let a = both-true _ _ e in
+      let b = both-true _ _ (a .1) in
+      let c = both-true _ _ (b .1) in
+      let d = both-true _ _ (c .1) in
+      let n = both-true _ _ (d .0) in
+      let p = both-true _ _ (d .1) in
+      record {
+        head = leb-true _ _ (a .0);
+        word = eqb-true _ _ (b .0);
+        kind = eqb-true _ _ (c .0);
+        some-entry = leb-true _ _ (n .0);
+        few = leb-true _ _ (n .1);
+        small = leb-true _ _ (p .0);
+        whole = eqb-true _ _ (p .1);
+      }
+
+  pub keeps : Laid s → layoutOf s ≡ true
+  unfolding layoutOf
+  keeps l =
+      are-true _ _ (le-leb _ _ (l .head))
+      (are-true _ _ (eq-eqb _ _ (l .word))
+      (are-true _ _ (eq-eqb _ _ (l .kind))
+      (are-true _ _ (are-true _ _ (le-leb _ _ (l .some-entry)) (le-leb _ _ (l .few)))
+      (are-true _ _ (le-leb _ _ (l .small)) (eq-eqb _ _ (l .whole))))))
+
+  -- each entry lies in the table
+  pub inside : layoutOf s ≡ true → (i : ℕ) → i < countOf s → 22 + 12 * i ≤ length s
+  inside e i h = let l = laid e in omega arith

@@ -1,0 +1,127 @@
+-- The theorems on tables that specs/Theorems.antt states. Assumes nothing.
+use mathlib.Core.Path.{_≡_, refl, sym, ap, _∙_}
+use mathlib.Core.Bool.{Bool, true, false, _&&_, _||_}
+use mathlib.Core.List.{List, [], _∷_, _++_}
+use mathlib.Core.Option.{some}
+use Prim.Native.Nat.{ℕ, suc, _+_, _*_, _-_, _^_, _≤_, _<_}
+use native.Mathlib.Numerals.{add-one}
+use native.Mathlib.Omega.{arith}
+use lib.Dec.{leb, ltb}
+use lib.IntN.{ℤ, pos, negsuc}
+use lib.ListN.{length, getD}
+use borrow.Author.Tests.{ltb-true, ltb-false, lt-ltb, leb-true, le-leb}
+use mir.Syntax.{w32, w64}
+use mir.Val.{SFits, ofZ}
+use Rattle.word.specs.Word.{Bytes}
+use Rattle.opcode.specs.Opcode.{opOf, Kind, logic, takesOf, givesOf}
+use Rattle.table.specs.Table.{Entry, blank, Program, encode, decode, layoutOf, countOf, entryAt, entriesOf, poolOf}
+use Rattle.table.specs.Check.{inRange, entriesRight, shapeFrom, shapeAt, endRight, skipsRight, programRight, checkOf}
+use Rattle.table.specs.Ways.{EveryWay}
+use Rattle.table.specs.Theorems.{Limits, DecodeEncode, EncodeDecode, Layout, Widened, CheckEncode, CheckWays, EveryReached, Known, CheckedEntry, CheckedSkip, CheckedEnds}
+use Rattle.table.proofs.Tests.{both-true, are-true}
+use Rattle.table.proofs.Laid.{laid, keeps, inside}
+use Rattle.table.proofs.Encoding.{read-written, laid-out, written-read, within-limits, written-bytes}
+use Rattle.table.proofs.Reading.{length-entries, entry-of}
+use Rattle.table.proofs.Passes.{each-right}
+use Rattle.table.proofs.Reached.{depth, end-shape, each-step, each-landing, every-way, reached, ends-right, skips-right}
+
+-- ---- layout
+
+pub decode-encode : DecodeEncode
+decode-encode p l = read-written p l
+
+pub encode-decode : EncodeDecode
+encode-decode s b e = (within-limits s b (laid s e), written-read s b (laid s e))
+
+pub layout : Layout
+layout s = (
+  λ h. let r = encode-decode s (h .0) (h .1) in (decode s, r .0, sym (r .1)),
+  λ h. rw (h .2) (written-bytes (h .0) (h .1 .bytes), keeps (encode (h .0)) (laid-out (h .0) (h .1))),
+)
+
+-- ---- the check
+
+in-range : (z : ℤ) → SFits w32 z → inRange (ofZ w64 z) ≡ true
+in-range (pos n) f = let h = f .sfits in rw (lt-ltb n (2 ^ 31) h)
+in-range (negsuc n) f =
+    let h = f .sfits in
+    rw (le-leb (2 ^ 64 - 2 ^ 31) (2 ^ 64 - suc n) (omega arith), lt-ltb (2 ^ 64 - suc n) (2 ^ 64) (omega arith)) (or-true (ltb (2 ^ 64 - suc n) (2 ^ 31)))
+  where
+    or-true : (b : Bool) → (b || true) ≡ true
+    or-true true = refl
+    or-true false = refl
+
+pub widened : Widened
+widened b = (λ h. go (ltb b (2 ^ 31)) refl h, λ h. rw (h .2) (in-range (h .0) (h .1)))
+  where
+    go : (t : Bool) → ltb b (2 ^ 31) ≡ t → (t || (leb (2 ^ 64 - 2 ^ 31) b && ltb b (2 ^ 64))) ≡ true → (z : ℤ) × SFits w32 z × (b ≡ ofZ w64 z)
+    go true e h = (pos b, record { sfits = ltb-true b (2 ^ 31) e }, refl)
+    go false e h =
+        let p = both-true (leb (2 ^ 64 - 2 ^ 31) b) (ltb b (2 ^ 64)) h in
+        let l = leb-true (2 ^ 64 - 2 ^ 31) b (p .0) in
+        let u = ltb-true b (2 ^ 64) (p .1) in
+        (negsuc (2 ^ 64 - 1 - b), record { sfits = omega arith }, omega arith)
+
+pub check-encode : CheckEncode
+unfolding checkOf
+check-encode p l = ap (λ (b : Bool). b && programRight (decode (encode p))) (keeps (encode p) (laid-out p l)) ∙ ap programRight (read-written p l)
+
+-- the parts of a check that passes
+record Parts (s : List ℕ) : Type 0 where
+  lay : layoutOf s ≡ true
+  right : entriesRight (poolOf s) (entriesOf s) ≡ true
+  ends : endRight (entriesOf s) ≡ true
+  lands : skipsRight (entriesOf s) (length (entriesOf s)) ≡ true
+
+parts : (s : List ℕ) → checkOf s ≡ true → Parts s
+unfolding checkOf
+parts s e =
+    let a = both-true (layoutOf s) (programRight (decode s)) e in
+    let b = both-true (entriesRight (poolOf s) (entriesOf s)) _ (a .1) in
+    let c = both-true (endRight (entriesOf s)) _ (b .1) in
+    record { lay = a .0; right = b .0; ends = c .0; lands = c .1 }
+
+pub check-ways : CheckWays
+unfolding checkOf
+check-ways s = (
+  λ h. let p = parts s h in (p .lay, p .right, every-way (entriesOf s) (p .ends) (p .lands)),
+  λ h. are-true _ _ (h .0) (are-true _ _ (h .1) (are-true _ _ (ends-right (entriesOf s) (h .2)) (skips-right (entriesOf s) (h .2)))),
+)
+
+pub every-reached : EveryReached
+every-reached s c i h =
+    let p = parts s c in
+    reached (entriesOf s) (every-way (entriesOf s) (p .ends) (p .lands)) i (rw (length-entries s) h)
+
+-- ---- what a run rests on
+
+pub checked-layout : (s : List ℕ) → checkOf s ≡ true → layoutOf s ≡ true
+checked-layout s c = parts s c .lay
+
+pub checked-entry : CheckedEntry
+checked-entry s c i h =
+    let p = parts s c in
+    let k : i < length (entriesOf s) = rw (length-entries s) h in
+    let st = each-step (entriesOf s) (p .ends) (p .lands) i k in
+    let e = entry-of s i h in
+    let b = rw e at (st .before) in
+    record {
+      rest = st .rest;
+      inside = inside s (p .lay) i h;
+      right = rw e at (each-right (poolOf s) (entriesOf s) i k (p .right));
+      before = b;
+      next = rw add-one (rw e at (st .after));
+      shallow = depth (entriesOf s) i _ b;
+      room = st .room;
+    }
+
+pub checked-skip : CheckedSkip
+checked-skip s c i h t =
+    let p = parts s c in
+    let e = entry-of s i h in
+    let l = each-landing (entriesOf s) (p .ends) (p .lands) i (rw (length-entries s) h) (rw e t) in
+    (rw (e, length-entries s) at (l .0), rw e at (l .1))
+
+pub checked-ends : CheckedEnds
+unfolding shapeFrom
+checked-ends s c = let p = parts s c in (refl, ap (shapeAt (entriesOf s)) (sym (length-entries s)) ∙ end-shape (entriesOf s) (p .ends) (p .lands))

@@ -1,0 +1,5 @@
+pub mod Table
+pub mod Check
+pub mod Ways
+pub mod Number
+pub mod Theorems

@@ -1,0 +1,341 @@
+// Tables: layout, decoding and the check. Document 01, "Table". Every function takes a slice that is exactly the table, wherever it lies.
+ghost use mathlib.Core.Path.{_≡_};
+ghost use mathlib.Core.Bool.{true, _&&_};
+ghost use mathlib.Core.List.{List};
+ghost use mathlib.Core.Option.{Option};
+ghost use Prim.Native.Nat.{ℕ, _+_, _*_, _≤_, _<_};
+ghost use lib.Dec.{leb, eqb};
+ghost use lib.ListN.{length, getD};
+ghost use Rattle.opcode.specs.Opcode.{Kind, unaryTakes, unaryGives, binaryTakes, binaryGives};
+ghost use Rattle.table.specs.Table.{countOf, entriesOf, entryAt, poolOf, layoutOf};
+ghost use Rattle.table.specs.Check.{inRange, partRight, loadRight, entryRight, popOne, push, flowBy, after, isSkip, skipsRight, checkOf};
+ghost use Rattle.table.specs.Number.{bitOf, numberOf, Stored, Shaped};
+use opcode::Binary;
+use opcode::Load;
+use opcode::Many;
+use opcode::Op;
+use opcode::Skip;
+use opcode::Unary;
+
+// "Entry: u16 op, u16 a, u64 b."
+pub struct Entry {
+    pub op: u16,
+    pub a: u16,
+    pub b: u64,
+}
+
+// ---- layout and decoding
+
+// How many entries the table says that it has. It asks for the header, which the layout has.
+pub fn count(table: &[u8]) -> usize
+    requires { ⌜ 10 ≤ length (now table) ⌝ }
+    ensures { λ r. ⌜ (r ≡ countOf (now (table .entry))) × (r < 65536) ⌝ }
+{
+    word::read_u16(table, 6) as usize
+}
+
+// The entry i. It is on the path of every step of a run, so it tests nothing: it asks that the entry lies in the table, which the layout says of each.
+pub fn entry_at(table: &[u8], i: usize) -> Entry
+    requires { ⌜ 22 + 12 * i ≤ length (now table) ⌝ }
+    ensures { λ r. ⌜ r ≡ entryAt (now (table .entry)) i ⌝ }
+{
+    let at = 12 * i;
+    let op = word::read_u16(table, 10 + at);
+    let a = word::read_u16(table, 12 + at);
+    let b = word::read_u64(table, 14 + at);
+    Entry { op: op, a: a, b: b }
+}
+
+// The pool, as a part of the table. It asks that the entries lie in the table, which the layout says.
+pub fn pool(table: &[u8]) -> &[u8]
+    requires { ⌜ (10 ≤ length (now table)) × (10 + 12 * countOf (now table) ≤ length (now table)) ⌝ }
+    ensures { λ r. ⌜ now r ≡ poolOf (now (table .entry)) ⌝ }
+{
+    let start = 10 + 12 * count(table);
+    &table[start..]
+}
+
+fn layout_right(table: &[u8]) -> bool
+    ensures { λ r. ⌜ r ≡ layoutOf (now (table .entry)) ⌝ }
+{
+    let len = table.len();
+    if len < 10 {
+        return false;
+    }
+    let size = word::read_u32(table, 0) as usize;
+    let kind = word::read_u16(table, 4);
+    let n = count(table);
+    let p = word::read_u16(table, 8) as usize;
+    (4 + size == len)
+        & ((kind == 2) & (((1 <= n) & (n <= 512)) & ((p <= 4096) & (10 + 12 * n + p == len))))
+}
+
+// ---- an entry by itself
+
+// "int32 widened by sign and in range"
+fn in_range(b: u64) -> bool
+    ensures { λ r. ⌜ r ≡ inRange b ⌝ }
+{
+    (b < 0x8000_0000) | (0xffff_ffff_8000_0000 <= b)
+}
+
+// "a + b at most the pool length", with no sum that could wrap.
+fn part_right(pool: &[u8], e: Entry) -> bool
+    ensures { λ r. ⌜ r ≡ partRight (now (pool .entry)) e ⌝ }
+{
+    let start = e.b as usize;
+    if pool.len() < start {
+        return false;
+    }
+    (e.a as usize) <= pool.len() - start
+}
+
+// "a name keeps the notice's name rules"
+fn name_right(pool: &[u8], e: Entry) -> bool
+    ensures { λ r. ⌜ r ≡ loadRight (now (pool .entry)) Load.Name e ⌝ }
+{
+    if !part_right(pool, e) {
+        return false;
+    }
+    let start = e.b as usize;
+    let end = start + (e.a as usize);
+    notice::name_right(&pool[start..end])
+}
+
+fn load_right(pool: &[u8], l: Load, e: Entry) -> bool
+    ensures { λ r. ⌜ r ≡ loadRight (now (pool .entry)) l e ⌝ }
+{
+    match l {
+        Load::Int32 => (e.a == 0) & in_range(e.b),
+        Load::Int64 => e.a == 0,
+        Load::Real64 => e.a == 0,
+        Load::Text => part_right(pool, e),
+        Load::Name => name_right(pool, e),
+    }
+}
+
+fn entry_right(pool: &[u8], e: Entry) -> bool
+    ensures { λ r. ⌜ r ≡ entryRight (now (pool .entry)) e ⌝ }
+{
+    let op = opcode::op_of(e.op);
+    match op {
+        Op::Load(l) => load_right(pool, l, e),
+        Op::Unary(_) => (e.a == 0) & (e.b == 0),
+        Op::Binary(_) => (e.a == 0) & (e.b == 0),
+        Op::Many(_) => ((1 <= e.a) & (e.a <= 8)) & (e.b == 0),
+        Op::Skip(_) => (1 <= e.a) & (e.b == 0),
+        Op::Unknown => false,
+    }
+}
+
+// ---- the kinds along the entries, as a number: 1 for the empty stack, then a bit for each slot; 0 for none
+
+// One operand off.
+fn pop_one(c: u64, bit: u64) -> u64
+    ensures { λ r. ⌜ ((t : Kind) (s : Option (List Kind)) → bit ≡ bitOf t → c ≡ numberOf s → r ≡ numberOf (popOne t s)) ⌝ }
+{
+    if c <= 1 {
+        return 0;
+    }
+    if c % 2 != bit {
+        return 0;
+    }
+    c / 2
+}
+
+// A result on, where fewer than 32 slots are taken.
+fn push_one(c: u64, bit: u64) -> u64
+    requires { ⌜ bit < 2 ⌝ }
+    ensures { λ r. ⌜ ((g : Kind) (s : Option (List Kind)) → bit ≡ bitOf g → c ≡ numberOf s → r ≡ numberOf (push g s)) ⌝ }
+{
+    if c == 0 {
+        return 0;
+    }
+    if 0xffff_ffff < c {
+        return 0;
+    }
+    2 * c + bit
+}
+
+fn unary_takes(u: Unary) -> u64
+    ensures { λ r. ⌜ r ≡ bitOf (unaryTakes u) ⌝ }
+{
+    match u {
+        Unary::Not => 0,
+        Unary::Change(_) => 1,
+        Unary::Test(_) => 1,
+    }
+}
+
+fn unary_gives(u: Unary) -> u64
+    ensures { λ r. ⌜ (r ≡ bitOf (unaryGives u)) × (r < 2) ⌝ }
+{
+    match u {
+        Unary::Not => 0,
+        Unary::Change(_) => 1,
+        Unary::Test(_) => 0,
+    }
+}
+
+fn binary_takes(b: Binary) -> u64
+    ensures { λ r. ⌜ r ≡ bitOf (binaryTakes b) ⌝ }
+{
+    match b {
+        Binary::Combine(_) => 1,
+        Binary::Compare(_) => 1,
+        Binary::Connect(_) => 0,
+    }
+}
+
+fn binary_gives(b: Binary) -> u64
+    ensures { λ r. ⌜ (r ≡ bitOf (binaryGives b)) × (r < 2) ⌝ }
+{
+    match b {
+        Binary::Combine(_) => 1,
+        Binary::Compare(_) => 0,
+        Binary::Connect(_) => 0,
+    }
+}
+
+fn load_flow(c: u64) -> u64
+    ensures { λ r. ⌜ ((l : Load) (a : ℕ) (s : Option (List Kind)) → c ≡ numberOf s → r ≡ numberOf (flowBy (Op.Load l) a s)) ⌝ }
+{
+    push_one(c, 1)
+}
+
+fn unary_flow(u: Unary, c: u64) -> u64
+    ensures { λ r. ⌜ ((a : ℕ) (s : Option (List Kind)) → c ≡ numberOf s → r ≡ numberOf (flowBy (Op.Unary u) a s)) ⌝ }
+{
+    let t = unary_takes(u);
+    let g = unary_gives(u);
+    push_one(pop_one(c, t), g)
+}
+
+fn binary_flow(b: Binary, c: u64) -> u64
+    ensures { λ r. ⌜ ((a : ℕ) (s : Option (List Kind)) → c ≡ numberOf s → r ≡ numberOf (flowBy (Op.Binary b) a s)) ⌝ }
+{
+    let t = binary_takes(b);
+    let g = binary_gives(b);
+    push_one(pop_one(pop_one(c, t), t), g)
+}
+
+// "a: literals or values .. taken from the stack with the first"
+fn many_flow(a: u16, c: u64) -> u64
+    ensures { λ r. ⌜ ((m : Many) (s : Option (List Kind)) → c ≡ numberOf s → r ≡ numberOf (flowBy (Op.Many m) a s)) ⌝ }
+{
+    let mut d = pop_one(c, 1);
+    let mut left = a;
+    while 0 < left {
+        d = pop_one(d, 1);
+        left -= 1;
+    }
+    push_one(d, 0)
+}
+
+// "A skip keeps its operand."
+fn skip_flow(c: u64) -> u64
+    ensures { λ r. ⌜ ((k : Skip) (a : ℕ) (s : Option (List Kind)) → c ≡ numberOf s → r ≡ numberOf (flowBy (Op.Skip k) a s)) ⌝ }
+{
+    push_one(pop_one(c, 0), 0)
+}
+
+// The kinds after an entry, of those before it.
+fn flow(e: Entry, c: u64) -> u64
+    ensures { λ r. ⌜ ((s : Option (List Kind)) → c ≡ numberOf s → r ≡ numberOf (after e s)) ⌝ }
+{
+    let op = opcode::op_of(e.op);
+    match op {
+        Op::Load(_) => load_flow(c),
+        Op::Unary(u) => unary_flow(u, c),
+        Op::Binary(b) => binary_flow(b, c),
+        Op::Many(_) => many_flow(e.a, c),
+        Op::Skip(_) => skip_flow(c),
+        Op::Unknown => push_one(c, 0),
+    }
+}
+
+// Keeps the kinds before each entry and at the end. Answers whether each entry is right by itself and finds its operands.
+fn shapes_right(table: &[u8], n: usize, shapes: &mut [u64; 513]) -> bool
+    requires { ⌜ (layoutOf (now table) ≡ true) × (n ≡ countOf (now table)) × (length (now shapes) ≡ 513) ⌝ }
+    ensures { λ r. ⌜ Shaped (now (table .entry)) (now (shapes .exit)) r ⌝ }
+{
+    let names = pool(table);
+    shapes[0] = 1;
+    let mut i = 0;
+    while i < n {
+        let e = entry_at(table, i);
+        if !entry_right(names, e) {
+            return false;
+        }
+        let c = flow(e, shapes[i]);
+        if c == 0 {
+            return false;
+        }
+        i += 1;
+        shapes[i] = c;
+    }
+    true
+}
+
+// ---- where skips land
+
+fn is_skip(e: Entry) -> bool
+    ensures { λ r. ⌜ r ≡ isSkip e ⌝ }
+{
+    let op = opcode::op_of(e.op);
+    match op {
+        Op::Load(_) => false,
+        Op::Unary(_) => false,
+        Op::Binary(_) => false,
+        Op::Many(_) => false,
+        Op::Skip(_) => true,
+        Op::Unknown => false,
+    }
+}
+
+// "a skip lands at or before N", with the kinds that it was reached with.
+fn lands_right(shapes: &[u64; 513], n: usize, i: usize, a: u16) -> bool
+    requires { ⌜ (i < n) × (n ≤ 512) ⌝ }
+    ensures { λ r. ⌜ r ≡ (leb (i + a + 1) n && eqb (getD (now (shapes .entry)) (i + a + 1) 0) (getD (now (shapes .entry)) i 0)) ⌝ }
+{
+    let to = i + (a as usize) + 1;
+    if n < to {
+        return false;
+    }
+    shapes[to] == shapes[i]
+}
+
+fn skips_right(table: &[u8], n: usize, shapes: &[u64; 513]) -> bool
+    requires { ⌜ (layoutOf (now table) ≡ true) × (n ≡ countOf (now table)) × Stored (now table) (now shapes) ⌝ }
+    ensures { λ r. ⌜ r ≡ skipsRight (entriesOf (now (table .entry))) n ⌝ }
+{
+    let mut i = 0;
+    while i < n {
+        let e = entry_at(table, i);
+        if is_skip(e) & !lands_right(shapes, n, i, e.a) {
+            return false;
+        }
+        i += 1;
+    }
+    true
+}
+
+// ---- the check
+
+// Whether the table passes; refusal 12 if not.
+pub fn check(table: &[u8]) -> bool
+    ensures { λ r. ⌜ r ≡ checkOf (now (table .entry)) ⌝ }
+{
+    if !layout_right(table) {
+        return false;
+    }
+    let n = count(table);
+    let mut shapes = [0u64; 513];
+    if !shapes_right(table, n, &mut shapes) {
+        return false;
+    }
+    if shapes[n] != 2 {
+        return false;
+    }
+    skips_right(table, n, &shapes)
+}

@@ -1,0 +1,67 @@
+// Prints of each table on standard input its refusal number, 0 or 12, and of one that passes its entries and its pool.
+ghost use Prim.Native.Nat.{_+_, _*_, _≤_};
+ghost use lib.ListN.{length};
+ghost use mathlib.Core.Path.{_≡_};
+ghost use mathlib.Core.Bool.{true};
+ghost use Rattle.table.specs.Check.{checkOf};
+use libc::STDOUT_FILENO;
+
+fn put(s: &[u8]) {
+    io::write_all(STDOUT_FILENO, s);
+}
+
+fn put_number(n: u64) {
+    io::print_decimal(STDOUT_FILENO, n);
+    put(b" ");
+}
+
+fn put_entry(table: &[u8], i: usize)
+    requires { ⌜ 22 + 12 * i ≤ length (now table) ⌝ }
+{
+    let e = table::entry_at(table, i);
+    put_number(e.op as u64);
+    put_number(e.a as u64);
+    put_number(e.b);
+}
+
+fn put_table(table: &[u8])
+    requires { ⌜ checkOf (now table) ≡ true ⌝ }
+{
+    let n = table::count(table);
+    let mut i = 0;
+    while i < n {
+        put_entry(table, i);
+        i += 1;
+    }
+    cases::print_hex(table::pool(table));
+}
+
+fn answer(table: &[u8]) {
+    if table::check(table) {
+        put(b"0 ");
+        put_table(table);
+    } else {
+        put(b"12");
+    }
+    put(b"\n");
+}
+
+// One table. Answers whether there was one.
+fn next_case() -> bool {
+    let mut buffer = [0u8; 16384];
+    let part = cases::next_part(&mut buffer);
+    if !part.whole {
+        return false;
+    }
+    let end = part.len;
+    answer(&buffer[0..end]);
+    true
+}
+
+// Nothing says that the input ends, so the turns are counted down.
+fn main() {
+    let mut turns: u64 = 1000000;
+    while turns > 0 && next_case() {
+        turns -= 1;
+    }
+}
