@@ -1,28 +1,29 @@
 -- Numbers by their kinds: what each operator's tests lead to. Assumes nothing.
 use mathlib.Core.Path.{_≡_, refl, sym, ap, _∙_}
 use mathlib.Core.Bool.{Bool, true, false, not, _&&_, _||_}
-use Prim.Native.Nat.{ℕ, suc, _-_, _*_, _/_, _%_, _^_, _<_, _≤_}
+use Prim.Native.Nat.{ℕ, suc, _-_, _^_, _<_, _≤_}
 use native.Mathlib.Omega.{arith}
 use lib.IntN.{ℤ, pos, negsuc, natAbs}
 use lib.Signed.{mag}
 use lib.Dec.{eqb}
-use lib.Ieee.{Float, binary64, ofBits, eq}
+use lib.Ieee.{Float, binary64, ofBits}
 use mir.Syntax.{Width, w32, w64}
-use mir.Val.{bits, SFits, toZ, ofZ}
+use mir.Val.{bits, hbits, SFits, toZ, ofZ}
 use mir.ValLaws.{toZ-ofZ, pow-bits}
 use borrow.Author.Tests.{eq-eqb, ne-eqb, eqb-true, eqb-false, lt-ltb, le-ltb, ltb-true}
-use Rattle.truth.specs.declared.Truth.the-variants.{Bottom}
 use Rattle.truth.specs.Truth.{ofBool}
 use Rattle.number.specs.Integer.{exactOf, equalZ, isNegative}
 use Rattle.number.specs.Bits.{onBits, shifted}
-use Rattle.number.specs.Number.{isInt32, isInteger, isReal, integerOf, int32Of, realOf, zeroReal, typed, inArithmetic, inComparison, onReals, realArithmetic, divides, isZero, zeroDivisor, arithmeticOf, bitwiseOf, placesIn, countOf, counted, shiftOf, comparedBy}
+use Rattle.number.specs.Number.{isInt32, isInteger, isReal, integerOf, int32Of, realOf, zeroReal, typed, inArithmetic, inComparison, onReals, realArithmetic, divides, isZero, zeroDivisor, arithmeticOf, bitwiseOf, placesIn, countOf, counted, shiftOf, sidesOf, comparedBy}
 use Rattle.number.specs.declared.Number.{Number}
 use Rattle.number.specs.declared.Number.the-variants.{Int32, Int64, Real, None}
 use Rattle.number.specs.declared.Count.{Count}
 use Rattle.number.specs.declared.Count.the-variants.{Places, Outside}
-use Rattle.number.specs.declared.operator.Arithmetic.{Arithmetic}
-use Rattle.number.specs.declared.operator.Bitwise.{Bitwise}
-use Rattle.number.specs.declared.operator.Shift.{Shift}
+use Rattle.number.specs.declared.Sides.{Sides}
+use Rattle.number.specs.declared.Sides.the-variants.{Integers, Reals, Neither}
+use Rattle.opcode.specs.declared.Arithmetic.{Arithmetic}
+use Rattle.opcode.specs.declared.Bitwise.{Bitwise}
+use Rattle.opcode.specs.declared.Shift.{Shift}
 use Rattle.number.proofs.Ints.{never}
 use Rattle.number.proofs.Sums.{R}
 
@@ -104,41 +105,36 @@ module _ (op : Arithmetic) (a b : Number) where
   pub no-reals : (isReal a && isReal b) ≡ false → None ≡ onReals a b (realArithmetic op) None
   no-reals t = rw t
 
--- two integers in the code's widths: x and y are what the machine reads of a and b
-module _ (op : Arithmetic) (a b : Number) (d : divides op ≡ true → 0 < natAbs (integerOf b)) (x y : ℤ) where
-  module _ (t : (isInt32 a && isInt32 b) ≡ true) (fx : mag x < 2 ^ 31) (fy : mag y < 2 ^ 31) (ex : x ≡ int32Of a) (ey : y ≡ int32Of b) where
-    x-is : toZ w32 (ofZ w32 x) ≡ integerOf a
-    x-is = toZ-ofZ w32 x (record { sfits = fx }) ∙ ex ∙ int32-integer a (and-left (isInt32 a) (isInt32 b) t) .1
+-- two integers that the machine reads back from their bits, over the width: x and y are the values of a and b
+module _ (w : Width) (a b : Number) (x y : ℤ) (fx : mag x < 2 ^ hbits w) (fy : mag y < 2 ^ hbits w) (ex : x ≡ integerOf a) (ey : y ≡ integerOf b) where
+  pub on-values : {A : Type 0} (f : ℤ → ℤ → A) → f (toZ w (ofZ w x)) (toZ w (ofZ w y)) ≡ f (integerOf a) (integerOf b)
+  on-values f = rw (toZ-ofZ w x (record { sfits = fx }), toZ-ofZ w y (record { sfits = fy }), ex, ey)
 
-    y-is : toZ w32 (ofZ w32 y) ≡ integerOf b
-    y-is = toZ-ofZ w32 y (record { sfits = fy }) ∙ ey ∙ int32-integer b (and-right (isInt32 a) (isInt32 b) t) .1
+  pub divisor-read : (op : Arithmetic) → (divides op ≡ true → 0 < natAbs (integerOf b)) → divides op ≡ true → 0 < natAbs (toZ w (ofZ w y))
+  divisor-read op d e = rw (toZ-ofZ w y (record { sfits = fy }), ey) (d e)
 
-    pub asked32 : divides op ≡ true → 0 < natAbs (toZ w32 (ofZ w32 y))
-    asked32 e = rw y-is (d e)
+-- a result that the machine reads back
+pub result-read : (w : Width) (r : ℤ) → mag r < 2 ^ hbits w → toZ w (ofZ w r) ≡ r
+result-read w r f = toZ-ofZ w r (record { sfits = f })
 
-    pub given32 : (r : ℤ) → mag r < 2 ^ 63 → r ≡ exactOf op (toZ w32 (ofZ w32 x)) (toZ w32 (ofZ w32 y))
-        → typed true (R r) ≡ typed (isInt32 a && isInt32 b) (exactOf op (integerOf a) (integerOf b))
-    given32 r f e = rw (toZ-ofZ w64 r (record { sfits = f }), e, x-is, y-is, t)
+-- the result's type, and bits, by the test of both types
+module _ (a b : Number) where
+  pub typed-by : (op : Arithmetic) (t : Bool) → (isInt32 a && isInt32 b) ≡ t
+      → typed t (exactOf op (integerOf a) (integerOf b)) ≡ typed (isInt32 a && isInt32 b) (exactOf op (integerOf a) (integerOf b))
+  typed-by op t e = sym (ap (λ (u : Bool). typed u (exactOf op (integerOf a) (integerOf b))) e)
 
-  module _ (fx : mag x < 2 ^ 63) (fy : mag y < 2 ^ 63) (ex : x ≡ integerOf a) (ey : y ≡ integerOf b) where
-    pub asked64 : divides op ≡ true → 0 < natAbs (R y)
-    asked64 e = rw (toZ-ofZ w64 y (record { sfits = fy }), ey) (d e)
+  module _ (t : (isInt32 a && isInt32 b) ≡ true) where
+    pub left-int32 : int32Of a ≡ integerOf a
+    left-int32 = int32-integer a (and-left (isInt32 a) (isInt32 b) t) .1
 
-    pub given64 : (isInt32 a && isInt32 b) ≡ false → typed false (exactOf op (R x) (R y)) ≡ typed (isInt32 a && isInt32 b) (exactOf op (integerOf a) (integerOf b))
-    given64 t = rw (toZ-ofZ w64 x (record { sfits = fx }), toZ-ofZ w64 y (record { sfits = fy }), ex, ey, t)
+    pub right-int32 : int32Of b ≡ integerOf b
+    right-int32 = int32-integer b (and-right (isInt32 a) (isInt32 b) t) .1
 
--- bits
-module _ (op : Bitwise) (a b : Number) (x y r : ℤ) where
-  pub bits32 : (isInt32 a && isInt32 b) ≡ true → mag x < 2 ^ 31 → mag y < 2 ^ 31 → mag r < 2 ^ 31 → x ≡ int32Of a → y ≡ int32Of b
-      → r ≡ onBits op w32 (toZ w32 (ofZ w32 x)) (toZ w32 (ofZ w32 y)) → Int32 (toZ w32 (ofZ w32 r)) ≡ bitwiseOf op a b
-  bits32 t fx fy fr ex ey e =
-      let ia = int32-integer a (and-left (isInt32 a) (isInt32 b) t) in let ib = int32-integer b (and-right (isInt32 a) (isInt32 b) t) in
-      rw (toZ-ofZ w32 r (record { sfits = fr }), e, toZ-ofZ w32 x (record { sfits = fx }), toZ-ofZ w32 y (record { sfits = fy }), ex, ey, ia .0, ib .0, t, ia .1, ib .1)
+    pub bits-int32 : (op : Bitwise) → Int32 (onBits op w32 (integerOf a) (integerOf b)) ≡ bitwiseOf op a b
+    bits-int32 op = rw (int32-integer a (and-left (isInt32 a) (isInt32 b) t) .0, int32-integer b (and-right (isInt32 a) (isInt32 b) t) .0, t)
 
-  pub bits64 : (isInt32 a && isInt32 b) ≡ false → (isInteger a && isInteger b) ≡ true → mag x < 2 ^ 63 → mag y < 2 ^ 63 → mag r < 2 ^ 63 → x ≡ integerOf a → y ≡ integerOf b
-      → r ≡ onBits op w64 (R x) (R y) → Int64 (R r) ≡ bitwiseOf op a b
-  bits64 t i fx fy fr ex ey e =
-      rw (toZ-ofZ w64 r (record { sfits = fr }), e, toZ-ofZ w64 x (record { sfits = fx }), toZ-ofZ w64 y (record { sfits = fy }), ex, ey, i, t)
+  pub bits-int64 : (isInt32 a && isInt32 b) ≡ false → (isInteger a && isInteger b) ≡ true → (op : Bitwise) → Int64 (onBits op w64 (integerOf a) (integerOf b)) ≡ bitwiseOf op a b
+  bits-int64 t i op = rw (i, t)
 
 pub no-bits : (op : Bitwise) (a b : Number) → (isInteger a && isInteger b) ≡ false → None ≡ bitwiseOf op a b
 no-bits op a b i = rw i
@@ -209,36 +205,33 @@ module _ (width : ℕ) (b : Number) where
       go false t = let s : Places k ≡ Outside = sym d ∙ rw t at e in let z : _≡_ {A = ℕ} 0 1 = cc in absurd (omega arith)
 
 -- comparisons
-module _ (f : ℤ → ℤ → Bool) (g : Float → Float → Bool) (a b : Number) where
-  pub as-integers : (isInteger a && isInteger b) ≡ true → (x y : ℤ) (t : Bool) → mag x < 2 ^ 63 → mag y < 2 ^ 63 → x ≡ integerOf a → y ≡ integerOf b
-      → t ≡ f (R x) (R y) → ofBool t ≡ comparedBy f g a b
-  as-integers i x y t fx fy ex ey e = rw (e, toZ-ofZ w64 x (record { sfits = fx }), toZ-ofZ w64 y (record { sfits = fy }), ex, ey, i)
+module _ (a b : Number) where
+  pub as-integers : (isInteger a && isInteger b) ≡ true → Integers (integerOf a) (integerOf b) ≡ sidesOf a b
+  as-integers i = rw i
 
   module _ (i : (isInteger a && isInteger b) ≡ false) (x y : Number) (ex : x ≡ inComparison a) (ey : y ≡ inComparison b) where
-    pub as-reals : (isReal x && isReal y) ≡ true → (u v : Float) (t : Bool) → u ≡ realOf x → v ≡ realOf y → t ≡ g u v → ofBool t ≡ comparedBy f g a b
-    as-reals r u v t eu ev e = rw (e, eu, ev, i, ex, ey) (rw (ex, ey) at (said r))
-      where
-        said : (isReal x && isReal y) ≡ true → ofBool (g (realOf x) (realOf y)) ≡ onReals x y (λ p q. ofBool (g p q)) Bottom
-        said r = rw r
+    others : onReals x y Reals Neither ≡ sidesOf a b
+    others = rw (i, ex, ey)
 
-    pub neither : (isReal x && isReal y) ≡ false → Bottom ≡ comparedBy f g a b
-    neither r = rw i (rw (ex, ey) at (said r))
-      where
-        said : (isReal x && isReal y) ≡ false → Bottom ≡ onReals x y (λ p q. ofBool (g p q)) Bottom
-        said r = rw r
+    pub as-reals : (isReal x && isReal y) ≡ true → (u v : Float) → u ≡ realOf x → v ≡ realOf y → Reals u v ≡ sidesOf a b
+    as-reals r u v eu ev = rw (eu, ev) (rw r at others)
 
--- shifts: x is the left side's value, and c its count
-module _ (op : Shift) (a b : Number) (x : ℤ) (c : Count) where
-  module _ (ea : a ≡ Int32 x) (ec : c ≡ countOf 32 b) where
-    pub shift32 : (k : ℕ) (r : ℤ) → c ≡ Places k → mag x < 2 ^ 31 → mag r < 2 ^ 31 → r ≡ shifted op w32 (toZ w32 (ofZ w32 x)) k → Int32 (toZ w32 (ofZ w32 r)) ≡ shiftOf op a b
-    shift32 k r d fx fr e = rw (toZ-ofZ w32 r (record { sfits = fr }), e, toZ-ofZ w32 x (record { sfits = fx }), ea, ← ec, d)
+    pub neither : (isReal x && isReal y) ≡ false → Neither ≡ sidesOf a b
+    neither r = rw r at others
 
-    pub no-shift32 : c ≡ Outside → None ≡ shiftOf op a b
-    no-shift32 d = rw (ea, ← ec, d)
+-- a comparison by the sides that it was given, whose integers the machine reads back from their bits
+module _ (f : ℤ → ℤ → Bool) (g : Float → Float → Bool) (s : Sides) {t : Bool} where
+  pub compared-integers : (x y : ℤ) → s ≡ Integers x y → mag x < 2 ^ 63 → mag y < 2 ^ 63 → t ≡ f (R x) (R y) → ofBool t ≡ comparedBy f g s
+  compared-integers x y e fx fy h = rw (h, toZ-ofZ w64 x (record { sfits = fx }), toZ-ofZ w64 y (record { sfits = fy }), e)
 
-  module _ (ea : a ≡ Int64 x) (ec : c ≡ countOf 64 b) where
-    pub shift64 : (k : ℕ) (r : ℤ) → c ≡ Places k → mag x < 2 ^ 63 → mag r < 2 ^ 63 → r ≡ shifted op w64 (R x) k → Int64 (R r) ≡ shiftOf op a b
-    shift64 k r d fx fr e = rw (toZ-ofZ w64 r (record { sfits = fr }), e, toZ-ofZ w64 x (record { sfits = fx }), ea, ← ec, d)
+  pub compared-reals : (x y : Float) → s ≡ Reals x y → t ≡ g x y → ofBool t ≡ comparedBy f g s
+  compared-reals x y e h = rw (h, e)
 
-    pub no-shift64 : c ≡ Outside → None ≡ shiftOf op a b
-    no-shift64 d = rw (ea, ← ec, d)
+-- shifts, over the width: `make` is the left side's type, x its value, and c its count
+module _ (w : Width) (make : ℤ → Number) (width : ℕ) (op : Shift) (a b : Number) (x : ℤ) (c : Count) (ea : a ≡ make x) (ec : c ≡ countOf width b)
+    (rule : shiftOf op (make x) b ≡ counted (countOf width b) (λ k. make (shifted op w x k))) where
+  pub shift-is : (k : ℕ) (r : ℤ) → c ≡ Places k → mag x < 2 ^ hbits w → mag r < 2 ^ hbits w → r ≡ shifted op w (toZ w (ofZ w x)) k → make (toZ w (ofZ w r)) ≡ shiftOf op a b
+  shift-is k r d fx fr e = rw (result-read w r fr, e, result-read w x fx, ea, rule, ← ec, d)
+
+  pub no-shift : c ≡ Outside → None ≡ shiftOf op a b
+  no-shift d = rw (ea, rule, ← ec, d)

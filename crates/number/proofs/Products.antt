@@ -1,24 +1,23 @@
 -- Products by magnitude and sign, with the test for a product past 64 bits. Assumes nothing.
 use mathlib.Core.Path.{_≡_, refl, sym, ap, _∙_}
 use mathlib.Core.Bool.{Bool, true, false}
-use Prim.Native.Nat.{ℕ, zero, suc, _+_, _-_, _*_, _/_, _^_, _≤_, _<_}
+use Prim.Native.Nat.{ℕ, zero, suc, _-_, _*_, _/_, _^_, _≤_, _<_}
 use native.Mathlib.Nat.{mul-zero, le-div-iff-mul-le, div-lt-iff-lt-mul}
 use native.Mathlib.Omega.{arith}
-use lib.IntN.{ℤ, pos, negsuc, negℤ, natAbs, _*ℤ_}
-use lib.Signed.{mag, ltZ}
+use lib.IntN.{ℤ, pos, negsuc, natAbs, _*ℤ_}
+use lib.Signed.{ltZ}
 use lib.Dec.{ltb}
 use lib.Ieee.{unlike}
-use mir.Syntax.{Width, w64}
+use mir.Syntax.{w64}
 use mir.Val.{Fits, SFits, toZ, ofZ}
 use mir.ValLaws.{toZ-pos, toZ-neg, toZ-ofZ}
-use borrow.Author.Tests.{lt-ltb, le-ltb, ltb-true, ltb-false}
+use borrow.Author.Tests.{lt-ltb, le-ltb, ltb-false}
 use Rattle.number.specs.Integer.{isNegative, signedOf}
 use Rattle.number.specs.Number.{typed, magnitudeOf}
 use Rattle.number.specs.declared.Number.the-variants.{Int64, None}
 use Rattle.number.specs.declared.integer.Magnitude.{Magnitude}
 use Rattle.number.specs.declared.integer.Magnitude.the-variants as M
-use Rattle.number.proofs.Ints.{never}
-use Rattle.number.proofs.Sums.{R, fits-is, over-is}
+use Rattle.number.proofs.Sums.{R}
 
 product-is : (a b : ℤ) → a *ℤ b ≡ signedOf (unlike (isNegative a) (isNegative b)) (natAbs a * natAbs b)
 product-is (pos a) (pos b) = refl

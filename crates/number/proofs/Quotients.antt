@@ -2,30 +2,26 @@
 -- Assumes nothing.
 use mathlib.Core.Path.{_≡_, refl, sym, ap, _∙_}
 use mathlib.Core.Bool.{Bool, true, false, not, _&&_}
-use Prim.Native.Nat.{ℕ, zero, suc, _+_, _*_, _-_, _/_, _%_, _^_, _≤_, _<_}
+use Prim.Native.Nat.{ℕ, zero, suc, _-_, _/_, _%_, _^_, _≤_, _<_}
 use native.Mathlib.Nat.{div-le-self, div-lt-self}
 use native.Mathlib.Omega.{arith}
 use lib.IntN.{ℤ, pos, negsuc, negℤ, natAbs}
 use lib.Signed.{mag, quotZ, remZ, mag-rem}
-use lib.Dec.{ltb, eqb, lit<}
+use lib.Dec.{ltb, eqb}
 use mir.Syntax.{Width, w32, w64}
 use mir.Val.{bits, hbits, SFits, toZ, ofZ}
-use mir.ValLaws.{half-full, pow-bits, toZ-ofZ, sfits-le}
-use borrow.Author.Tests.{lt-ltb, le-ltb, ltb-true, ltb-false, eq-eqb, ne-eqb, eqb-true, eqb-false, not-true, not-false}
+use mir.ValLaws.{pow-bits, toZ-ofZ, sfits-le}
+use borrow.Author.Tests.{lt-ltb, le-ltb, ltb-true, eq-eqb, ne-eqb, eqb-true, eqb-false, not-true, not-false}
 use Rattle.number.specs.Integer.{fitsIn, leaves}
 use mir.Facts.{sfits-widen}
 use Rattle.number.specs.Number.{typed}
 use Rattle.number.specs.declared.Number.the-variants.{Int64, None}
-use Rattle.number.proofs.Ints.{never}
+use Rattle.number.proofs.Ints.{never, and-no}
 use Rattle.number.proofs.Sums.{R, fits-is}
 
 mag-negative : (r : ℕ) {k : ℕ} → r ≤ k → 0 < k → mag (negℤ (pos r)) < k
 mag-negative zero h p = p
 mag-negative (suc r) h p = h
-
-and-right : (a b : Bool) → b ≡ false → (a && b) ≡ false
-and-right true b e = e
-and-right false b e = refl
 
 module _ (w : Width) where
   abbrev Half : ℕ
@@ -40,7 +36,7 @@ module _ (w : Width) where
       go false e = let d = eqb-false (suc m) Half e in lt-ltb (suc m / 1) Half (omega arith)
   both m (suc n) h =
       let l : suc m / suc (suc n) < suc m = div-lt-self (omega arith) (omega arith) in
-      lt-ltb (suc m / suc (suc n)) Half (omega arith) ∙ ap not (sym (and-right (eqb (suc m) Half) (eqb (suc n) 0) (ne-eqb (suc n) 0 (λ e. omega arith))))
+      lt-ltb (suc m / suc (suc n)) Half (omega arith) ∙ ap not (sym (and-no (eqb (suc m) Half) (eqb (suc n) 0) (ne-eqb (suc n) 0 (λ e. omega arith))))
 
   from-positive : (m : ℕ) (b : ℤ) → m < Half → fitsIn w (quotZ (pos m) b) ≡ true
   from-positive m (pos n) h = let l = div-le-self m n in lt-ltb (m / n) Half (omega arith)
@@ -54,7 +50,7 @@ module _ (w : Width) where
   leaves-is (pos m) b f g = let h = f .sfits in rw (ne-eqb m Half (λ e. omega arith), from-positive m b h)
   leaves-is (negsuc m) (pos n) f g =
       let h = g .sfits in let p = pow-bits w in
-      and-right (eqb (2 ^ bits w - suc m) Half) (eqb n (2 ^ bits w - 1)) (ne-eqb n (2 ^ bits w - 1) (λ e. omega arith)) ∙ ap not (sym (by-positive m n (f .sfits)))
+      and-no (eqb (2 ^ bits w - suc m) Half) (eqb n (2 ^ bits w - 1)) (ne-eqb n (2 ^ bits w - 1) (λ e. omega arith)) ∙ ap not (sym (by-positive m n (f .sfits)))
   leaves-is (negsuc m) (negsuc n) f g = rw (both m n (f .sfits), bits-a, bits-b) (twice (eqb (suc m) Half && eqb n 0))
     where
       twice : (t : Bool) → t ≡ not (not t)

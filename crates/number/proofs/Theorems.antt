@@ -2,30 +2,27 @@
 use mathlib.Core.Path.{_≡_, refl, sym, ap, ap₂, _∙_}
 use mathlib.Core.Bool.{Bool, true, false, _&&_, cond}
 use mathlib.Core.Logic.{_⊎_, inl, inr}
-use Prim.Native.Nat.{ℕ, zero, suc, _+_, _-_, _*_, _/_, _%_, _^_, _≤_, _<_}
+use Prim.Native.Nat.{ℕ, zero, suc, _+_, _-_, _*_, _/_, _%_, _^_, _<_}
 use native.Mathlib.Nat.{div-add-mod', mod-lt, mul-zero, zero-mul}
 use native.Mathlib.Omega.{arith}
-use lib.IntN.{ℤ, pos, negsuc, negℤ, natAbs, _+ℤ_, _-ℤ_, _*ℤ_, negℤ-+ℤ, pos-+ℤ-pos, zero-*ℤ, *ℤ-zero}
+use lib.IntN.{ℤ, pos, negsuc, negℤ, natAbs, _+ℤ_, _-ℤ_, _*ℤ_, negℤ-+ℤ, pos-+ℤ-pos}
 use lib.Signed.{quotZ, remZ}
 use lib.Dec.{leb}
-use lib.Ieee.{Float, nan, inf, fin, binary64, ofInt, unlike, eq, lt, le}
+use lib.Ieee.{Float, nan, inf, fin, binary64, ofInt, toBits, unlike, eq, lt, le}
 use lib.Ieee.Bits.{ofBits-toBits, toBits-ofBits, toBits-lt}
 use lib.Ieee.Back.{round-whole}
-use mir.Syntax.{Width}
-use mir.Val.{bits, SFits, toZ}
+use mir.Val.{bits, toZ}
 use mir.ValLaws.{half-full, toZ-pos, toZ-neg}
 use borrow.Author.Tests.{lt-leb, le-ltb}
-use Rattle.truth.specs.declared.Truth.the-variants.{False, Bottom, True}
 use Rattle.truth.specs.Truth.{ofBool}
 use Rattle.number.specs.declared.Number.{Number}
 use Rattle.number.specs.declared.Number.the-variants.{Int32, Int64, Real, None}
-use Rattle.number.specs.declared.operator.Arithmetic.{Arithmetic}
-use Rattle.number.specs.declared.operator.Order.{Order}
-use Rattle.number.specs.declared.operator.Order.the-variants.{Less, LessEqual, Greater, GreaterEqual}
+use Rattle.opcode.specs.declared.Order.{Order}
+use Rattle.opcode.specs.declared.Order.the-variants.{Less, LessEqual, Greater, GreaterEqual}
 use Rattle.number.specs.Integer.{isNegative, signedOf}
-use Rattle.number.specs.Number.{isInteger, isReal, integerOf, isZero, divides, zeroDivisor, asReal, exactReal, arithmeticOf, shiftOf, equalOf, orderOf, orderReal}
-use Rattle.number.specs.Theorems.{QuotientRemainder, Ends, Complement, LeftNone, RightNone, ZeroDivisor, NegativeZero, LargeBesideReal, NanFalse, ZerosEqual, WholesExact, PowersExact, RealBits, BitsReal, BitsBounded}
-use Rattle.number.proofs.Ints.{never}
+use Rattle.number.specs.Number.{isInteger, isReal, integerOf, divides, zeroDivisor, asReal, shiftOf, orderReal}
+use Rattle.number.specs.Theorems.{QuotientRemainder, Ends, Complement, LeftNone, RightNone, ZeroDivisor, NegativeZero, LargeBesideReal, NanFalse, ZerosEqual, WholesExact, PowersExact, RealBits, BitsReal, NanBits, BitsBounded}
+use Rattle.number.proofs.Ints.{never, and-no}
 use Rattle.number.proofs.Tens.{powers-hold}
 
 -- by sign and magnitude
@@ -110,8 +107,7 @@ complement w (negsuc n) f =
 
 -- a test that is never met, and one that does not matter
 no : (t : Bool) → (t && false) ≡ false
-no true = refl
-no false = refl
+no t = and-no t false refl
 
 alike : {A : Type 0} (t : Bool) (x : A) → cond t x x ≡ x
 alike true x = refl
@@ -203,6 +199,10 @@ real-bits x f = ofBits-toBits binary64 x f
 
 pub bits-real : BitsReal
 bits-real n h e = toBits-ofBits binary64 n (omega arith) (rw e tt)
+
+pub nan-bits : NanBits
+unfolding toBits
+nan-bits = refl
 
 pub bits-bounded : BitsBounded
 bits-bounded x f = omega (arith, toBits-lt binary64 x f)

@@ -12,14 +12,16 @@ use Rattle.number.specs.declared.Number.{Number}
 use Rattle.number.specs.declared.Number.the-variants.{Int32, Int64, Real, None}
 use Rattle.number.specs.declared.Count.{Count}
 use Rattle.number.specs.declared.Count.the-variants.{Places, Outside}
+use Rattle.number.specs.declared.Sides.{Sides}
+use Rattle.number.specs.declared.Sides.the-variants.{Integers, Reals, Neither}
 use Rattle.number.specs.declared.integer.Magnitude.{Magnitude}
 use Rattle.number.specs.declared.integer.Magnitude.the-variants.{Fits, Over}
-use Rattle.number.specs.declared.operator.Arithmetic.{Arithmetic}
-use Rattle.number.specs.declared.operator.Arithmetic.the-variants.{Mul, Div, Rem, Add, Sub}
-use Rattle.number.specs.declared.operator.Bitwise.{Bitwise}
-use Rattle.number.specs.declared.operator.Shift.{Shift}
-use Rattle.number.specs.declared.operator.Order.{Order}
-use Rattle.number.specs.declared.operator.Order.the-variants.{Less, LessEqual, Greater, GreaterEqual}
+use Rattle.opcode.specs.declared.Arithmetic.{Arithmetic}
+use Rattle.opcode.specs.declared.Arithmetic.the-variants.{Mul, Div, Rem, Add, Sub}
+use Rattle.opcode.specs.declared.Bitwise.{Bitwise}
+use Rattle.opcode.specs.declared.Shift.{Shift}
+use Rattle.opcode.specs.declared.Order.{Order}
+use Rattle.opcode.specs.declared.Order.the-variants.{Less, LessEqual, Greater, GreaterEqual}
 use Rattle.number.specs.Integer.{fitsIn, exactOf, equalZ, orderZ}
 use Rattle.number.specs.Bits.{onBits, turned, shifted}
 
@@ -150,11 +152,16 @@ shiftOf op (Real x) b = None
 shiftOf op None b = None
 
 -- Comparisons: two integers as integers, else both as reals.
-abbrev pub comparedBy : (ℤ → ℤ → Bool) → (Float → Float → Bool) → Number → Number → Truth
-comparedBy f g a b =
+abbrev pub sidesOf : Number → Number → Sides
+sidesOf a b =
     cond (isInteger a && isInteger b)
-    (ofBool (f (integerOf a) (integerOf b)))
-    (onReals (inComparison a) (inComparison b) (λ x y. ofBool (g x y)) Bottom)
+    (Integers (integerOf a) (integerOf b))
+    (onReals (inComparison a) (inComparison b) Reals Neither)
+
+abbrev pub comparedBy : (ℤ → ℤ → Bool) → (Float → Float → Bool) → Sides → Truth
+comparedBy f g (Integers x y) = ofBool (f x y)
+comparedBy f g (Reals x y) = ofBool (g x y)
+comparedBy f g Neither = Bottom
 
 -- `==` and the orders are f64's own: "NaN equals nothing and orders with nothing (false). Zeros of both signs are equal."
 abbrev pub orderReal : Order → Float → Float → Bool
@@ -164,10 +171,10 @@ orderReal Greater x y = lt y x
 orderReal GreaterEqual x y = le y x
 
 abbrev pub equalOf : Number → Number → Truth
-equalOf a b = comparedBy equalZ eq a b
+equalOf a b = comparedBy equalZ eq (sidesOf a b)
 
 abbrev pub orderOf : Order → Number → Number → Truth
-orderOf op a b = comparedBy (orderZ op) (orderReal op) a b
+orderOf op a b = comparedBy (orderZ op) (orderReal op) (sidesOf a b)
 
 -- Inside the code: an int32's value, and a magnitude that 64 bits hold.
 abbrev pub int32Of : Number → ℤ

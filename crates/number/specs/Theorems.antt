@@ -1,7 +1,7 @@
 -- What holds of numbers. The proofs are in proofs/Theorems.antt, under the same names.
 use mathlib.Core.Path.{_≡_}
 use mathlib.Core.Logic.{_⊎_}
-use mathlib.Core.Bool.{Bool, true, false}
+use mathlib.Core.Bool.{true, false}
 use Prim.Native.Nat.{ℕ, _^_, _≤_, _<_}
 use lib.IntN.{ℤ, pos, negsuc, negℤ, natAbs, _+ℤ_, _-ℤ_, _*ℤ_}
 use lib.Signed.{quotZ, remZ}
@@ -13,15 +13,15 @@ use mir.Val.{SFits}
 use Rattle.truth.specs.declared.Truth.the-variants.{False, Bottom, True}
 use Rattle.number.specs.declared.Number.{Number}
 use Rattle.number.specs.declared.Number.the-variants.{Int32, Int64, Real, None}
-use Rattle.number.specs.declared.operator.Arithmetic.{Arithmetic}
-use Rattle.number.specs.declared.operator.Arithmetic.the-variants.{Div, Rem}
-use Rattle.number.specs.declared.operator.Bitwise.{Bitwise}
-use Rattle.number.specs.declared.operator.Shift.{Shift}
-use Rattle.number.specs.declared.operator.Order.{Order}
+use Rattle.opcode.specs.declared.Arithmetic.{Arithmetic}
+use Rattle.opcode.specs.declared.Arithmetic.the-variants.{Div, Rem}
+use Rattle.opcode.specs.declared.Bitwise.{Bitwise}
+use Rattle.opcode.specs.declared.Shift.{Shift}
+use Rattle.opcode.specs.declared.Order.{Order}
 use Rattle.number.specs.Integer.{isNegative}
 use Rattle.number.specs.Bits.{turned}
 use Rattle.number.specs.Real.{tenTo}
-use Rattle.number.specs.Number.{isInteger, isReal, integerOf, isZero, arithmeticOf, bitwiseOf, complementOf, shiftOf, equalOf, orderOf}
+use Rattle.number.specs.Number.{isInteger, isReal, integerOf, isZero, arithmeticOf, bitwiseOf, shiftOf, equalOf, orderOf}
 
 -- "`/` cuts toward zero", "`%` .. has the sign of the left side": quotient and remainder give the left side back, the remainder is smaller than the
 -- divisor, and it is negative only where the left side is, positive only where the left side is.
@@ -92,6 +92,10 @@ RealBits = (x : Float) → T (fits binary64 x) → ofBits binary64 (toBits binar
 -- The bits that are read as a real and written again are the same, unless they are a NaN's.
 abbrev pub BitsReal : Type 0
 BitsReal = (n : ℕ) → n < 2 ^ 64 → isNan (ofBits binary64 n) ≡ false → toBits binary64 (ofBits binary64 n) ≡ n
+
+-- NaN's one pattern.
+abbrev pub NanBits : Type 0
+NanBits = toBits binary64 nan ≡ 0x7ff8_0000_0000_0000
 
 -- A real's bits are 64.
 abbrev pub BitsBounded : Type 0

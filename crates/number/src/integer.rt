@@ -9,13 +9,14 @@ ghost use mir.Syntax.{w32, w64};
 ghost use Rattle.number.specs.Integer.{isNegative, signedOf, leaves, exactOf, equalZ, orderZ};
 ghost use Rattle.number.specs.Number.{typed, magnitudeOf, divides};
 use crate::Number;
-use crate::operator::Arithmetic;
-use crate::operator::Order;
+use opcode::Arithmetic;
+use opcode::Order;
 
 const LEAST: i64 = -9223372036854775808;
 
 const MOST: i64 = 9223372036854775807;
 
+// A sum is tested against the end of the range less what is added, on the side to which it goes.
 fn sum_i64(a: i64, b: i64) -> Number
     ensures { λ r. ⌜ r ≡ typed false (a +ℤ b) ⌝ }
 {
@@ -79,7 +80,7 @@ fn signed(negative: bool, m: u64) -> Number
 }
 
 // A product of magnitudes.
-pub enum Magnitude {
+enum Magnitude {
     Fits(u64),
     Over,
 }
@@ -160,7 +161,7 @@ fn remainder_i64(a: i64, b: i64) -> i64
     a % b
 }
 
-// An operator on two int32. 64 bits hold every result.
+// An operator on two int32. 64 bits hold every result. A divisor of 0 has been turned away, as below.
 pub fn arithmetic_i32(op: Arithmetic, a: i32, b: i32) -> i64
     requires { ⌜ (divides op ≡ true → 0 < natAbs b) ⌝ }
     ensures { λ r. ⌜ r ≡ exactOf op a b ⌝ }

@@ -3,21 +3,17 @@ ghost use mathlib.Core.Path.{_≡_};
 ghost use mathlib.Core.Bool.{true, _&&_};
 ghost use Prim.Native.Nat.{_<_};
 ghost use lib.IntN.{natAbs};
-ghost use Rattle.truth.specs.declared.Truth.the-variants.{Bottom};
-ghost use Rattle.truth.specs.Truth.{ofBool};
-ghost use lib.Ieee as Ieee;
 ghost use Rattle.number.specs.Integer.{exactOf};
-ghost use Rattle.number.specs.Number.{isInt32, isInteger, isReal, integerOf, int32Of, realOf, typed, asReal, inArithmetic, inComparison, onReals, realArithmetic, divides, isZero, zeroDivisor, arithmeticOf, bitwiseOf, complementOf, countOf, shiftOf, equalOf, orderOf, orderReal};
+ghost use Rattle.number.specs.Number.{isInt32, isInteger, isReal, integerOf, int32Of, realOf, typed, asReal, inArithmetic, inComparison, onReals, realArithmetic, divides, isZero, zeroDivisor, arithmeticOf, bitwiseOf, complementOf, countOf, shiftOf, sidesOf, equalOf, orderOf};
 
 mod bits;
 mod integer;
-mod operator;
 mod real;
 
-pub use operator::Arithmetic;
-pub use operator::Bitwise;
-pub use operator::Order;
-pub use operator::Shift;
+use opcode::Arithmetic;
+use opcode::Bitwise;
+use opcode::Order;
+use opcode::Shift;
 pub use real::bits_of_real;
 pub use real::decimal;
 pub use real::is_nan;
@@ -214,7 +210,7 @@ pub fn complement(a: Number) -> Number
 }
 
 // The places of a shift.
-pub enum Count {
+enum Count {
     Places(u64),
     Outside,
 }
@@ -253,32 +249,46 @@ pub fn shift(op: Shift, a: Number, b: Number) -> Number
     }
 }
 
-// `==`
-pub fn equal(a: Number, b: Number) -> Truth
-    ensures { λ r. ⌜ r ≡ equalOf a b ⌝ }
+// Two numbers as a comparison takes them.
+enum Sides {
+    Integers(i64, i64),
+    Reals(f64, f64),
+    Neither,
+}
+
+// Two integers as integers, else both as reals.
+fn sides_of(a: Number, b: Number) -> Sides
+    ensures { λ r. ⌜ r ≡ sidesOf a b ⌝ }
 {
     if is_integer(a) & is_integer(b) {
-        return truth::of_bool(integer::equal_i64(integer_of(a), integer_of(b)));
+        return Sides::Integers(integer_of(a), integer_of(b));
     }
     let x = in_comparison(a);
     let y = in_comparison(b);
     if is_real(x) & is_real(y) {
-        return truth::of_bool(real_of(x) == real_of(y));
+        return Sides::Reals(real_of(x), real_of(y));
     }
-    Truth::Bottom
+    Sides::Neither
+}
+
+// `==`
+pub fn equal(a: Number, b: Number) -> Truth
+    ensures { λ r. ⌜ r ≡ equalOf a b ⌝ }
+{
+    match sides_of(a, b) {
+        Sides::Integers(x, y) => truth::of_bool(integer::equal_i64(x, y)),
+        Sides::Reals(x, y) => truth::of_bool(x == y),
+        Sides::Neither => Truth::Bottom,
+    }
 }
 
 // `< <= > >=`
 pub fn order(op: Order, a: Number, b: Number) -> Truth
     ensures { λ r. ⌜ r ≡ orderOf op a b ⌝ }
 {
-    if is_integer(a) & is_integer(b) {
-        return truth::of_bool(integer::order_i64(op, integer_of(a), integer_of(b)));
+    match sides_of(a, b) {
+        Sides::Integers(x, y) => truth::of_bool(integer::order_i64(op, x, y)),
+        Sides::Reals(x, y) => truth::of_bool(real::order_real(op, x, y)),
+        Sides::Neither => Truth::Bottom,
     }
-    let x = in_comparison(a);
-    let y = in_comparison(b);
-    if is_real(x) & is_real(y) {
-        return truth::of_bool(real::order_real(op, real_of(x), real_of(y)));
-    }
-    Truth::Bottom
 }

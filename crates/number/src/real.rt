@@ -6,8 +6,8 @@ ghost use lib.Ieee.{binary64, nan, isNan, ofBits, toBits};
 ghost use Rattle.number.specs.Real.{tenTo, scaledOf, decimalOf};
 ghost use Rattle.number.specs.Number.{exactReal, realArithmetic, orderReal};
 use crate::Number;
-use crate::operator::Arithmetic;
-use crate::operator::Order;
+use opcode::Arithmetic;
+use opcode::Order;
 
 // The powers of ten up to 10^22, which f64 holds exactly.
 const POWERS: [f64; 23] = [

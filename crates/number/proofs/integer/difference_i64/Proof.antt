@@ -1,38 +1,28 @@
 use Rattle.number.proofs.Sums.{sub-high, sub-low}
 use Rattle.number.proofs.integer.difference_i64.Statement.{statement}
 use Rattle.number.proofs.integer.difference_i64.Tie as tie
-use Rattle.number.proofs.integer.difference_i64.Reads as reads
-use Rattle.number.proofs.integer.difference_i64.Lts as lts
 
--- src/integer.rt:38:12
 add-if2 : tie.Need-add-if2
 add-if2 c = let s = c .before in sub-high (s .args .a) (s .args .b) (s .fits .a) (s .fits .b) (c .if1 .taken) .fits
 
--- src/integer.rt:39:13
 returns : tie.Need-returns
 returns c = let s = c .before .before in sub-high (s .args .a) (s .args .b) (s .fits .a) (s .fits .b) (c .before .if1 .taken) .over (c .if2 .taken)
 
--- src/integer.rt:41:30
 sub-t4 : tie.Need-sub-t4
 sub-t4 c = let s = c .before .before in sub-high (s .args .a) (s .args .b) (s .fits .a) (s .fits .b) (c .before .if1 .taken) .holds (c .if2 .left)
 
--- src/integer.rt:41:9
 returns-2 : tie.Need-returns-2
 returns-2 c = let s = c .before .before in sub-high (s .args .a) (s .args .b) (s .fits .a) (s .fits .b) (c .before .if1 .taken) .is (c .if2 .left)
 
--- src/integer.rt:43:12
 add-if3 : tie.Need-add-if3
 add-if3 c = let s = c .before in sub-low (s .args .a) (s .args .b) (s .fits .a) (s .fits .b) (c .if1 .left) .fits
 
--- src/integer.rt:44:9
 returns-3 : tie.Need-returns-3
 returns-3 c = let s = c .before .before in sub-low (s .args .a) (s .args .b) (s .fits .a) (s .fits .b) (c .before .if1 .left) .over (c .if3 .taken)
 
--- src/integer.rt:46:19
 sub-t6 : tie.Need-sub-t6
 sub-t6 c = let s = c .before .before in sub-low (s .args .a) (s .args .b) (s .fits .a) (s .fits .b) (c .before .if1 .left) .holds (c .if3 .left)
 
--- src/integer.rt:34:1
 returns-4 : tie.Need-returns-4
 returns-4 c = let s = c .before .before in sub-low (s .args .a) (s .args .b) (s .fits .a) (s .fits .b) (c .before .if1 .left) .is (c .if3 .left)
 

@@ -3,53 +3,37 @@ use Rattle.number.proofs.Products.{signs-out, over-out}
 use borrow.Author.Needs.{needs}
 use Rattle.number.proofs.integer.product_i64.Statement.{statement}
 use Rattle.number.proofs.integer.product_i64.Tie as tie
-use Rattle.number.proofs.integer.product_i64.Reads as reads
-use Rattle.number.proofs.integer.product_i64.Lts as lts
-use Rattle.number.proofs.integer.absolute.Reads as absolute-reads
-use Rattle.number.proofs.integer.is_negative.Reads as is-negative-reads
-use Rattle.number.proofs.integer.product.Reads as product-reads
-use Rattle.number.proofs.integer.signed.Reads as signed-reads
 
--- src/integer.rt:103:19
 absolute-requires : tie.Need-absolute-requires
 absolute-requires c κs = search needs
 
--- src/integer.rt:103:32
 absolute-requires-2 : tie.Need-absolute-requires-2
 absolute-requires-2 c κs = search needs
 
--- src/integer.rt:103:11
 product-requires : tie.Need-product-requires
 product-requires c κs = search needs
 
--- src/integer.rt:104:25
 enum-known-m : tie.Need-enum-known-m
 enum-known-m c = search needs
 
--- src/integer.rt:104:38
 is-negative-requires : tie.Need-is-negative-requires
 is-negative-requires c κs = search needs
 
--- src/integer.rt:104:56
 is-negative-requires-2 : tie.Need-is-negative-requires-2
 is-negative-requires-2 c κs = search needs
 
--- src/integer.rt:104:31
 signed-requires : tie.Need-signed-requires
 signed-requires c κs = search needs
 
--- src/integer.rt:105:28
 enum-told : tie.Need-enum-told
 enum-told c = search needs
 
--- src/integer.rt:100:1
 returns : tie.Need-returns
 returns c =
     let n2 = c .before in let n1 = n2 .before in let g = n1 .before .before in let p = g .before .before in let a2 = p .before in let a1 = a2 .before in let s = a1 .before in
     c .signed .ensures
     ∙ signs-out (s .args .a) (s .args .b) (s .fits .a) (s .fits .b) _ _ (a1 .absolute .ensures) (a2 .absolute2 .ensures) _ (p .product .ensures) _ _ _ (g .m .given .1) (n1 .is-negative .ensures) (n2 .is-negative2 .ensures)
 
--- src/integer.rt:100:1
 returns-2 : tie.Need-returns-2
 returns-2 c =
     let p = c .before .before in let a2 = p .before in let a1 = a2 .before in let s = a1 .before in

@@ -3,27 +3,20 @@ use Rattle.number.proofs.Quotients.{asked, quotient-typed, quotient-non
 use borrow.Author.Needs.{needs}
 use Rattle.number.proofs.integer.quotient_i64.Statement.{statement}
 use Rattle.number.proofs.integer.quotient_i64.Tie as tie
-use Rattle.number.proofs.integer.quotient_i64.Reads as reads
-use Rattle.number.proofs.integer.quotient_i64.Lts as lts
-use Rattle.number.proofs.integer.leaves_i64.Reads as leaves-i64-reads
 
--- src/integer.rt:137:8
 leaves-i64-requires : tie.Need-leaves-i64-requires
 leaves-i64-requires c κs = search needs
 
--- src/integer.rt:138:9
 returns : tie.Need-returns
 returns c =
     let l = c .before in let s = l .before in
     quotient-none (s .args .a) (s .args .b) (s .fits .a) (s .fits .b) _ (l .leaves-i64 .ensures) (c .if1 .taken)
 
--- src/integer.rt:140:19
 div-t4 : tie.Need-div-t4
 div-t4 c =
     let l = c .before in let s = l .before in
     asked w64 (s .args .a) (s .args .b) (s .fits .a) (s .fits .b) _ (l .leaves-i64 .ensures) (s .pre) (c .if1 .left)
 
--- src/integer.rt:133:1
 returns-2 : tie.Need-returns-2
 returns-2 c =
     let l = c .before in let s = l .before in

@@ -2,44 +2,34 @@ use Rattle.number.proofs.Products.{signed-zero, signed-below, signed-be
 use borrow.Author.Needs.{needs}
 use Rattle.number.proofs.integer.signed.Statement.{statement}
 use Rattle.number.proofs.integer.signed.Tie as tie
-use Rattle.number.proofs.integer.signed.Reads as reads
-use Rattle.number.proofs.integer.signed.Lts as lts
 
--- src/integer.rt:66:9
 returns : tie.Need-returns
 returns c = signed-zero (c .before .args .negative) (c .before .args .m) (c .if1 .taken)
 
--- src/integer.rt:69:17
 sub-n : tie.Need-sub-n
 sub-n c = search needs
 
--- src/integer.rt:71:36
 cast-t6 : tie.Need-cast-t6
 cast-t6 c = search needs
 
--- src/integer.rt:71:13
 returns-2 : tie.Need-returns-2
 returns-2 c =
     let i = c .before in let s = i .before .before in
     signed-below (s .args .negative) (s .args .m) (i .if2 .taken) (i .before .if1 .left) (c .if3 .taken)
 
--- src/integer.rt:73:9
 returns-3 : tie.Need-returns-3
 returns-3 c =
     let i = c .before in let s = i .before .before in
     signed-beneath (s .args .negative) (s .args .m) (i .if2 .taken) (c .if3 .left)
 
--- src/integer.rt:76:30
 cast-t8 : tie.Need-cast-t8
 cast-t8 c = search needs
 
--- src/integer.rt:76:9
 returns-4 : tie.Need-returns-4
 returns-4 c =
     let i = c .before in let s = i .before .before in
     signed-kept (s .args .negative) (s .args .m) (i .if2 .left) (c .if4 .taken)
 
--- src/integer.rt:62:1
 returns-5 : tie.Need-returns-5
 returns-5 c =
     let i = c .before in let s = i .before .before in

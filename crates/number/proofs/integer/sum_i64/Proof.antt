@@ -1,38 +1,28 @@
 use Rattle.number.proofs.Sums.{add-low, add-high}
 use Rattle.number.proofs.integer.sum_i64.Statement.{statement}
 use Rattle.number.proofs.integer.sum_i64.Tie as tie
-use Rattle.number.proofs.integer.sum_i64.Reads as reads
-use Rattle.number.proofs.integer.sum_i64.Lts as lts
 
--- src/integer.rt:23:16
 sub-if2 : tie.Need-sub-if2
 sub-if2 c = let s = c .before in add-low (s .args .a) (s .args .b) (s .fits .a) (s .fits .b) (c .if1 .taken) .fits
 
--- src/integer.rt:24:13
 returns : tie.Need-returns
 returns c = let s = c .before .before in add-low (s .args .a) (s .args .b) (s .fits .a) (s .fits .b) (c .before .if1 .taken) .over (c .if2 .taken)
 
--- src/integer.rt:26:30
 add-t4 : tie.Need-add-t4
 add-t4 c = let s = c .before .before in add-low (s .args .a) (s .args .b) (s .fits .a) (s .fits .b) (c .before .if1 .taken) .holds (c .if2 .left)
 
--- src/integer.rt:26:9
 returns-2 : tie.Need-returns-2
 returns-2 c = let s = c .before .before in add-low (s .args .a) (s .args .b) (s .fits .a) (s .fits .b) (c .before .if1 .taken) .is (c .if2 .left)
 
--- src/integer.rt:28:8
 sub-if3 : tie.Need-sub-if3
 sub-if3 c = let s = c .before in add-high (s .args .a) (s .args .b) (s .fits .a) (s .fits .b) (c .if1 .left) .fits
 
--- src/integer.rt:29:9
 returns-3 : tie.Need-returns-3
 returns-3 c = let s = c .before .before in add-high (s .args .a) (s .args .b) (s .fits .a) (s .fits .b) (c .before .if1 .left) .over (c .if3 .taken)
 
--- src/integer.rt:31:19
 add-t6 : tie.Need-add-t6
 add-t6 c = let s = c .before .before in add-high (s .args .a) (s .args .b) (s .fits .a) (s .fits .b) (c .before .if1 .left) .holds (c .if3 .left)
 
--- src/integer.rt:19:1
 returns-4 : tie.Need-returns-4
 returns-4 c = let s = c .before .before in add-high (s .args .a) (s .args .b) (s .fits .a) (s .fits .b) (c .before .if1 .left) .is (c .if3 .left)
 

@@ -1,22 +1,16 @@
 use Rattle.number.proofs.Wholes.{none-low, none-high, cast-holds, held-is}
 use Rattle.number.proofs.real.exact_real.Statement.{statement}
 use Rattle.number.proofs.real.exact_real.Tie as tie
-use Rattle.number.proofs.real.exact_real.Reads as reads
-use Rattle.number.proofs.real.exact_real.Lts as lts
 
--- src/real.rt:111:9
 returns : tie.Need-returns
 returns c = none-low (c .before .args .z) (c .before .fits .z) (c .if1 .taken)
 
--- src/real.rt:114:9
 returns-2 : tie.Need-returns-2
 returns-2 c = let s = c .before .before in none-high (s .args .z) (s .fits .z) (c .if2 .taken)
 
--- src/real.rt:116:18
 int-to-float-t3 : tie.Need-int-to-float-t3
 int-to-float-t3 c = let i = c .before in let s = i .before .before in cast-holds (s .args .z) (s .fits .z) (i .before .if1 .left) (i .if2 .left)
 
--- src/real.rt:107:1
 returns-3 : tie.Need-returns-3
 returns-3 c = let i = c .before in let s = i .before .before in held-is (s .args .z) (s .fits .z) (i .before .if1 .left) (i .if2 .left)
 
