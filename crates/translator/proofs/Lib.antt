@@ -1,2 +1,5 @@
 pub mod Entries
 pub mod Sound
+pub mod Derived
+pub mod Depth
+pub mod Passes

@@ -5,7 +5,7 @@ use native.Mathlib.Numerals.{add-one}
 use native.Mathlib.Omega.{arith}
 use mathlib.Core.Path.{_≡_, refl, sym, ap, _∙_, subst}
 use mathlib.Core.Bool.{Bool, true, false, cond, not, _&&_, _||_}
-use mathlib.Core.List.{List, [], _∷_, _++_, append-assoc}
+use mathlib.Core.List.{List, [], _∷_, _++_, append-assoc, append-nil}
 use mathlib.Core.Option.{Option, some}
 use lib.Dec.{eqb, leb}
 use lib.ListN.{length, replicate, getD, length-append, length-replicate}
@@ -277,7 +277,7 @@ skips-right t d h = all-land (codeOf 0 t) (length (codeOf 0 t)) (λ i l. go i l 
 -- ---- each entry by itself
 
 -- bytes of a pool between others
-abbrev EntryGood : List ℕ → Entry → Type 0
+abbrev pub EntryGood : List ℕ → Entry → Type 0
 EntryGood pool e = (entryRight pool e ≡ true) × Fits e
 
 abbrev Each : (Entry → Type 0) → List Entry → Type 0
@@ -342,3 +342,14 @@ mutual
       let len : length (pre ++ bytesIn ts) ≡ at + poolIn ts = length-append pre (bytesIn ts) ∙ rw (e, pool-in ts) in
       let right : Each (EntryGood pool) (codeOf (at + poolIn ts) t) = rw regroup at (good f (at + poolIn ts) (pre ++ bytesIn ts) post len (omega arith) (omega arith)) in
       each-append (EntryGood pool) (codeIn at ts) (codeOf (at + poolIn ts) t) left right
+
+pub good-at : (t : Tree) → Sound t → poolOf t ≤ 4096 → entriesOf t ≤ 512 → (i : ℕ) → i < length (codeOf 0 t) → EntryGood (bytesOf t) (getD (codeOf 0 t) i blank)
+good-at t d p n i h = each-at (EntryGood (bytesOf t)) (codeOf 0 t) (rw append-nil at (good d 0 [] [] refl (omega arith) n)) i h
+
+pub entries-some : (t : Tree) → 1 ≤ entriesOf t
+unfolding entriesOf
+entries-some (leaf x) = omega arith
+entries-some (group t) = entries-some t
+entries-some (unary k t) = omega arith
+entries-some (binary k t u) = omega (arith, entries-some t)
+entries-some (call x ts) = omega arith
