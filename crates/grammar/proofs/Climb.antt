@@ -8,7 +8,7 @@ use mathlib.Core.List.{List}
 use lib.ListN.{length}
 use lib.Dec.{eqb}
 use borrow.Author.Tests.{eqb-true, eqb-false}
-use Rattle.token.specs.Token.{Token}
+use Rattle.lexer.specs.Token.{Token}
 use Rattle.grammar.specs.Tree.{Tree, binary}
 use Rattle.grammar.specs.Grammar.{rank}
 use Rattle.grammar.specs.Parse.{Result, ok, bad, andThen, kindAt, level, more, prefix, levelOf, moreOf, prefixOf, fuel}
@@ -33,7 +33,7 @@ free-more ks l t j h ne n le lt e = go (ℕ-discrete l n)
     go (yes q) = ne (rw q e)
     go (no q) = h n (omega arith) lt e
 
-less-holds : (Q R : Tree → ℕ → Type 0) (x : Result) → Holds Q x → ((t : Tree) (j : ℕ) → Q t j → R t j) → Holds R x
+pub less-holds : (Q R : Tree → ℕ → Type 0) (x : Result) → Holds Q x → ((t : Tree) (j : ℕ) → Q t j → R t j) → Holds R x
 less-holds Q R (ok t j) q f = f t j q
 less-holds Q R (bad p) q f = tt
 

@@ -9,7 +9,7 @@ use lib.ListN.{length, getD, List·getD-eq-default, length-append}
 use lib.Seq.{getD-append-seam}
 use lib.Dec.{eqb, leb}
 use borrow.Author.Tests.{eq-eqb, ne-eqb, leb-true, eqb-true, le-leb}
-use Rattle.token.specs.Token.{Token, kindOf}
+use Rattle.lexer.specs.Token.{Token, kindOf}
 use Rattle.grammar.specs.Tree.{Tree, leaf, group, unary, binary, call, Trees, none, _then_}
 use Rattle.grammar.specs.Grammar.{rank, isPrefix, isLiteral, naming, opening, closing, comma, Level, operator, tighter, tightest, Prefix, applied, plain, Operand, a-literal, a-name, a-group, a-call-none, a-call, Arguments, first, next}
 use Rattle.grammar.specs.Parse.{Result, ok, bad, andThen, pick, ended, tokenAt, kindAt, is, levelOf, moreOf, prefixOf, operandOf, argumentsOf, parseAll}

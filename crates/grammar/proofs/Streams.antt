@@ -1,6 +1,6 @@
 -- The tokens that the arrays stand for, by their index, and what is asked of a single one. Assumes nothing.
 use mathlib.Core.Path.{_≡_, refl, sym, ap, _∙_}
-use mathlib.Core.Bool.{Bool, true, false, cond, _&&_, _||_, or-true}
+use mathlib.Core.Bool.{Bool, true, false, cond, not, _&&_, _||_, or-true}
 use mathlib.Core.List.{List, [], _∷_}
 use Prim.Native.Nat.{ℕ, zero, suc, _+_, _≤_, _<_}
 use native.Mathlib.Nat.{not-suc-le-zero, le-of-suc-le-suc}
@@ -8,11 +8,12 @@ use native.Mathlib.Numerals.{add-one}
 use native.Mathlib.Omega.{arith}
 use native.Mathlib.Decide.{ℕ-discrete, decLt}
 use lib.Dec.{eqb, leb, ltb, T, eqb→eq}
-use lib.ListN.{length, getD, drop, drop-of-length-le, List·getD-eq-default}
+use lib.ListN.{length, getD, drop, drop-of-length-le, List·getD-eq-default, length-drop}
 use lib.Seq.{drop-cons, getD-drop}
 use borrow.Author.Tests.{eq-eqb, ne-eqb, lt-ltb, le-ltb, le-leb, lt-leb, leb-true}
 use Rattle.number.proofs.Table.{at}
-use Rattle.token.specs.Token.{Token, name, int32, int64, real, text, symbol, kindOf, nameAt, escapedAt, stringAt, integerAt, realAt, name-small, string-small}
+use Rattle.lexer.specs.Token.{Token, name, int32, int64, real, text, symbol, kindOf, nameAt, escapedAt, stringAt, integerAt, realAt}
+use Rattle.lexer.specs.Run.{takes, ends, runFrom, unescaped, bodyOf}
 use Rattle.grammar.specs.Tree.{leaf}
 use Rattle.grammar.specs.Grammar.{rank}
 use Rattle.grammar.specs.Parse.{ended, tokenAt, kindAt}
@@ -66,7 +67,7 @@ kind-in s kinds starts i = go (decLt i (length kinds))
         ap kindOf (List·getD-eq-default (tokensIn s kinds starts) ended out) ∙ sym (List·getD-eq-default kinds 99 (omega arith))
 
 -- a token of the kind k, at a place that the arrays have or not
-token-at : (s kinds starts : List ℕ) (i k : ℕ) → getD kinds i 99 ≡ k → k < 99 → tokenAt (tokensIn s kinds starts) i ≡ tokenOf s k (getD starts i 0)
+pub token-at : (s kinds starts : List ℕ) (i k : ℕ) → getD kinds i 99 ≡ k → k < 99 → tokenAt (tokensIn s kinds starts) i ≡ tokenOf s k (getD starts i 0)
 token-at s kinds starts i k e lt = go (decLt i (length kinds))
   where
     go : Dec (i < length kinds) → tokenAt (tokensIn s kinds starts) i ≡ tokenOf s k (getD starts i 0)
@@ -84,6 +85,29 @@ pub function-is : (s kinds starts : List ℕ) (i : ℕ) {p f : ℕ} → getD kin
 function-is s kinds starts i k ep ef = ef ∙ rw (ep, name-at s kinds starts i k)
 
 -- ---- what a token takes of the pool
+
+run-small : (quote : ℕ) (taken : Bool) (s : List ℕ) → length (runFrom quote taken s) ≤ length s
+run-small quote taken [] = omega arith
+run-small quote taken (b ∷ s) = go (not taken && ends quote b) (run-small quote (takes taken b) s)
+  where
+    go : (t : Bool) → length (runFrom quote (takes taken b) s) ≤ length s → length (cond t [] (b ∷ runFrom quote (takes taken b) s)) ≤ length (b ∷ s)
+    go true h = omega arith
+    go false h = omega arith
+
+unescaped-small : (taken : Bool) (s : List ℕ) → length (unescaped taken s) ≤ length s
+unescaped-small taken [] = omega arith
+unescaped-small taken (b ∷ s) = go (takes taken b) (unescaped-small true s) (unescaped-small false s)
+  where
+    go : (t : Bool) → length (unescaped true s) ≤ length s → length (unescaped false s) ≤ length s → length (cond t (unescaped true s) (b ∷ unescaped false s)) ≤ length (b ∷ s)
+    go true h g = omega arith
+    go false h g = omega arith
+
+pub name-small : (s : List ℕ) (p : ℕ) → length (nameAt s p) ≤ length s
+name-small s p = omega (arith, unescaped-small false (runFrom 0 false (drop p s)), run-small 0 false (drop p s), length-drop p s)
+
+pub string-small : (s : List ℕ) (p : ℕ) → length (stringAt s p) ≤ length s
+string-small s p =
+    omega (arith, unescaped-small false (bodyOf (drop p s)), run-small (getD (drop p s) 0 0) false (drop 1 (drop p s)), length-drop 1 (drop p s), length-drop p s)
 
 small-token : (s : List ℕ) (k p : ℕ) → poolBytes (tokenOf s k p) ≤ length s
 small-token s k p = go (ℕ-discrete k 5) (ℕ-discrete k 4) (ℕ-discrete k 1) (ℕ-discrete k 2) (ℕ-discrete k 3)

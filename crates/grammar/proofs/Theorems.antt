@@ -7,7 +7,7 @@ use mathlib.Core.Logic.{_↔_}
 use mathlib.Core.List.{List, _++_, append-assoc}
 use lib.ListN.{length, take, length-append, List·getD-append}
 use lib.Seq.{slice, take-length, length-take-le, getD-take}
-use Rattle.token.specs.Token.{Token}
+use Rattle.lexer.specs.Token.{Token}
 use Rattle.grammar.specs.Tree.{Tree}
 use Rattle.grammar.specs.Grammar.{Level}
 use Rattle.grammar.specs.Parse.{Result, ok, bad, ended, tokenAt, parseAll}

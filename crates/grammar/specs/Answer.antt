@@ -3,7 +3,7 @@
 use Prim.Native.Nat.{ℕ, _+_, max}
 use mathlib.Core.Bool.{Bool, true, false, cond, not, _&&_}
 use lib.Dec.{eqb}
-use Rattle.token.specs.Token.{Token}
+use Rattle.lexer.specs.Token.{Token}
 use Rattle.grammar.specs.Tree.{Tree, Trees}
 use Rattle.grammar.specs.Parse.{Result, ok, bad}
 use Rattle.grammar.specs.Size.{countOf, skips, entriesOf, entriesIn, poolOf, poolIn, depthOf, depthIn}

@@ -4,7 +4,7 @@ use mathlib.Core.Path.{_≡_}
 use mathlib.Core.Bool.{Bool, true, cond, _&&_, _||_}
 use mathlib.Core.List.{List, [], _∷_, _++_}
 use lib.Dec.{eqb, leb}
-use Rattle.token.specs.Token.{Token, kindOf}
+use Rattle.lexer.specs.Token.{Token, kindOf}
 use Rattle.grammar.specs.Tree.{Tree, leaf, group, unary, binary, call, Trees, none, _then_}
 
 -- The binary operators by level, 0 the loosest: "`<< >> >>>`; `&`; `^`; `|`; `* / %`; `+ -`; `< <= > >=`; `== !=`; `&&`; `^^`; `||`" stand from the tightest, 10, to the loosest.

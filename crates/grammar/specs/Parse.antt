@@ -4,7 +4,7 @@ use mathlib.Core.Bool.{Bool, true, false}
 use mathlib.Core.List.{List, [], _∷_}
 use lib.ListN.{length, getD}
 use lib.Dec.{eqb}
-use Rattle.token.specs.Token.{Token, symbol, kindOf}
+use Rattle.lexer.specs.Token.{Token, symbol, kindOf}
 use Rattle.grammar.specs.Tree.{Tree, leaf, group, unary, binary, call, Trees, none, _then_}
 use Rattle.grammar.specs.Grammar.{rank, isPrefix, isLiteral, naming, opening, closing, comma}
 

@@ -4,7 +4,7 @@ use mathlib.Core.Bool.{cond}
 use mathlib.Core.List.{List, [], _∷_}
 use lib.Dec.{eqb}
 use lib.ListN.{getD, drop}
-use Rattle.token.specs.Token.{Token, name, int32, int64, real, text, symbol, nameAt, escapedAt, stringAt, integerAt, realAt}
+use Rattle.lexer.specs.Token.{Token, name, int32, int64, real, text, symbol, nameAt, escapedAt, stringAt, integerAt, realAt}
 
 -- the token of a kind that starts at a place of the text
 abbrev pub tokenOf : List ℕ → ℕ → ℕ → Token

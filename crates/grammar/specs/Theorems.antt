@@ -4,7 +4,7 @@ use mathlib.Core.Path.{_≡_}
 use mathlib.Core.Logic.{_↔_}
 use mathlib.Core.List.{List}
 use lib.ListN.{length, take}
-use Rattle.token.specs.Token.{Token}
+use Rattle.lexer.specs.Token.{Token}
 use Rattle.grammar.specs.Tree.{Tree}
 use Rattle.grammar.specs.Grammar.{Level}
 use Rattle.grammar.specs.Parse.{ok, bad, parseAll}

@@ -11,7 +11,7 @@ ghost use Rattle.grammar.specs.Nesting.{openAfter, rowAfter};
 ghost use Rattle.grammar.specs.Tree.{leaf as leafTree};
 ghost use Rattle.grammar.specs.Answer.{foundOf};
 ghost use Rattle.grammar.specs.Stream.{tokensIn};
-ghost use Rattle.token.specs.Token.{nameAt, escapedAt};
+ghost use Rattle.lexer.specs.Token.{nameAt, escapedAt};
 use crate::found;
 use crate::found::Found;
 
@@ -112,10 +112,10 @@ pub fn leaf(text: &[u8], kinds: &[u8], starts: &[u16], at: usize) -> Found
     let k = kind(kinds, at);
     let s = start(starts, at);
     if k == 5 {
-        return found::leaf(k, token::name_length(text, s));
+        return found::leaf(k, lexer::name_length(text, s));
     }
     if k == 4 {
-        return found::leaf(k, token::string_length(text, s));
+        return found::leaf(k, lexer::string_length(text, s));
     }
     found::leaf(k, 0)
 }
@@ -138,10 +138,10 @@ pub fn function(text: &[u8], at: usize) -> u8
 fn change(text: &[u8], at: usize) -> u8
     ensures { λ r. ⌜ r ≡ among changes (nameAt (now (text .entry)) at) (escapedAt (now (text .entry)) at) ⌝ }
 {
-    if token::name_is(text, at, b"fold-case") {
+    if lexer::name_is(text, at, b"fold-case") {
         return 6;
     }
-    if token::name_is(text, at, b"size") {
+    if lexer::name_is(text, at, b"size") {
         return 7;
     }
     0
@@ -150,25 +150,25 @@ fn change(text: &[u8], at: usize) -> u8
 fn test(text: &[u8], at: usize) -> u8
     ensures { λ r. ⌜ r ≡ among tests (nameAt (now (text .entry)) at) (escapedAt (now (text .entry)) at) ⌝ }
 {
-    if token::name_is(text, at, b"int32") {
+    if lexer::name_is(text, at, b"int32") {
         return 48;
     }
-    if token::name_is(text, at, b"int64") {
+    if lexer::name_is(text, at, b"int64") {
         return 49;
     }
-    if token::name_is(text, at, b"real64") {
+    if lexer::name_is(text, at, b"real64") {
         return 50;
     }
-    if token::name_is(text, at, b"string") {
+    if lexer::name_is(text, at, b"string") {
         return 51;
     }
-    if token::name_is(text, at, b"opaque") {
+    if lexer::name_is(text, at, b"opaque") {
         return 52;
     }
-    if token::name_is(text, at, b"nan") {
+    if lexer::name_is(text, at, b"nan") {
         return 53;
     }
-    if token::name_is(text, at, b"require") {
+    if lexer::name_is(text, at, b"require") {
         return 54;
     }
     0
@@ -177,16 +177,16 @@ fn test(text: &[u8], at: usize) -> u8
 fn matching(text: &[u8], at: usize) -> u8
     ensures { λ r. ⌜ r ≡ among matches (nameAt (now (text .entry)) at) (escapedAt (now (text .entry)) at) ⌝ }
 {
-    if token::name_is(text, at, b"begins-with") {
+    if lexer::name_is(text, at, b"begins-with") {
         return 56;
     }
-    if token::name_is(text, at, b"contains") {
+    if lexer::name_is(text, at, b"contains") {
         return 57;
     }
-    if token::name_is(text, at, b"ends-with") {
+    if lexer::name_is(text, at, b"ends-with") {
         return 58;
     }
-    if token::name_is(text, at, b"equals") {
+    if lexer::name_is(text, at, b"equals") {
         return 59;
     }
     0

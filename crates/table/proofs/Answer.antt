@@ -1,6 +1,6 @@
 -- The answers of the check, one for each place where it ends. Assumes nothing.
-use mathlib.Core.Path.{_≡_, refl, sym, ap, _∙_}
-use mathlib.Core.Bool.{Bool, true, false, _&&_}
+use mathlib.Core.Path.{_≡_, refl, sym, _∙_}
+use mathlib.Core.Bool.{Bool, true, false, _&&_, and-false}
 use mathlib.Core.List.{List, [], _∷_}
 use mathlib.Core.Option.{Option, none, some}
 use Prim.Native.Nat.{ℕ}
@@ -12,7 +12,7 @@ use Rattle.opcode.specs.Opcode.{Kind, logic}
 use Rattle.table.specs.Table.{countOf, entriesOf, poolOf, layoutOf}
 use Rattle.table.specs.Check.{entriesRight, shapeAt, sameShape, endRight, skipsRight, checkOf}
 use Rattle.table.specs.Number.{numberOf, exists, Shaped}
-use Rattle.table.proofs.Tests.{no-way, both-true, and-false}
+use Rattle.table.proofs.Tests.{no-way, both-true}
 use Rattle.table.proofs.Numbers.{number-test}
 use Rattle.table.proofs.Reading.{length-entries}
 

@@ -1,11 +1,10 @@
 -- The bytes of a program, and the program of bytes: each is read back as it was written. Assumes nothing.
 use mathlib.Core.Path.{_≡_, refl, sym, ap, ap₂, _∙_}
 use mathlib.Core.List.{List, [], _∷_, _++_, append-assoc}
-use Prim.Native.Nat.{ℕ, zero, suc, _+_, _*_, _-_, _^_, _/_, _%_, _≤_, _<_}
-use native.Mathlib.Nat.{not-suc-le-zero, le-of-suc-le-suc}
+use Prim.Native.Nat.{ℕ, zero, suc, _+_, _*_, _-_, _^_, _/_, _≤_, _<_}
 use native.Mathlib.Omega.{arith}
 use lib.Dec.{lit<}
-use lib.ListN.{length, getD, take, drop, length-append, length-drop, take-append-drop}
+use lib.ListN.{length, getD, take, drop, length-append, take-append-drop}
 use lib.Seq.{drop-at, take-add, drop-drop, getD-drop}
 use Rattle.word.specs.Word.{le, leBytes, Bytes}
 use Rattle.word.proofs.Laws.{length-leBytes}
@@ -13,7 +12,7 @@ use Rattle.word.proofs.Theorems.{bytes-read, read-bytes, bounded}
 use Rattle.table.specs.Table.{Entry, blank, Program, entryBytes, entriesBytes, bodyBytes, encode, countOf, poolLengthOf, entryAt, entriesFrom, entriesOf, poolOf, decode}
 use Rattle.table.specs.Theorems.{Fits, Limits}
 use Rattle.table.proofs.Reading.{length-entries, entry-of}
-use Rattle.table.proofs.Laid.{Laid}
+use Rattle.table.proofs.Laid.{Laid, pool-length}
 
 -- ---- lengths
 
@@ -145,16 +144,13 @@ module _ (s : List ℕ) (by : Bytes s) where
       rw (e1, entry-written i (omega arith), ih, e2) (part-join 12 (12 * n) (10 + 12 * i) s)
 
   module _ (l : Laid s) where
-    pool-length : length (poolOf s) ≡ poolLengthOf s
-    pool-length = let w = l .whole in rw (length-drop (10 + 12 * countOf s) s) (omega arith)
-
     body-length : length (bodyBytes (decode s)) ≡ le 4 s 0
     body-length =
         let w = l .whole in
         let h = l .word in
         let len = length-body (decode s) in
         let c = length-entries s in
-        omega (arith, pool-length)
+        omega (arith, pool-length s l)
 
     pub written-read : encode (decode s) ≡ s
     unfolding encode bodyBytes
@@ -164,7 +160,7 @@ module _ (s : List ℕ) (by : Bytes s) where
         let e4 : leBytes 4 (length (bodyBytes (decode s))) ≡ take 4 (drop 0 s) = ap (leBytes 4) body-length ∙ read-bytes 4 0 s by (omega arith) in
         let e2 : leBytes 2 2 ≡ take 2 (drop 4 s) = ap (leBytes 2) (sym (l .kind)) ∙ read-bytes 2 4 s by (omega arith) in
         let en : leBytes 2 (length (entriesOf s)) ≡ take 2 (drop 6 s) = ap (leBytes 2) (length-entries s) ∙ read-bytes 2 6 s by (omega arith) in
-        let ep : leBytes 2 (length (poolOf s)) ≡ take 2 (drop 8 s) = ap (leBytes 2) pool-length ∙ read-bytes 2 8 s by (omega arith) in
+        let ep : leBytes 2 (length (poolOf s)) ≡ take 2 (drop 8 s) = ap (leBytes 2) (pool-length s l) ∙ read-bytes 2 8 s by (omega arith) in
         let ee : entriesBytes (entriesOf s) ≡ take (12 * countOf s) (drop 10 s) = entries-written (countOf s) 0 (omega arith) in
         rw (e4, e2, en, ep, ee, part-rest (12 * countOf s) 10 s, part-rest 2 8 s, part-rest 2 6 s, part-rest 2 4 s, part-rest 4 0 s)
 
@@ -174,7 +170,7 @@ module _ (s : List ℕ) (by : Bytes s) where
           some-entry = rw (length-entries s) (l .some-entry);
           few = rw (length-entries s) (l .few);
           fit = λ i h. let k : i < countOf s = rw (length-entries s) at h in rw (entry-of s i k) (record { op = bounded 2 (10 + 12 * i) s by; a = bounded 2 (12 + 12 * i) s by; b = bounded 8 (14 + 12 * i) s by });
-          small = rw pool-length (l .small);
+          small = rw (pool-length s l) (l .small);
           bytes = λ i. rw (getD-drop (10 + 12 * countOf s) s i 0) (by (10 + 12 * countOf s + i));
         }
 

@@ -1,14 +1,13 @@
 -- What the layout says, part by part. Assumes nothing.
 use mathlib.Core.Path.{_≡_}
-use mathlib.Core.Bool.{true, _&&_}
+use mathlib.Core.Bool.{true}
 use mathlib.Core.List.{List}
 use Prim.Native.Nat.{ℕ, _+_, _*_, _≤_, _<_}
 use native.Mathlib.Omega.{arith}
-use lib.Dec.{eqb, leb}
-use lib.ListN.{length}
+use lib.ListN.{length, length-drop}
 use borrow.Author.Tests.{leb-true, le-leb, eqb-true, eq-eqb}
 use Rattle.word.specs.Word.{le}
-use Rattle.table.specs.Table.{countOf, poolLengthOf, layoutOf}
+use Rattle.table.specs.Table.{countOf, poolLengthOf, poolOf, layoutOf}
 use Rattle.table.proofs.Tests.{both-true, are-true}
 
 pub record Laid (s : List ℕ) : Type 0 where
@@ -52,3 +51,10 @@ module _ (s : List ℕ) where
   -- each entry lies in the table
   pub inside : layoutOf s ≡ true → (i : ℕ) → i < countOf s → 22 + 12 * i ≤ length s
   inside e i h = let l = laid e in omega arith
+
+  -- the pool has the length that the header says
+  pub pool-length : Laid s → length (poolOf s) ≡ poolLengthOf s
+  pool-length l = let w = l .whole in rw (length-drop (10 + 12 * countOf s) s) (omega arith)
+
+  pub pool-small : layoutOf s ≡ true → length (poolOf s) ≤ 4096
+  pool-small e = let l = laid e in rw (pool-length l) (l .small)

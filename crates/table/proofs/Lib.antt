@@ -9,3 +9,4 @@ pub mod Answer
 pub mod Encoding
 pub mod Reached
 pub mod Theorems
+pub mod Entries

@@ -1,9 +1,8 @@
 -- The passes over the entries: what one entry says of all, and all of the check. Assumes nothing.
 use mathlib.Core.Path.{_≡_, refl, sym, ap, _∙_}
-use mathlib.Core.Bool.{Bool, true, false, not, _&&_, _||_}
+use mathlib.Core.Bool.{Bool, true, false, not, _&&_, _||_, and-false}
 use mathlib.Core.List.{List, [], _∷_}
-use mathlib.Core.Option.{Option, none, some}
-use Prim.Native.Nat.{ℕ, zero, suc, _+_, _≤_, _<_}
+use Prim.Native.Nat.{ℕ, zero, suc, _+_, _<_}
 use native.Mathlib.Nat.{not-suc-le-zero, le-of-suc-le-suc}
 use native.Mathlib.Decide.{decLt}
 use native.Mathlib.Omega.{arith}
@@ -11,9 +10,9 @@ use lib.Dec.{leb, eqb}
 use lib.ListN.{length, getD}
 use borrow.Author.Tests.{leb-true}
 use Rattle.table.specs.Table.{Entry, blank, countOf, entryAt, entriesOf}
-use Rattle.table.specs.Check.{entryRight, entriesRight, shapeAt, sameShape, landing, landsRight, isSkip, skipRight, skipsRight}
-use Rattle.table.specs.Number.{numberOf, Stored}
-use Rattle.table.proofs.Tests.{both-true, are-true, and-false}
+use Rattle.table.specs.Check.{entryRight, entriesRight, shapeAt, sameShape, landsRight, isSkip, skipRight, skipsRight}
+use Rattle.table.specs.Number.{Stored}
+use Rattle.table.proofs.Tests.{both-true, are-true}
 use Rattle.table.proofs.Numbers.{number-test}
 use Rattle.table.proofs.Reading.{length-entries, entry-of}
 

@@ -1,9 +1,9 @@
 -- The pass over the entries, from each entry to the next: what it has shown, what it has kept, and where it ends. Assumes nothing.
-use mathlib.Core.Path.{_≡_, refl, sym, ap, _∙_}
-use mathlib.Core.Bool.{Bool, true, false, _&&_}
+use mathlib.Core.Path.{_≡_, refl, sym, ap, ap₂, _∙_}
+use mathlib.Core.Bool.{Bool, true, false, and-false}
 use mathlib.Core.List.{List}
 use mathlib.Core.Option.{Option, none, some}
-use Prim.Native.Nat.{ℕ, zero, suc, _+_, _-_, _≤_, _<_}
+use Prim.Native.Nat.{ℕ, suc, _+_, _-_, _≤_, _<_}
 use native.Mathlib.Numerals.{add-one}
 use native.Mathlib.Decide.{decLt}
 use native.Mathlib.Omega.{arith}
@@ -11,10 +11,10 @@ use borrow.Author.Count.{below-more}
 use lib.ListN.{length, getD, set, length-set}
 use lib.Seq.{getD-set-same, getD-set-other}
 use Rattle.opcode.specs.Opcode.{Kind}
-use Rattle.table.specs.Table.{countOf, entryAt, entriesOf, poolOf}
+use Rattle.table.specs.Table.{Entry, countOf, entryAt, entriesOf, poolOf}
 use Rattle.table.specs.Check.{entryRight, entriesRight, after, shapeFrom, shapeAt}
-use Rattle.table.specs.Number.{numberOf, exists, Stored, Shaped}
-use Rattle.table.proofs.Tests.{no-way, and-false, are-true}
+use Rattle.table.specs.Number.{numberOf, exists, Shaped}
+use Rattle.table.proofs.Tests.{no-way, are-true}
 use Rattle.table.proofs.Numbers.{shapes-same}
 use Rattle.table.proofs.Shapes.{from-next, from-stuck}
 use Rattle.table.proofs.Reading.{length-entries, entry-of}
@@ -49,25 +49,6 @@ module _ (s : List ℕ) where
   next : (i : ℕ) → i < countOf s → shapeAt (entriesOf s) (suc i) ≡ after (entryAt s i) (shapeAt (entriesOf s) i)
   next i h = from-next (entriesOf s) _ i (rw (length-entries s) h) ∙ rw (entry-of s i h)
 
-  pub pass-more : (shapes : List ℕ) (i c : ℕ) → Passed shapes i → i < countOf s → entryRight (poolOf s) (entryAt s i) ≡ true
-      → c ≡ numberOf (after (entryAt s i) (shapeAt (entriesOf s) i)) → (c ≡ 0 → ⊥) → Passed (set shapes (i + 1) c) (i + 1)
-  pass-more shapes i c p h r e z =
-      record {
-        long = simp length-set (p .long);
-        few = p .few;
-        within = omega arith;
-        kept = λ k l. kept k l (decLt k (i + 1));
-        right = below-more _ _ (p .right) r;
-        here = rw (add-one i) (there (shapeAt (entriesOf s) (suc i)) (λ q. z (e ∙ rw (sym (next i h)) q)));
-      }
-    where
-      kept : (k : ℕ) → k ≤ i + 1 → Dec (k < i + 1) → getD (set shapes (i + 1) c) k 0 ≡ numberOf (shapeAt (entriesOf s) k)
-      kept k l (yes b) = getD-set-other shapes (i + 1) k c 0 (λ q. omega arith) ∙ p .kept k (omega arith)
-      kept k l (no b) =
-          let q : k ≡ i + 1 = omega arith in
-          let len = p .long in
-          rw q (getD-set-same shapes (i + 1) c 0 (omega arith) ∙ e ∙ rw (add-one i) (ap numberOf (sym (next i h))))
-
   pub pass-end : (shapes : List ℕ) (i : ℕ) → Passed shapes i → countOf s ≤ i → Shaped s shapes true
   pass-end shapes i p h =
       let z : i ≡ countOf s = let w = p .within in omega arith in
@@ -78,14 +59,42 @@ module _ (s : List ℕ) where
         stored = λ t. record { each = λ k l. p .kept k (omega arith) };
       }
 
-  pub pass-wrong : (shapes : List ℕ) (i : ℕ) → i < countOf s → entryRight (poolOf s) (entryAt s i) ≡ false → Shaped s shapes false
-  pass-wrong shapes i h e =
-      let w : entriesRight (poolOf s) (entriesOf s) ≡ false = one-wrong (poolOf s) (entriesOf s) i (rw (length-entries s) h) (rw (entry-of s i h) e) in
-      record { answer = rw w; stored = λ t. no-way t }
+  -- the turn at the entry i, in the code's words: x is the entry, r whether it is right by itself, c the number of the kinds after it
+  module _ (shapes : List ℕ) (i : ℕ) (p : Passed shapes i) (h : i < countOf s) (x : Entry) (q : x ≡ entryAt s i) where
+    right-is : (names : List ℕ) (r b : Bool) → names ≡ poolOf s → r ≡ entryRight names x → r ≡ b → entryRight (poolOf s) (entryAt s i) ≡ b
+    right-is names r b e f g = ap₂ entryRight (sym e) (sym q) ∙ sym f ∙ g
 
-  pub pass-stuck : (shapes : List ℕ) (i c : ℕ) → i < countOf s → c ≡ numberOf (after (entryAt s i) (shapeAt (entriesOf s) i)) → c ≡ 0 → Shaped s shapes false
-  pass-stuck shapes i c h e z =
-      let n : shapeAt (entriesOf s) (suc i) ≡ none = shapes-same _ none (ap numberOf (next i h) ∙ sym e ∙ z) in
-      let d : (countOf s - suc i) + suc i ≡ length (entriesOf s) = omega (arith, length-entries s) in
-      let l : shapeAt (entriesOf s) (length (entriesOf s)) ≡ none = rw d at (from-stuck (entriesOf s) _ (suc i) (countOf s - suc i) n) in
-      record { answer = rw l (sym (and-false (entriesRight (poolOf s) (entriesOf s)))); stored = λ t. no-way t }
+    pub pass-wrong : (names : List ℕ) (r : Bool) → names ≡ poolOf s → r ≡ entryRight names x → r ≡ false → Shaped s shapes false
+    pass-wrong names r e f g =
+        let w : entriesRight (poolOf s) (entriesOf s) ≡ false = one-wrong (poolOf s) (entriesOf s) i (rw (length-entries s) h) (rw (entry-of s i h) (right-is names r false e f g)) in
+        record { answer = rw w; stored = λ t. no-way t }
+
+    module _ (c : ℕ) (f : (t : Option (List Kind)) → getD shapes i 0 ≡ numberOf t → c ≡ numberOf (after x t)) where
+      number-is : c ≡ numberOf (shapeAt (entriesOf s) (suc i))
+      number-is = f (shapeAt (entriesOf s) i) (p .kept i (omega arith)) ∙ rw q (ap numberOf (sym (next i h)))
+
+      pub pass-stuck : c ≡ 0 → Shaped s shapes false
+      pass-stuck z =
+          let n : shapeAt (entriesOf s) (suc i) ≡ none = shapes-same _ none (sym number-is ∙ z) in
+          let d : (countOf s - suc i) + suc i ≡ length (entriesOf s) = omega (arith, length-entries s) in
+          let l : shapeAt (entriesOf s) (length (entriesOf s)) ≡ none = rw d at (from-stuck (entriesOf s) _ (suc i) (countOf s - suc i) n) in
+          record { answer = rw l (sym (and-false (entriesRight (poolOf s) (entriesOf s)))); stored = λ t. no-way t }
+
+      pub pass-more : (names : List ℕ) (r : Bool) → names ≡ poolOf s → r ≡ entryRight names x → r ≡ true → (c ≡ 0 → ⊥) → Passed (set shapes (i + 1) c) (i + 1)
+      pass-more names r e g t z =
+          record {
+            long = simp length-set (p .long);
+            few = p .few;
+            within = omega arith;
+            kept = λ k l. kept k l (decLt k (i + 1));
+            right = below-more _ _ (p .right) (right-is names r true e g t);
+            here = rw (add-one i) (there (shapeAt (entriesOf s) (suc i)) (λ n. z (number-is ∙ n)));
+          }
+        where
+          kept : (k : ℕ) → k ≤ i + 1 → Dec (k < i + 1) → getD (set shapes (i + 1) c) k 0 ≡ numberOf (shapeAt (entriesOf s) k)
+          kept k l (yes b) = getD-set-other shapes (i + 1) k c 0 (λ n. omega arith) ∙ p .kept k (omega arith)
+          kept k l (no b) =
+              let n : k ≡ i + 1 = omega arith in
+              let len = p .long in
+              let few = p .few in
+              rw n (getD-set-same shapes (i + 1) c 0 (omega arith) ∙ rw (add-one i) number-is)

@@ -1,6 +1,6 @@
 -- Ways and the kinds along the entries: where the check passes, every way finds those kinds; and where every way finds one stack of kinds, the check passes. Assumes nothing.
 use mathlib.Core.Path.{_≡_, refl, sym, ap, _∙_}
-use mathlib.Core.Bool.{Bool, true, false, not, cond, _&&_, _||_}
+use mathlib.Core.Bool.{Bool, true, false, not, cond, _||_}
 use mathlib.Core.List.{List, [], _∷_, _++_}
 use mathlib.Core.Option.{Option, none, some, Option·some-injective}
 use Prim.Native.Nat.{ℕ, zero, suc, _+_, _-_, _≤_, _<_}
@@ -11,9 +11,9 @@ use lib.ListN.{length, getD, length-append}
 use borrow.Author.Tests.{ltb-true, lt-ltb, leb-true, le-leb}
 use Rattle.opcode.specs.Opcode.{Kind, logic}
 use Rattle.table.specs.Table.{Entry, blank}
-use Rattle.table.specs.Check.{pop, push, after, shapeFrom, shapeAt, sameShape, isSkip, landing, landsRight, skipRight, skipsRight, endRight}
+use Rattle.table.specs.Check.{pop, push, after, shapeFrom, shapeAt, isSkip, landing, landsRight, skipRight, skipsRight, endRight}
 use Rattle.table.specs.Ways.{takenAt, givenAt, Reaches, start, falls, skips, EveryWay}
-use Rattle.table.proofs.Tests.{no-way, both-true, are-true}
+use Rattle.table.proofs.Tests.{both-true, are-true}
 use Rattle.table.proofs.Numbers.{shape-eq, eq-shape}
 use Rattle.table.proofs.Shapes.{pop-front, pop-back, from-next, from-past, from-stuck}
 use Rattle.table.proofs.Passes.{all-land, each-lands}

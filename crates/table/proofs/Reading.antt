@@ -1,11 +1,11 @@
 -- The entries that are read, by their index. Assumes nothing.
 use mathlib.Core.Path.{_≡_, refl, ap}
-use mathlib.Core.List.{List, [], _∷_}
+use mathlib.Core.List.{List}
 use Prim.Native.Nat.{ℕ, zero, suc, _+_, _<_}
 use native.Mathlib.Nat.{not-suc-le-zero, le-of-suc-le-suc}
 use native.Mathlib.Omega.{arith}
 use lib.ListN.{length, getD}
-use Rattle.table.specs.Table.{Entry, blank, countOf, entryAt, entriesFrom, entriesOf}
+use Rattle.table.specs.Table.{blank, countOf, entryAt, entriesFrom, entriesOf}
 
 pub length-from : (s : List ℕ) (i n : ℕ) → length (entriesFrom s i n) ≡ n
 unfolding entriesFrom

@@ -1,5 +1,5 @@
 -- The kinds along the entries: from one entry to the next, past the end, and over lists that are joined. Assumes nothing.
-use mathlib.Core.Path.{_≡_, refl, sym, ap, _∙_}
+use mathlib.Core.Path.{_≡_, refl}
 use mathlib.Core.Bool.{Bool, true, false, cond}
 use mathlib.Core.List.{List, [], _∷_, _++_}
 use mathlib.Core.Option.{Option, none, some}
@@ -7,13 +7,10 @@ use Prim.Native.Nat.{ℕ, zero, suc, _+_, _-_, _≤_, _<_}
 use native.Mathlib.Nat.{not-suc-le-zero, le-of-suc-le-suc}
 use native.Mathlib.Decide.{decLt}
 use native.Mathlib.Omega.{arith}
-use lib.Dec.{ltb}
 use lib.ListN.{length, getD}
-use borrow.Author.Tests.{ltb-true, lt-ltb}
-use Rattle.opcode.specs.Opcode.{Kind, opOf, takesOf, givesOf}
+use Rattle.opcode.specs.Opcode.{Kind, opOf, takesOf}
 use Rattle.table.specs.Table.{Entry, blank}
-use Rattle.table.specs.Check.{sameKind, popOne, pop, push, flowBy, after, shapeFrom, shapeAt}
-use Rattle.table.proofs.Tests.{no-way}
+use Rattle.table.specs.Check.{sameKind, pop, after, shapeFrom}
 use Rattle.table.proofs.Numbers.{kind-eq, kind-self}
 
 -- ---- one entry

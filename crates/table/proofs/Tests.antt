@@ -17,14 +17,6 @@ both-true false b e = no-way e
 pub are-true : (a b : Bool) → a ≡ true → b ≡ true → (a && b) ≡ true
 are-true a b e f = rw (e, f)
 
-pub and-false : (a : Bool) → (a && false) ≡ false
-and-false true = refl
-and-false false = refl
-
-pub known : (a : Bool) → (a ≡ false → ⊥) → a ≡ true
-known true h = refl
-known false h = absurd (h refl)
-
 -- ---- on numbers
 
 -- a sum that could wrap is not made

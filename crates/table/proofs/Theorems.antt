@@ -1,23 +1,19 @@
 -- The theorems on tables that specs/Theorems.antt states. Assumes nothing.
 use mathlib.Core.Path.{_≡_, refl, sym, ap, _∙_}
-use mathlib.Core.Bool.{Bool, true, false, _&&_, _||_}
-use mathlib.Core.List.{List, [], _∷_, _++_}
-use mathlib.Core.Option.{some}
-use Prim.Native.Nat.{ℕ, suc, _+_, _*_, _-_, _^_, _≤_, _<_}
+use mathlib.Core.Bool.{Bool, true, false, _&&_, _||_, or-true}
+use mathlib.Core.List.{List}
+use Prim.Native.Nat.{ℕ, suc, _-_, _^_, _<_}
 use native.Mathlib.Numerals.{add-one}
 use native.Mathlib.Omega.{arith}
 use lib.Dec.{leb, ltb}
 use lib.IntN.{ℤ, pos, negsuc}
-use lib.ListN.{length, getD}
-use borrow.Author.Tests.{ltb-true, ltb-false, lt-ltb, leb-true, le-leb}
+use lib.ListN.{length}
+use borrow.Author.Tests.{ltb-true, lt-ltb, leb-true, le-leb}
 use mir.Syntax.{w32, w64}
 use mir.Val.{SFits, ofZ}
-use Rattle.word.specs.Word.{Bytes}
-use Rattle.opcode.specs.Opcode.{opOf, Kind, logic, takesOf, givesOf}
-use Rattle.table.specs.Table.{Entry, blank, Program, encode, decode, layoutOf, countOf, entryAt, entriesOf, poolOf}
+use Rattle.table.specs.Table.{encode, decode, layoutOf, entriesOf, poolOf}
 use Rattle.table.specs.Check.{inRange, entriesRight, shapeFrom, shapeAt, endRight, skipsRight, programRight, checkOf}
-use Rattle.table.specs.Ways.{EveryWay}
-use Rattle.table.specs.Theorems.{Limits, DecodeEncode, EncodeDecode, Layout, Widened, CheckEncode, CheckWays, EveryReached, Known, CheckedEntry, CheckedSkip, CheckedEnds}
+use Rattle.table.specs.Theorems.{DecodeEncode, EncodeDecode, Layout, Widened, CheckEncode, CheckWays, EveryReached, CheckedEntry, CheckedSkip, CheckedEnds}
 use Rattle.table.proofs.Tests.{both-true, are-true}
 use Rattle.table.proofs.Laid.{laid, keeps, inside}
 use Rattle.table.proofs.Encoding.{read-written, laid-out, written-read, within-limits, written-bytes}
@@ -46,10 +42,6 @@ in-range (pos n) f = let h = f .sfits in rw (lt-ltb n (2 ^ 31) h)
 in-range (negsuc n) f =
     let h = f .sfits in
     rw (le-leb (2 ^ 64 - 2 ^ 31) (2 ^ 64 - suc n) (omega arith), lt-ltb (2 ^ 64 - suc n) (2 ^ 64) (omega arith)) (or-true (ltb (2 ^ 64 - suc n) (2 ^ 31)))
-  where
-    or-true : (b : Bool) → (b || true) ≡ true
-    or-true true = refl
-    or-true false = refl
 
 pub widened : Widened
 widened b = (λ h. go (ltb b (2 ^ 31)) refl h, λ h. rw (h .2) (in-range (h .0) (h .1)))

@@ -1,7 +1,7 @@
 -- Tables as bytes, and the reading of one. Document 01, "Table": "u32 length of all after it; u16 kind 2; u16 entry count N 1..512; u16 pool length 0..4,096;
 -- N entries of 12 bytes; pool; nothing more. Entry: u16 op, u16 a, u64 b." Little-endian, as notices are.
 use Prim.Native.Nat.{ℕ, zero, suc, _+_, _*_}
-use mathlib.Core.Bool.{Bool, true, false, _&&_}
+use mathlib.Core.Bool.{Bool, _&&_}
 use mathlib.Core.List.{List, [], _∷_, _++_}
 use lib.Dec.{eqb, leb}
 use lib.ListN.{length, drop}

@@ -143,7 +143,7 @@ fn pop_one(c: u64, bit: u64) -> u64
     c / 2
 }
 
-// A result on, where fewer than 32 slots are taken.
+// A result on, where fewer than 32 slots are taken. The bit is a kind's.
 fn push_one(c: u64, bit: u64) -> u64
     requires { ⌜ bit < 2 ⌝ }
     ensures { λ r. ⌜ ((g : Kind) (s : Option (List Kind)) → bit ≡ bitOf g → c ≡ numberOf s → r ≡ numberOf (push g s)) ⌝ }
@@ -239,7 +239,7 @@ fn skip_flow(c: u64) -> u64
     push_one(pop_one(c, 0), 0)
 }
 
-// The kinds after an entry, of those before it.
+// The kinds after an entry, of those before it. An unknown op, which is not right by itself, takes nothing.
 fn flow(e: Entry, c: u64) -> u64
     ensures { λ r. ⌜ ((s : Option (List Kind)) → c ≡ numberOf s → r ≡ numberOf (after e s)) ⌝ }
 {
@@ -254,17 +254,18 @@ fn flow(e: Entry, c: u64) -> u64
     }
 }
 
-// Keeps the kinds before each entry and at the end. Answers whether each entry is right by itself and finds its operands.
+// Keeps the kinds before each entry and at the end, as numbers. Answers whether each entry is right by itself and finds its operands.
+// It asks for the layout, which its caller has tested, and for room for the most entries and the end.
 fn shapes_right(table: &[u8], n: usize, shapes: &mut [u64; 513]) -> bool
     requires { ⌜ (layoutOf (now table) ≡ true) × (n ≡ countOf (now table)) × (length (now shapes) ≡ 513) ⌝ }
     ensures { λ r. ⌜ Shaped (now (table .entry)) (now (shapes .exit)) r ⌝ }
 {
-    let names = pool(table);
+    let strings = pool(table);
     shapes[0] = 1;
     let mut i = 0;
     while i < n {
         let e = entry_at(table, i);
-        if !entry_right(names, e) {
+        if !entry_right(strings, e) {
             return false;
         }
         let c = flow(e, shapes[i]);
@@ -293,7 +294,7 @@ fn is_skip(e: Entry) -> bool
     }
 }
 
-// "a skip lands at or before N", with the kinds that it was reached with.
+// "a skip lands at or before N", at the kinds that it was reached with. It asks for an entry of a table of at most 512.
 fn lands_right(shapes: &[u64; 513], n: usize, i: usize, a: u16) -> bool
     requires { ⌜ (i < n) × (n ≤ 512) ⌝ }
     ensures { λ r. ⌜ r ≡ (leb (i + a + 1) n && eqb (getD (now (shapes .entry)) (i + a + 1) 0) (getD (now (shapes .entry)) i 0)) ⌝ }
@@ -305,6 +306,7 @@ fn lands_right(shapes: &[u64; 513], n: usize, i: usize, a: u16) -> bool
     shapes[to] == shapes[i]
 }
 
+// Each skip, in one pass over the kept numbers: it asks for the layout and for those.
 fn skips_right(table: &[u8], n: usize, shapes: &[u64; 513]) -> bool
     requires { ⌜ (layoutOf (now table) ≡ true) × (n ≡ countOf (now table)) × Stored (now table) (now shapes) ⌝ }
     ensures { λ r. ⌜ r ≡ skipsRight (entriesOf (now (table .entry))) n ⌝ }
@@ -334,6 +336,7 @@ pub fn check(table: &[u8]) -> bool
     if !shapes_right(table, n, &mut shapes) {
         return false;
     }
+    // one logic slot
     if shapes[n] != 2 {
         return false;
     }

@@ -7,7 +7,7 @@ use mathlib.Core.List.{List, [], _∷_, _++_}
 use lib.Dec.{leb}
 use borrow.Author.Tests.{leb-true}
 use Rattle.table.proofs.Tests.{no-way, both-true}
-use Rattle.token.specs.Token.{Token, kindOf}
+use Rattle.lexer.specs.Token.{Token, kindOf}
 use Rattle.grammar.specs.Tree.{Tree, leaf, group, unary, binary, call, Trees, none, _then_}
 use Rattle.grammar.specs.Grammar.{rank, isPrefix, isLiteral, naming, opening, closing, comma, Level, operator, tighter, tightest, Prefix, applied, plain, Operand, a-literal, a-name, a-group, a-call-none, a-call, Arguments, first, next}
 use Rattle.grammar.specs.Function.{functionOf}

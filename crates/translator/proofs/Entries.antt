@@ -28,7 +28,7 @@ use Rattle.table.proofs.Tests.{no-way, both-true, are-true}
 use Rattle.table.proofs.Numbers.{kind-eq}
 use Rattle.table.proofs.Shapes.{pop-front}
 use Rattle.table.proofs.Theorems.{widened}
-use Rattle.token.specs.Token.{Token, name, int32, int64, real, text, symbol, kindOf}
+use Rattle.lexer.specs.Token.{Token, name, int32, int64, real, text, symbol, kindOf}
 use Rattle.grammar.specs.Grammar.{rank, isPrefix}
 use Rattle.grammar.specs.Judge.{givesLogic, takesLogic, isName, isFolding, callRight, takesFolded, takesValues, takesTexts, takesName}
 use Rattle.grammar.specs.declared.found.Form.{Form}

@@ -19,7 +19,7 @@ use Rattle.table.proofs.Tests.{both-true, are-true}
 use Rattle.table.proofs.Numbers.{eq-shape}
 use Rattle.table.proofs.Passes.{all-right}
 use Rattle.table.proofs.Theorems.{decode-encode, check-encode}
-use Rattle.token.specs.Token.{Token, name, int32, int64, real, text, symbol}
+use Rattle.lexer.specs.Token.{Token, name, int32, int64, real, text, symbol}
 use Rattle.grammar.specs.Tree.{Tree}
 use Rattle.grammar.specs.Size.{entriesOf, poolOf, depthOf}
 use Rattle.grammar.specs.Judge.{isLogic}

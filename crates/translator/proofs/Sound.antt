@@ -19,7 +19,7 @@ use Rattle.table.proofs.Tests.{no-way, both-true, are-true}
 use Rattle.table.proofs.Numbers.{eq-shape}
 use Rattle.table.proofs.Shapes.{from-front}
 use Rattle.table.proofs.Passes.{all-land, all-right}
-use Rattle.token.specs.Token.{Token, name, int32, int64, real, text, symbol, kindOf}
+use Rattle.lexer.specs.Token.{Token, name, int32, int64, real, text, symbol, kindOf}
 use Rattle.grammar.specs.Tree.{Tree, leaf, group, unary, binary, call, Trees, none, _then_}
 use Rattle.grammar.specs.Function.{functionOf}
 use Rattle.grammar.specs.Size.{countOf, skips, entriesOf, entriesIn, poolBytes, poolOf, poolIn, depthOf, depthIn}
@@ -29,7 +29,7 @@ use Rattle.translator.proofs.Entries.{kindBy, Does, does-flow, Acts, Sk
 
 -- ---- sizes
 
-skip-size : (k n : ℕ) → length (skipEntries k n) + 1 ≡ cond (skips k) 2 1
+pub skip-size : (k n : ℕ) → length (skipEntries k n) + 1 ≡ cond (skips k) 2 1
 skip-size k n = go (eqb k 41) (eqb k 43)
   where
     go : (a b : Bool) → length (cond a (entry 44 (n + 1) 0 ∷ []) (cond b (entry 45 (n + 1) 0 ∷ []) [])) + 1 ≡ cond (a || b) 2 1

@@ -8,7 +8,7 @@ use lib.Ieee.{binary64, toBits}
 use lib.ListN.{length}
 use mir.Syntax.{w64}
 use mir.Val.{ofZ}
-use Rattle.token.specs.Token.{Token, name, int32, int64, real, text, symbol}
+use Rattle.lexer.specs.Token.{Token, name, int32, int64, real, text, symbol}
 use Rattle.grammar.specs.Tree.{Tree, leaf, group, unary, binary, call, Trees, none, _then_}
 use Rattle.grammar.specs.Function.{functionOf}
 use Rattle.grammar.specs.Size.{countOf, entriesOf, poolOf, poolIn}
@@ -26,6 +26,10 @@ leafEntry at (int64 z) = entry 2 0 (ofZ w64 z)
 leafEntry at (real x) = entry 3 0 (toBits binary64 x)
 leafEntry at (text s) = entry 4 (length s) at
 leafEntry at (symbol k) = entry k 0 0
+
+-- the op of the skip of `&&` and of `||`; 0 for any other operator
+abbrev pub skipOp : ℕ → ℕ
+skipOp k = cond (eqb k 41) 44 (cond (eqb k 43) 45 0)
 
 -- the skip before the right side of `&&` and of `||`, which has n entries
 abbrev pub skipEntries : ℕ → ℕ → List Entry

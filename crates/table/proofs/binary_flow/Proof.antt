@@ -10,27 +10,21 @@ use Rattle.table.proofs.binary_takes.Reads as binary-takes-reads
 use Rattle.table.proofs.pop_one.Reads as pop-one-reads
 use Rattle.table.proofs.push_one.Reads as push-one-reads
 
--- src/lib.rt:219:9
 binary-takes-requires : tie.Need-binary-takes-requires
 binary-takes-requires c κs = search needs
 
--- src/lib.rt:220:9
 binary-gives-requires : tie.Need-binary-gives-requires
 binary-gives-requires c κs = search needs
 
--- src/lib.rt:221:22
 pop-one-requires : tie.Need-pop-one-requires
 pop-one-requires c κs = search needs
 
--- src/lib.rt:221:14
 pop-one-requires-2 : tie.Need-pop-one-requires-2
 pop-one-requires-2 c κs = search needs
 
--- src/lib.rt:221:5
 push-one-requires : tie.Need-push-one-requires
 push-one-requires c κs = search needs
 
--- src/lib.rt:216:1
 returns : tie.Need-returns
 returns c =
     λ a s e.

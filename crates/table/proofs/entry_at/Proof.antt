@@ -6,35 +6,27 @@ use Rattle.table.proofs.entry_at.Lts as lts
 use Rattle.word.proofs.read_u16.Reads as read-u16-reads
 use Rattle.word.proofs.read_u64.Reads as read-u64-reads
 
--- src/lib.rt:42:14
 mul-at : tie.Need-mul-at
 mul-at c = search needs
 
--- src/lib.rt:43:36
 add-read-u16 : tie.Need-add-read-u16
 add-read-u16 c = search needs
 
--- src/lib.rt:43:9
 read-u16-requires : tie.Need-read-u16-requires
 read-u16-requires c κs = search needs
 
--- src/lib.rt:44:35
 add-read-u16-2 : tie.Need-add-read-u16-2
 add-read-u16-2 c = search needs
 
--- src/lib.rt:44:9
 read-u16-requires-2 : tie.Need-read-u16-requires-2
 read-u16-requires-2 c κs = search needs
 
--- src/lib.rt:45:35
 add-read-u64 : tie.Need-add-read-u64
 add-read-u64 c = search needs
 
--- src/lib.rt:45:9
 read-u64-requires : tie.Need-read-u64-requires
 read-u64-requires c κs = search needs
 
--- src/lib.rt:38:1
 returns : tie.Need-returns
 returns c = rw (c .before .before .read-u16 .ensures, c .before .read-u162 .ensures, c .read-u64 .ensures)
 

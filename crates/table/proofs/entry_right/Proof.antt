@@ -7,61 +7,47 @@ use Rattle.table.proofs.entry_right.Lts as lts
 use Rattle.opcode.proofs.op_of.Reads as op-of-reads
 use Rattle.table.proofs.load_right.Reads as load-right-reads
 
--- src/lib.rt:122:9
 op-of-requires : tie.Need-op-of-requires
 op-of-requires c κs = search needs
 
--- src/lib.rt:124:18
 enum-known-op : tie.Need-enum-known-op
 enum-known-op c = search needs
 
--- src/lib.rt:124:24
 load-right-requires : tie.Need-load-right-requires
 load-right-requires c κs = search needs
 
--- src/lib.rt:125:26
 enum-told : tie.Need-enum-told
 enum-told c = search needs
 
--- src/lib.rt:126:27
 enum-told-2 : tie.Need-enum-told-2
 enum-told-2 c = search needs
 
--- src/lib.rt:127:26
 enum-told-3 : tie.Need-enum-told-3
 enum-told-3 c = search needs
 
--- src/lib.rt:128:25
 enum-told-4 : tie.Need-enum-told-4
 enum-told-4 c = search needs
 
--- src/lib.rt:129:24
 enum-told-5 : tie.Need-enum-told-5
 enum-told-5 c = search needs
 
--- src/lib.rt:119:1
 returns : tie.Need-returns
 returns c =
     c .load-right .ensures ∙ rw (sym (c .before .before .before .before .op-of .ensures) ∙ c .before .before .op .given .1)
 
--- src/lib.rt:119:1
 returns-2 : tie.Need-returns-2
 returns-2 c = rw (sym (c .before .before .before .before .op-of .ensures) ∙ c .before .before .enum-told .given .1)
 
--- src/lib.rt:119:1
 returns-3 : tie.Need-returns-3
 returns-3 c = rw (sym (c .before .before .before .before .op-of .ensures) ∙ c .before .before .enum-told2 .given .1)
 
--- src/lib.rt:119:1
 returns-4 : tie.Need-returns-4
 returns-4 c =
     rw (sym (c .before .before .before .before .before .op-of .ensures) ∙ c .before .before .before .enum-told3 .given .1)
 
--- src/lib.rt:119:1
 returns-5 : tie.Need-returns-5
 returns-5 c = rw (sym (c .before .before .before .before .op-of .ensures) ∙ c .before .before .enum-told4 .given .1)
 
--- src/lib.rt:119:1
 returns-6 : tie.Need-returns-6
 returns-6 c = search needs
 

@@ -13,84 +13,65 @@ use Rattle.table.proofs.push_one.Reads as push-one-reads
 use Rattle.table.proofs.skip_flow.Reads as skip-flow-reads
 use Rattle.table.proofs.unary_flow.Reads as unary-flow-reads
 
--- src/lib.rt:248:9
 op-of-requires : tie.Need-op-of-requires
 op-of-requires c κs = search needs
 
--- src/lib.rt:250:24
 enum-told : tie.Need-enum-told
 enum-told c = search needs
 
--- src/lib.rt:250:24
 load-flow-requires : tie.Need-load-flow-requires
 load-flow-requires c κs = search needs
 
--- src/lib.rt:251:19
 enum-known-op : tie.Need-enum-known-op
 enum-known-op c = search needs
 
--- src/lib.rt:251:25
 unary-flow-requires : tie.Need-unary-flow-requires
 unary-flow-requires c κs = search needs
 
--- src/lib.rt:252:20
 enum-known-op-2 : tie.Need-enum-known-op-2
 enum-known-op-2 c = search needs
 
--- src/lib.rt:252:26
 binary-flow-requires : tie.Need-binary-flow-requires
 binary-flow-requires c κs = search needs
 
--- src/lib.rt:253:24
 enum-told-2 : tie.Need-enum-told-2
 enum-told-2 c = search needs
 
--- src/lib.rt:253:24
 many-flow-requires : tie.Need-many-flow-requires
 many-flow-requires c κs = search needs
 
--- src/lib.rt:254:24
 enum-told-3 : tie.Need-enum-told-3
 enum-told-3 c = search needs
 
--- src/lib.rt:254:24
 skip-flow-requires : tie.Need-skip-flow-requires
 skip-flow-requires c κs = search needs
 
--- src/lib.rt:255:24
 enum-told-4 : tie.Need-enum-told-4
 enum-told-4 c = search needs
 
--- src/lib.rt:255:24
 push-one-requires : tie.Need-push-one-requires
 push-one-requires c κs = search needs
 
--- src/lib.rt:245:1
 returns : tie.Need-returns
 returns c =
     λ s e. rw (sym (c .before .before .before .op-of .ensures) ∙ c .before .enum-told .given .1) (c .load-flow .ensures (c .before .enum-told .given .0 .0) (c .before .before .before .before .args .e .a) s e)
 
--- src/lib.rt:245:1
 returns-2 : tie.Need-returns-2
 returns-2 c =
     λ s e. rw (sym (c .before .before .before .before .op-of .ensures) ∙ c .before .before .op .given .1) (c .unary-flow .ensures (c .before .before .before .before .before .args .e .a) s e)
 
--- src/lib.rt:245:1
 returns-3 : tie.Need-returns-3
 returns-3 c =
     λ s e. rw (sym (c .before .before .before .before .op-of .ensures) ∙ c .before .before .op2 .given .1) (c .binary-flow .ensures (c .before .before .before .before .before .args .e .a) s e)
 
--- src/lib.rt:245:1
 returns-4 : tie.Need-returns-4
 returns-4 c =
     λ s e. rw (sym (c .before .before .before .op-of .ensures) ∙ c .before .enum-told2 .given .1) (c .many-flow .ensures (c .before .enum-told2 .given .0 .0) s e)
 
--- src/lib.rt:245:1
 returns-5 : tie.Need-returns-5
 returns-5 c =
     λ s e. rw (sym (c .before .before .before .op-of .ensures) ∙ c .before .enum-told3 .given .1) (c .skip-flow .ensures (c .before .enum-told3 .given .0 .0) (c .before .before .before .before .args .e .a) s e)
 
--- src/lib.rt:245:1
 returns-6 : tie.Need-returns-6
 returns-6 c =
     λ s e. rw (sym (c .before .before .before .op-of .ensures) ∙ c .before .enum-told4 .given .1) (c .push-one .ensures logic s refl e)

@@ -1,11 +1,9 @@
 use Rattle.table.proofs.Tests.{word-range}
-use borrow.Author.Needs.{needs}
 use Rattle.table.proofs.in_range.Statement.{statement}
 use Rattle.table.proofs.in_range.Tie as tie
 use Rattle.table.proofs.in_range.Reads as reads
 use Rattle.table.proofs.in_range.Lts as lts
 
--- src/lib.rt:78:1
 returns : tie.Need-returns
 returns c = word-range (c .args .b) (c .fits .b .fits)
 

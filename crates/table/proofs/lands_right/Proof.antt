@@ -1,4 +1,3 @@
-use mathlib.Core.Path.{sym, _∙_}
 use borrow.Author.Tests.{lt-leb, le-leb}
 use borrow.Author.Needs.{needs}
 use Rattle.table.proofs.lands_right.Statement.{statement}
@@ -6,35 +5,27 @@ use Rattle.table.proofs.lands_right.Tie as tie
 use Rattle.table.proofs.lands_right.Reads as reads
 use Rattle.table.proofs.lands_right.Lts as lts
 
--- src/lib.rt:303:14
 add-to : tie.Need-add-to
 add-to c = search needs
 
--- src/lib.rt:303:14
 add-to-2 : tie.Need-add-to-2
 add-to-2 c = search needs
 
--- src/lib.rt:305:9
 returns : tie.Need-returns
 returns c = rw (lt-leb _ _ (c .if1 .taken))
 
--- src/lib.rt:307:5
 mul-result : tie.Need-mul-result
 mul-result c = search needs
 
--- src/lib.rt:307:5
 element-copy-out-result : tie.Need-element-copy-out-result
 element-copy-out-result c = search needs
 
--- src/lib.rt:307:19
 mul-result-2 : tie.Need-mul-result-2
 mul-result-2 c = search needs
 
--- src/lib.rt:307:19
 element-copy-out-result-2 : tie.Need-element-copy-out-result-2
 element-copy-out-result-2 c = search needs
 
--- src/lib.rt:299:1
 returns-2 : tie.Need-returns-2
 returns-2 c = rw (le-leb _ _ (c .before .before .if1 .left))
 

@@ -1,4 +1,3 @@
-use mathlib.Core.Path.{sym}
 use borrow.Author.Tests.{lt-leb, le-leb}
 use Rattle.table.specs.Table.{layoutOf}
 use borrow.Author.Needs.{needs}
@@ -10,52 +9,40 @@ use Rattle.table.proofs.count.Reads as count-reads
 use Rattle.word.proofs.read_u16.Reads as read-u16-reads
 use Rattle.word.proofs.read_u32.Reads as read-u32-reads
 
--- src/lib.rt:63:9
 returns : tie.Need-returns
 unfolding layoutOf
 returns c = rw (lt-leb 10 _ (c .if1 .taken))
 
--- src/lib.rt:65:16
 read-u32-requires : tie.Need-read-u32-requires
 read-u32-requires c κs = search needs
 
--- src/lib.rt:65:16
 cast-size : tie.Need-cast-size
 cast-size c = search needs
 
--- src/lib.rt:66:9
 read-u16-requires : tie.Need-read-u16-requires
 read-u16-requires c κs = search needs
 
--- src/lib.rt:67:9
 count-requires : tie.Need-count-requires
 count-requires c κs = search needs
 
--- src/lib.rt:68:13
 read-u16-requires-2 : tie.Need-read-u16-requires-2
 read-u16-requires-2 c κs = search needs
 
--- src/lib.rt:68:13
 cast-p : tie.Need-cast-p
 cast-p c = search needs
 
--- src/lib.rt:69:6
 add-result : tie.Need-add-result
 add-result c = search needs
 
--- src/lib.rt:72:40
 mul-result : tie.Need-mul-result
 mul-result c = search needs
 
--- src/lib.rt:72:35
 add-result-2 : tie.Need-add-result-2
 add-result-2 c = search needs
 
--- src/lib.rt:72:35
 add-result-3 : tie.Need-add-result-3
 add-result-3 c = search needs
 
--- src/lib.rt:58:1
 returns-2 : tie.Need-returns-2
 unfolding layoutOf
 returns-2 c =

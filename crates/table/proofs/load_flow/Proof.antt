@@ -7,11 +7,9 @@ use Rattle.table.proofs.load_flow.Reads as reads
 use Rattle.table.proofs.load_flow.Lts as lts
 use Rattle.table.proofs.push_one.Reads as push-one-reads
 
--- src/lib.rt:205:5
 push-one-requires : tie.Need-push-one-requires
 push-one-requires c κs = search needs
 
--- src/lib.rt:202:1
 returns : tie.Need-returns
 returns c = λ l a s e. c .push-one .ensures value s refl e
 

@@ -22,36 +22,28 @@ Inv-loop a c d₀ left₀ d left = (s : Option (List Kind)) → c ≡ numberOf s
 abbrev μ-loop : tie.MeasureT-loop
 μ-loop a c d₀ left₀ d left = left
 
--- src/lib.rt:228:9
 pop-one-requires : tie.Need-pop-one-requires Inv-loop μ-loop
 pop-one-requires c κs = search needs
 
--- src/lib.rt:230:5
 loop-holds : tie.Need-loop-holds Inv-loop μ-loop
 loop-holds c = λ s e. record { stack = popOne value s; is = c .pop-one .ensures value s refl e; rest = refl }
 
--- src/lib.rt:231:9
 pop-one-requires-2 : tie.Need-pop-one-requires-2 Inv-loop μ-loop
 pop-one-requires-2 c κs = search needs
 
--- src/lib.rt:232:9
 sub-left : tie.Need-sub-left Inv-loop μ-loop
 sub-left c = search needs
 
--- src/lib.rt:230:5
 loop-less : tie.Need-loop-less Inv-loop μ-loop
 loop-less c = search needs
 
--- src/lib.rt:230:5
 loop-again : tie.Need-loop-again Inv-loop μ-loop
 loop-again c =
     λ s e. pop-more (c .before .before .loop .left) (c .before .before .loop .d) (c .pop-one2 .result) _ (omega arith) (c .before .before .loop .inv s e) (c .pop-one2 .ensures)
 
--- src/lib.rt:234:5
 push-one-requires : tie.Need-push-one-requires Inv-loop μ-loop
 push-one-requires c κs = omega arith
 
--- src/lib.rt:225:1
 returns : tie.Need-returns Inv-loop μ-loop
 returns c =
     λ m s e.

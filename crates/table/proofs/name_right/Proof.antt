@@ -1,5 +1,5 @@
 use mathlib.Core.Path.{_≡_, sym, _∙_}
-use mathlib.Core.Bool.{true, false}
+use mathlib.Core.Bool.{true}
 use Prim.Native.Nat.{_+_, _-_, _≤_}
 use native.Mathlib.Omega.{arith}
 use borrow.Author.Tests.{not-true, not-false, leb-true}
@@ -13,43 +13,34 @@ use Rattle.table.proofs.name_right.Lts as lts
 use Rattle.notice.proofs.name_right.Reads as name-right-reads
 use Rattle.table.proofs.part_right.Reads as part-right-reads
 
--- src/lib.rt:99:9
 part-right-requires : tie.Need-part-right-requires
 part-right-requires c κs = search needs
 
--- src/lib.rt:100:9
 returns : tie.Need-returns
 returns c = rw (sym (c .before .part-right .ensures) ∙ not-true _ (c .if1 .taken))
 
--- src/lib.rt:103:24
 cast-end : tie.Need-cast-end
 cast-end c = search needs
 
--- src/lib.rt:103:15
 add-end : tie.Need-add-end
 add-end c =
     let h : c .before .before .before .before .args .e .a + c .before .before .before .before .args .e .b ≤ length (c .before .before .before .before .args .pool .now) = leb-true _ _ (sym (c .before .before .part-right .ensures) ∙ not-false _ (c .before .if1 .left)) in
     search needs
 
--- src/lib.rt:104:24
 sub-name-right : tie.Need-sub-name-right
 sub-name-right c = search needs
 
--- src/lib.rt:104:24
 part-name-right-start : tie.Need-part-name-right-start
 part-name-right-start c = search needs
 
--- src/lib.rt:104:24
 part-name-right-end : tie.Need-part-name-right-end
 part-name-right-end c =
     let h : c .before .before .before .before .args .e .a + c .before .before .before .before .args .e .b ≤ length (c .before .before .before .before .args .pool .now) = leb-true _ _ (sym (c .before .before .part-right .ensures) ∙ not-false _ (c .before .if1 .left)) in
     search needs
 
--- src/lib.rt:104:5
 name-right-requires : tie.Need-name-right-requires
 name-right-requires c κs = search needs
 
--- src/lib.rt:96:1
 returns-2 : tie.Need-returns-2
 returns-2 c =
     let p : partRight (c .before .before .before .before .before .before .args .pool .now) (c .before .before .before .before .before .before .args .e) ≡ true = sym (c .before .before .before .before .part-right .ensures) ∙ not-false _ (c .before .before .before .if1 .left) in

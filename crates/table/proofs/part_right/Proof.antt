@@ -10,20 +10,16 @@ use Rattle.table.proofs.part_right.Tie as tie
 use Rattle.table.proofs.part_right.Reads as reads
 use Rattle.table.proofs.part_right.Lts as lts
 
--- src/lib.rt:90:9
 returns : tie.Need-returns
 returns c =
     sym (lt-leb (c .before .args .e .a + c .before .args .e .b) (length (c .before .args .pool .now)) (omega arith))
 
--- src/lib.rt:92:6
 cast-result : tie.Need-cast-result
 cast-result c = search needs
 
--- src/lib.rt:92:23
 sub-result : tie.Need-sub-result
 sub-result c = search needs
 
--- src/lib.rt:85:1
 returns-2 : tie.Need-returns-2
 returns-2 c =
     room-left (c .before .before .args .e .a) (c .before .before .args .e .b) (length (c .before .before .args .pool .now)) (omega arith)

@@ -1,5 +1,5 @@
-use mathlib.Core.Path.{_≡_, _∙_}
-use Prim.Native.Nat.{_+_, _*_, _-_, _≤_}
+use mathlib.Core.Path.{_∙_}
+use Prim.Native.Nat.{_+_, _*_, _-_}
 use native.Mathlib.Omega.{arith}
 use lib.ListN.{length, drop, length-drop}
 use lib.Seq.{take-all}
@@ -10,31 +10,24 @@ use Rattle.table.proofs.pool.Reads as reads
 use Rattle.table.proofs.pool.Lts as lts
 use Rattle.table.proofs.count.Reads as count-reads
 
--- src/lib.rt:54:27
 count-requires : tie.Need-count-requires
 count-requires c κs = search needs
 
--- src/lib.rt:54:22
 mul-start : tie.Need-mul-start
 mul-start c = search needs
 
--- src/lib.rt:54:17
 add-start : tie.Need-add-start
 add-start c = search needs
 
--- src/lib.rt:55:5
 sub-result : tie.Need-sub-result
 sub-result c = search needs
 
--- src/lib.rt:55:5
 part-result-start : tie.Need-part-result-start
 part-result-start c = search needs
 
--- src/lib.rt:55:5
 part-result-end : tie.Need-part-result-end
 part-result-end c = search needs
 
--- src/lib.rt:50:1
 returns : tie.Need-returns
 returns c =
     let t = c .before .before .before .args .table .now in

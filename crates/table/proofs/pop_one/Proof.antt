@@ -1,21 +1,16 @@
-use mathlib.Core.Path.{sym, _∙_}
 use native.Mathlib.Omega.{arith}
 use Rattle.table.proofs.Numbers.{pop-low, pop-other, pop-right}
-use borrow.Author.Needs.{needs}
 use Rattle.table.proofs.pop_one.Statement.{statement}
 use Rattle.table.proofs.pop_one.Tie as tie
 use Rattle.table.proofs.pop_one.Reads as reads
 use Rattle.table.proofs.pop_one.Lts as lts
 
--- src/lib.rt:140:9
 returns : tie.Need-returns
 returns c = λ t s e f. pop-low t s (omega arith)
 
--- src/lib.rt:143:9
 returns-2 : tie.Need-returns-2
 returns-2 c = λ t s e f. pop-other t s (λ h. c .if2 .taken (omega arith))
 
--- src/lib.rt:136:1
 returns-3 : tie.Need-returns-3
 returns-3 c = λ t s e f. rw f (pop-right t s (omega arith) (omega arith))
 

@@ -1,4 +1,4 @@
-use mathlib.Core.Path.{sym, _∙_}
+use mathlib.Core.Path.{_∙_}
 use native.Mathlib.Omega.{arith}
 use Rattle.table.proofs.Numbers.{push-none, push-full, push-right}
 use borrow.Author.Needs.{needs}
@@ -7,23 +7,18 @@ use Rattle.table.proofs.push_one.Tie as tie
 use Rattle.table.proofs.push_one.Reads as reads
 use Rattle.table.proofs.push_one.Lts as lts
 
--- src/lib.rt:154:9
 returns : tie.Need-returns
 returns c = λ g s e f. push-none g s (omega arith)
 
--- src/lib.rt:157:9
 returns-2 : tie.Need-returns-2
 returns-2 c = λ g s e f. push-full g s (omega arith)
 
--- src/lib.rt:159:5
 mul-result : tie.Need-mul-result
 mul-result c = search needs
 
--- src/lib.rt:159:5
 add-result : tie.Need-add-result
 add-result c = search needs
 
--- src/lib.rt:149:1
 returns-3 : tie.Need-returns-3
 returns-3 c = λ g s e f. rw (e, f) (push-right g s (λ z. c .before .if1 .left (f ∙ z)) (omega arith))
 

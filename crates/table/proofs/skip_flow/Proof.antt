@@ -9,15 +9,12 @@ use Rattle.table.proofs.skip_flow.Lts as lts
 use Rattle.table.proofs.pop_one.Reads as pop-one-reads
 use Rattle.table.proofs.push_one.Reads as push-one-reads
 
--- src/lib.rt:241:14
 pop-one-requires : tie.Need-pop-one-requires
 pop-one-requires c κs = search needs
 
--- src/lib.rt:241:5
 push-one-requires : tie.Need-push-one-requires
 push-one-requires c κs = search needs
 
--- src/lib.rt:238:1
 returns : tie.Need-returns
 returns c = λ k a s e. c .push-one .ensures logic (popOne logic s) refl (c .before .pop-one .ensures logic s refl e)
 

@@ -1,5 +1,5 @@
-use mathlib.Core.Path.{_≡_, sym, ap, _∙_}
-use mathlib.Core.Bool.{true, false, not}
+use mathlib.Core.Path.{_≡_, sym}
+use mathlib.Core.Bool.{true, false}
 use Prim.Native.Nat.{ℕ, _≤_, _<_, _-_}
 use native.Mathlib.Omega.{arith}
 use borrow.Author.Count.{below-none, below-more}
@@ -22,25 +22,20 @@ Inv-loop table n shapes i₀ i = (i ≤ n) × ((k : ℕ) → k < i → skipRight
 abbrev μ-loop : tie.MeasureT-loop
 μ-loop table n shapes i₀ i = n - i
 
--- src/lib.rt:315:5
 loop-holds : tie.Need-loop-holds Inv-loop μ-loop
 loop-holds c = (omega arith, below-none _)
 
--- src/lib.rt:316:13
 entry-at-requires : tie.Need-entry-at-requires Inv-loop μ-loop
 entry-at-requires c κs =
     inside (c .before .before .before .args .table .now) (c .before .before .before .pre .0) (c .before .loop .i) (omega (arith, c .before .before .before .pre .1))
 
--- src/lib.rt:317:12
 is-skip-requires : tie.Need-is-skip-requires Inv-loop μ-loop
 is-skip-requires c κs = search needs
 
--- src/lib.rt:317:26
 lands-right-requires : tie.Need-lands-right-requires Inv-loop μ-loop
 lands-right-requires c κs =
     (omega arith, let l = laid (c .before .before .before .before .before .args .table .now) (c .before .before .before .before .before .pre .0) in omega (arith, c .before .before .before .before .before .pre .1))
 
--- src/lib.rt:318:13
 returns : tie.Need-returns Inv-loop μ-loop
 returns c =
     let t = c .before .before .before .before .before .before .before .args .table .now in
@@ -48,15 +43,12 @@ returns c =
     let lost = skip-number t (c .before .before .before .before .before .before .before .args .shapes .now) (c .before .before .before .before .before .before .before .pre .2) (c .before .before .before .before .before .loop .i) h _ _ _ (c .before .before .before .entry-at .ensures) (c .before .before .is-skip .ensures) (rw (c .before .before .before .before .before .before .before .pre .1) at (c .before .lands-right .ensures)) true (c .if1 .taken) in
     sym (one-lost (entriesOf t) (c .before .before .before .before .before .before .before .args .n) (c .before .before .before .before .before .loop .i) (omega arith) lost)
 
--- src/lib.rt:320:9
 add-i : tie.Need-add-i Inv-loop μ-loop
 add-i c = search needs
 
--- src/lib.rt:315:5
 loop-less : tie.Need-loop-less Inv-loop μ-loop
 loop-less c = search needs
 
--- src/lib.rt:315:5
 loop-again : tie.Need-loop-again Inv-loop μ-loop
 loop-again c =
     let t = c .before .before .before .before .before .before .before .args .table .now in
@@ -64,7 +56,6 @@ loop-again c =
     let lands = skip-number t (c .before .before .before .before .before .before .before .args .shapes .now) (c .before .before .before .before .before .before .before .pre .2) (c .before .before .before .before .before .loop .i) h _ _ _ (c .before .before .before .entry-at .ensures) (c .before .before .is-skip .ensures) (rw (c .before .before .before .before .before .before .before .pre .1) at (c .before .lands-right .ensures)) false (c .if1 .left) in
     (omega arith, below-more _ _ (c .before .before .before .before .before .loop .inv .1) lands)
 
--- src/lib.rt:310:1
 returns-2 : tie.Need-returns-2 Inv-loop μ-loop
 returns-2 c =
     sym (all-land (entriesOf (c .before .before .before .args .table .now)) (c .before .before .before .args .n) (λ k h. c .before .loop .inv .1 k (omega arith)))

@@ -10,23 +10,18 @@ use Rattle.table.proofs.push_one.Reads as push-one-reads
 use Rattle.table.proofs.unary_gives.Reads as unary-gives-reads
 use Rattle.table.proofs.unary_takes.Reads as unary-takes-reads
 
--- src/lib.rt:211:9
 unary-takes-requires : tie.Need-unary-takes-requires
 unary-takes-requires c κs = search needs
 
--- src/lib.rt:212:9
 unary-gives-requires : tie.Need-unary-gives-requires
 unary-gives-requires c κs = search needs
 
--- src/lib.rt:213:14
 pop-one-requires : tie.Need-pop-one-requires
 pop-one-requires c κs = search needs
 
--- src/lib.rt:213:5
 push-one-requires : tie.Need-push-one-requires
 push-one-requires c κs = search needs
 
--- src/lib.rt:208:1
 returns : tie.Need-returns
 returns c =
     λ a s e.

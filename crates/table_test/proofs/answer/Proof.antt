@@ -8,39 +8,30 @@ use Rattle.table.proofs.check.Reads as check-reads
 use Rattle.table_test.proofs.put.Reads as put-reads
 use Rattle.table_test.proofs.put_table.Reads as put-table-reads
 
--- src/main.rt:40:8
 check-requires : tie.Need-check-requires
 check-requires c κs = search needs
 
--- src/main.rt:41:13
 slice-aggregate-put : tie.Need-slice-aggregate-put
 slice-aggregate-put c = search needs
 
--- src/main.rt:41:9
 put-requires : tie.Need-put-requires
 put-requires c κs = search needs
 
--- src/main.rt:42:9
 put-table-requires : tie.Need-put-table-requires
 put-table-requires c κs = sym (c .before .before .before .check .ensures) ∙ c .before .before .if1 .taken
 
--- src/main.rt:44:13
 slice-aggregate-put-2 : tie.Need-slice-aggregate-put-2
 slice-aggregate-put-2 c = search needs
 
--- src/main.rt:44:9
 put-requires-2 : tie.Need-put-requires-2
 put-requires-2 c κs = search needs
 
--- src/main.rt:46:9
 slice-aggregate-put-3 : tie.Need-slice-aggregate-put-3
 slice-aggregate-put-3 c = search needs
 
--- src/main.rt:46:5
 put-requires-3 : tie.Need-put-requires-3
 put-requires-3 c κs = search needs
 
--- src/main.rt:39:1
 returns : tie.Need-returns
 returns c = search needs
 

@@ -18,42 +18,33 @@ Inv-loop table n i₀ i = i ≤ n
 abbrev μ-loop : tie.MeasureT-loop
 μ-loop table n i₀ i = n - i
 
--- src/main.rt:30:9
 count-requires : tie.Need-count-requires Inv-loop μ-loop
 count-requires c κs = laid (c .before .args .table .now) (checked-layout (c .before .args .table .now) (c .before .pre)) .head
 
--- src/main.rt:32:5
 loop-holds : tie.Need-loop-holds Inv-loop μ-loop
 loop-holds c = omega arith
 
--- src/main.rt:33:9
 put-entry-requires : tie.Need-put-entry-requires Inv-loop μ-loop
 put-entry-requires c κs =
     inside (c .before .before .before .before .args .table .now) (checked-layout (c .before .before .before .before .args .table .now) (c .before .before .before .before .pre)) (c .before .loop .i) (omega (arith, c .before .before .count .ensures .0))
 
--- src/main.rt:34:9
 add-i : tie.Need-add-i Inv-loop μ-loop
 add-i c = search needs
 
--- src/main.rt:32:5
 loop-less : tie.Need-loop-less Inv-loop μ-loop
 loop-less c = search needs
 
--- src/main.rt:32:5
 loop-again : tie.Need-loop-again Inv-loop μ-loop
 loop-again c = search needs
 
--- src/main.rt:36:22
 pool-requires : tie.Need-pool-requires Inv-loop μ-loop
 pool-requires c κs =
     let l = laid (c .before .before .before .before .args .table .now) (checked-layout (c .before .before .before .before .args .table .now) (c .before .before .before .before .pre)) in
     (l .head, omega arith)
 
--- src/main.rt:36:5
 print-hex-requires : tie.Need-print-hex-requires Inv-loop μ-loop
 print-hex-requires c κs = search needs
 
--- src/main.rt:27:1
 returns : tie.Need-returns Inv-loop μ-loop
 returns c = search needs
 

@@ -4,7 +4,7 @@ use Rattle.grammar.proofs.stream.change.Statement.{statement}
 use Rattle.grammar.proofs.stream.change.Tie as tie
 use Rattle.grammar.proofs.stream.change.Reads as reads
 use Rattle.grammar.proofs.stream.change.Lts as lts
-use Rattle.token.proofs.name_is.Reads as name-is-reads
+use Rattle.lexer.proofs.name_is.Reads as name-is-reads
 
 -- src/stream.rt:95:33
 slice-aggregate-name-is : tie.Need-slice-aggregate-name-is

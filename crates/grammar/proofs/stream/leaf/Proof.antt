@@ -7,8 +7,8 @@ use Rattle.grammar.proofs.stream.leaf.Lts as lts
 use Rattle.grammar.proofs.found.leaf.Reads as leaf-reads
 use Rattle.grammar.proofs.stream.kind.Reads as kind-reads
 use Rattle.grammar.proofs.stream.start.Reads as start-reads
-use Rattle.token.proofs.name_length.Reads as name-length-reads
-use Rattle.token.proofs.string_length.Reads as string-length-reads
+use Rattle.lexer.proofs.name_length.Reads as name-length-reads
+use Rattle.lexer.proofs.string_length.Reads as string-length-reads
 
 -- src/stream.rt:66:9
 kind-requires : tie.Need-kind-requires

@@ -1,0 +1,121 @@
+-- Steps and ends of the loops over runs: what the rest gives from a place on is what the whole gives. Assumes nothing.
+use mathlib.Core.Path.{_≡_, refl, sym, ap, _∙_}
+use mathlib.Core.Bool.{Bool, true, false, not, _&&_}
+use mathlib.Core.List.{List, [], _∷_, _++_}
+use Prim.Native.Nat.{ℕ, zero, suc, _+_, _-_, _≤_, _<_}
+use native.Mathlib.Numerals.{add-one}
+use native.Mathlib.Omega.{arith}
+use lib.Dec.{eqb}
+use lib.ListN.{length, getD, take, drop, set, drop-of-length-le, length-drop, length-append, List·getD-eq-default}
+use lib.Seq.{drop-cons, sets, take-all, take-append-seam, drop-length}
+use borrow.Author.Tests.{eq-eqb, ne-eqb}
+use Rattle.octets.specs.Octets.{folded, sameOf}
+use Rattle.octets.proofs.Theorems.{true-false, not-folded}
+use Rattle.lexer.specs.Run.{takes, ends, runFrom, runOf, unescaped, hasEscape, legalByte, legalName}
+
+-- a place past the end
+pub past-byte : (s : List ℕ) (i : ℕ) → length s ≤ i → 0 ≡ getD s i 0
+past-byte s i h = sym (List·getD-eq-default s 0 h)
+
+-- a part that goes on to the end
+pub to-end : (s : List ℕ) (i : ℕ) → take (length s - i) (drop i s) ≡ drop i s
+to-end s i = take-all (length s - i) (drop i s) (simp length-drop (omega arith))
+
+pub past-part : (s : List ℕ) (i : ℕ) → length s < i → take (length s - length s) (drop (length s) s) ≡ drop i s
+past-part s i h = rw (to-end s (length s), drop-of-length-le s {i = i} (omega arith)) (drop-length s)
+
+pub ends-delimiter : (q b : ℕ) → q ≡ 0 → ends 0 b ≡ ends q b
+ends-delimiter q b e = rw e
+
+pub ends-quote : (q b : ℕ) → (q ≡ 0 → ⊥) → eqb b q ≡ ends q b
+ends-quote zero b f = absurd (f refl)
+ends-quote (suc q) b f = refl
+
+-- a run
+module _ (s : List ℕ) (i : ℕ) where
+  module _ (h : i < length s) where
+    pub run-stop : (q : ℕ) (t : Bool) → (not t && ends q (getD s i 0)) ≡ true → length (runFrom q t (drop i s)) ≡ 0
+    run-stop q t e = rw (drop-cons s i 0 h, e)
+
+    pub run-more : (q : ℕ) (t : Bool) → (not t && ends q (getD s i 0)) ≡ false
+        → suc (length (runFrom q (takes t (getD s i 0)) (drop (i + 1) s))) ≡ length (runFrom q t (drop i s))
+    run-more q t e = rw (add-one, drop-cons s i 0 h, e)
+
+    -- escapes
+    pub escape-here : getD s i 0 ≡ 92 → true ≡ hasEscape (drop i s)
+    escape-here e = rw (drop-cons s i 0 h, eq-eqb (getD s i 0) 92 e)
+
+    pub escape-later : (getD s i 0 ≡ 92 → ⊥) → hasEscape (drop (i + 1) s) ≡ hasEscape (drop i s)
+    escape-later f = rw (add-one, drop-cons s i 0 h, ne-eqb (getD s i 0) 92 f)
+
+    pub dropped : (t : Bool) → takes t (getD s i 0) ≡ true → unescaped true (drop (i + 1) s) ≡ unescaped t (drop i s)
+    dropped t e = rw (add-one, drop-cons s i 0 h, e)
+
+    pub kept : (t : Bool) → takes t (getD s i 0) ≡ false → getD s i 0 ∷ unescaped false (drop (i + 1) s) ≡ unescaped t (drop i s)
+    kept t e = rw (add-one, drop-cons s i 0 h, e)
+
+    pub copied : (t : Bool) (p part : List ℕ) (n : ℕ) → takes t (getD s i 0) ≡ false → p ≡ set part n (getD s i 0)
+        → sets p (n + 1) (unescaped false (drop (i + 1) s)) ≡ sets part n (unescaped t (drop i s))
+    copied t p part n e f = rw (← kept t e, f, add-one n)
+
+    -- the bytes of a name
+    pub illegal : (t : Bool) → legalByte t (getD s i 0) ≡ false → false ≡ legalName t (drop i s)
+    illegal t e = rw (drop-cons s i 0 h, e)
+
+    pub legal-so-far : (t : Bool) → legalByte t (getD s i 0) ≡ true → legalName (takes t (getD s i 0)) (drop (i + 1) s) ≡ legalName t (drop i s)
+    legal-so-far t e = rw (add-one, drop-cons s i 0 h, e)
+
+  module _ (h : length s ≤ i) where
+    pub run-end : (q : ℕ) (t : Bool) → length (runFrom q t (drop i s)) ≡ 0
+    run-end q t = rw (drop-of-length-le s h)
+
+    pub no-escape : false ≡ hasEscape (drop i s)
+    no-escape = rw (drop-of-length-le s h)
+
+    pub unescaped-end : (t : Bool) → unescaped t (drop i s) ≡ []
+    unescaped-end t = rw (drop-of-length-le s h)
+
+    pub legal-end : (t : Bool) → not t ≡ legalName t (drop i s)
+    legal-end t = rw (drop-of-length-le s h)
+
+-- what stands first
+abbrev pub First : List ℕ → List ℕ → Type 0
+First p s = p ++ drop (length p) s ≡ s
+
+pub first-take : (p s : List ℕ) → First p s → take (length p) s ≡ p
+first-take p s e = ap (take (length p)) (sym e) ∙ take-append-seam p (drop (length p) s)
+
+-- the part that a range names
+pub first-part : (p s : List ℕ) (n : ℕ) → First p s → n ≡ length p → take (n - 0) s ≡ p
+first-part p s n f e = let z : n - 0 ≡ length p = omega arith in rw z (first-take p s f)
+
+pub first-fits : (p s : List ℕ) → First p s → length p ≤ length s
+first-fits p s e = omega (arith, ap length e, length-append p (drop (length p) s))
+
+pub run-first : (q : ℕ) (t : Bool) (s : List ℕ) → First (runFrom q t s) s
+run-first q t [] = refl
+run-first q t (b ∷ s) = go (run-first q (takes t b) s) (not t && ends q b) refl
+  where
+    go : First (runFrom q (takes t b) s) s → (e : Bool) → (not t && ends q b) ≡ e → First (runFrom q t (b ∷ s)) (b ∷ s)
+    go ih true e = rw e
+    go ih false e = rw e (ap (λ (l : List ℕ). b ∷ l) ih)
+
+-- what has no escape stays as it is, and is a word where it is the same
+pub no-escapes : (s : List ℕ) → hasEscape s ≡ false → unescaped false s ≡ s
+no-escapes [] e = refl
+no-escapes (b ∷ s) e = go (no-escapes s) (eqb b 92) refl
+  where
+    go : (hasEscape s ≡ false → unescaped false s ≡ s) → (x : Bool) → eqb b 92 ≡ x → unescaped false (b ∷ s) ≡ b ∷ s
+    go ih true f = true-false (rw f at e)
+    go ih false f = let g = rw f at e in rw f (ap (λ (l : List ℕ). b ∷ l) (ih g))
+
+pub word-escaped : (run word : List ℕ) → hasEscape run ≡ true → false ≡ (not (hasEscape run) && sameOf (unescaped false run) word)
+word-escaped run word e = rw e
+
+pub word-same : (run word : List ℕ) → hasEscape run ≡ false
+    → sameOf (folded false run) (folded false word) ≡ (not (hasEscape run) && sameOf (unescaped false run) word)
+word-same run word e =
+    let u = no-escapes run e in
+    let a = not-folded run in
+    let b = not-folded word in
+    rw (e, u, a, b)

@@ -1,0 +1,269 @@
+-- What stands first in a text: its class, what the code answers of it, and that a token takes at least one byte and not more than there are. Assumes nothing.
+use mathlib.Core.Path.{_≡_, refl, sym, ap, _∙_}
+use mathlib.Core.Bool.{Bool, true, false, not, cond, _&&_, _||_}
+use mathlib.Core.List.{List, [], _∷_}
+use Prim.Native.Nat.{ℕ, zero, suc, _+_, _-_, _≤_, _<_}
+use native.Mathlib.Decide.{decLe}
+use native.Mathlib.Omega.{arith}
+use lib.Dec.{eqb, leb}
+use lib.ListN.{length, getD, drop, length-drop, List·getD-eq-default}
+use borrow.Author.Tests.{leb-true, eqb-true, eqb-false, ne-eqb, eq-eqb, not-true}
+use Rattle.octets.proofs.Theorems.{and-parts, or-parts, true-false}
+use Rattle.lexer.specs.Byte.{startsName, startsNumber, isQuote}
+use Rattle.lexer.specs.Run.{runFrom, runOf, unescaped, takes, hasEscape, legalName, nameFits, bodyOf, isEmpty, isClosed}
+use Rattle.lexer.specs.Digits.{signLength, digitsOf}
+use Rattle.lexer.specs.Integer.{baseOf, prefixLength, integerDigits, suffixAt, isLong, isInteger, integerFits, integerOf}
+use Rattle.lexer.specs.Real.{wholeDigits, fromPoint, fractionDigits, exponentPart, isExponent, isReal, realFits, realOf}
+use Rattle.lexer.specs.Symbol.{threeBytes, twoBytes, doubled, symbolOf, symbolLength}
+use Rattle.lexer.specs.Token.{Token, name, int32, int64, real, text, symbol, kindOf, Scan, good, bad, judged, pick, scanName, integerToken, scanRun, scanNumber, scanString, scanBytes, scanSymbol, scanOf}
+use Rattle.lexer.specs.Answer.{scannedOf}
+use Rattle.lexer.specs.declared.Scanned.{Scanned}
+use Rattle.lexer.specs.declared.Scanned.the-variants.{Good, Bad}
+use Rattle.lexer.proofs.Runs.{First, first-fits, run-first}
+use Rattle.lexer.proofs.Wholes.{digits-first}
+
+pub pick-yes : {A : Type 0} (b : Bool) (x y : Unit {0} → A) → b ≡ true → pick b x y ≡ x tt
+pick-yes b x y e = rw e
+
+pub pick-no : {A : Type 0} (b : Bool) (x y : Unit {0} → A) → b ≡ false → pick b x y ≡ y tt
+pick-no b x y e = rw e
+
+-- the class of what stands first
+module _ (s : List ℕ) where
+  pub is-name : startsName (getD s 0 0) ≡ true → scanOf s ≡ scanName s
+  unfolding scanOf
+  is-name e = pick-yes (startsName (getD s 0 0)) _ _ e
+
+  module _ (n : startsName (getD s 0 0) ≡ false) where
+    pub is-number : startsNumber (getD s 0 0) (getD s 1 0) ≡ true → scanOf s ≡ scanNumber s
+    unfolding scanOf
+    is-number e = pick-no (startsName (getD s 0 0)) _ _ n ∙ pick-yes (startsNumber (getD s 0 0) (getD s 1 0)) _ _ e
+
+    module _ (m : startsNumber (getD s 0 0) (getD s 1 0) ≡ false) where
+      pub is-string : isQuote (getD s 0 0) ≡ true → scanOf s ≡ scanString s
+      unfolding scanOf
+      is-string e =
+          pick-no (startsName (getD s 0 0)) _ _ n
+          ∙ pick-no (startsNumber (getD s 0 0) (getD s 1 0)) _ _ m
+          ∙ pick-yes (isQuote (getD s 0 0)) _ _ e
+
+      pub is-symbol : isQuote (getD s 0 0) ≡ false → scanOf s ≡ scanSymbol s
+      unfolding scanOf
+      is-symbol e =
+          pick-no (startsName (getD s 0 0)) _ _ n
+          ∙ pick-no (startsNumber (getD s 0 0) (getD s 1 0)) _ _ m
+          ∙ pick-no (isQuote (getD s 0 0)) _ _ e
+
+-- what the code answers of a form, limits and a token
+module _ (form limits : Bool) (t : Token) (n : ℕ) where
+  pub no-form : form ≡ false → Bad 1 ≡ scannedOf (judged form limits t n)
+  no-form e = rw e
+
+  pub no-limits : form ≡ true → limits ≡ false → Bad 3 ≡ scannedOf (judged form limits t n)
+  no-limits e f = rw (e, f)
+
+  pub legal : form ≡ true → limits ≡ true → Good (kindOf t) n ≡ scannedOf (judged form limits t n)
+  legal e f = rw (e, f)
+
+module _ (s : List ℕ) where
+  named : Token
+  named = name (unescaped false (runOf 0 s)) (hasEscape (runOf 0 s))
+
+  pub name-illegal : legalName false (runOf 0 s) ≡ false → Bad 1 ≡ scannedOf (scanName s)
+  name-illegal e = no-form (legalName false (runOf 0 s)) (nameFits (unescaped false (runOf 0 s))) _ _ e
+
+  pub name-over : legalName false (runOf 0 s) ≡ true → nameFits (unescaped false (runOf 0 s)) ≡ false → Bad 3 ≡ scannedOf (scanName s)
+  name-over e f = no-limits (legalName false (runOf 0 s)) (nameFits (unescaped false (runOf 0 s))) _ _ e f
+
+  pub name-legal : legalName false (runOf 0 s) ≡ true → nameFits (unescaped false (runOf 0 s)) ≡ true → Good 5 (length (runOf 0 s)) ≡ scannedOf (scanName s)
+  unfolding named
+  name-legal e f = legal (legalName false (runOf 0 s)) (nameFits (unescaped false (runOf 0 s))) named (length (runOf 0 s)) e f
+
+pub scan-real : (run : List ℕ) → isReal run ≡ true → scanRun run ≡ judged true (realFits run) (real (realOf run)) (length run)
+scan-real run e = pick-yes (isReal run) _ _ e
+
+pub scan-integer : (run : List ℕ) → isReal run ≡ false → scanRun run ≡ judged (isInteger run) (integerFits run) (integerToken run) (length run)
+scan-integer run e = pick-no (isReal run) _ _ e
+
+module _ (run : List ℕ) where
+  pub real-over : isReal run ≡ true → realFits run ≡ false → Bad 3 ≡ scannedOf (scanRun run)
+  real-over e f = no-limits true (realFits run) (real (realOf run)) (length run) refl f ∙ ap scannedOf (sym (scan-real run e))
+
+  pub real-legal : isReal run ≡ true → realFits run ≡ true → Good 3 (length run) ≡ scannedOf (scanRun run)
+  real-legal e f = legal true (realFits run) (real (realOf run)) (length run) refl f ∙ ap scannedOf (sym (scan-real run e))
+
+  module _ (r : isReal run ≡ false) where
+    pub integer-illegal : isInteger run ≡ false → Bad 1 ≡ scannedOf (scanRun run)
+    integer-illegal e = no-form (isInteger run) (integerFits run) (integerToken run) (length run) e ∙ ap scannedOf (sym (scan-integer run r))
+
+    pub integer-over : isInteger run ≡ true → integerFits run ≡ false → Bad 3 ≡ scannedOf (scanRun run)
+    integer-over e f = no-limits (isInteger run) (integerFits run) (integerToken run) (length run) e f ∙ ap scannedOf (sym (scan-integer run r))
+
+    integer-legal : isInteger run ≡ true → integerFits run ≡ true → Good (kindOf (integerToken run)) (length run) ≡ scannedOf (scanRun run)
+    integer-legal e f = legal (isInteger run) (integerFits run) (integerToken run) (length run) e f ∙ ap scannedOf (sym (scan-integer run r))
+
+    pub long-legal : isInteger run ≡ true → integerFits run ≡ true → isLong run ≡ true → Good 2 (length run) ≡ scannedOf (scanRun run)
+    long-legal e f l = let k : 2 ≡ kindOf (integerToken run) = kind-of (isLong run) l in ap (λ (k : ℕ). Good k (length run)) k ∙ integer-legal e f
+      where
+        kind-of : (b : Bool) → b ≡ true → 2 ≡ kindOf (cond b (int64 (integerOf run)) (int32 (integerOf run)))
+        kind-of b e = rw e
+
+    pub short-legal : isInteger run ≡ true → integerFits run ≡ true → isLong run ≡ false → Good 1 (length run) ≡ scannedOf (scanRun run)
+    short-legal e f l = let k : 1 ≡ kindOf (integerToken run) = kind-of (isLong run) l in ap (λ (k : ℕ). Good k (length run)) k ∙ integer-legal e f
+      where
+        kind-of : (b : Bool) → b ≡ false → 1 ≡ kindOf (cond b (int64 (integerOf run)) (int32 (integerOf run)))
+        kind-of b e = rw e
+
+-- a string that closes, and one that does not
+module _ (s : List ℕ) where
+  pub string-open : length (drop (length (bodyOf s) + 1) s) ≡ 0 → Bad 1 ≡ scannedOf (scanString s)
+  string-open e =
+      let z : isClosed s ≡ false = rw (eq-eqb (length (drop (length (bodyOf s) + 1) s)) 0 e) in
+      no-form (isClosed s) true (text (unescaped false (bodyOf s))) (length (bodyOf s) + 2) z
+
+  pub string-legal : (length (drop (length (bodyOf s) + 1) s) ≡ 0 → ⊥) → Good 4 (length (bodyOf s) + 2) ≡ scannedOf (scanString s)
+  string-legal f =
+      let z : isClosed s ≡ true = rw (ne-eqb (length (drop (length (bodyOf s) + 1) s)) 0 f) in
+      legal (isClosed s) true (text (unescaped false (bodyOf s))) (length (bodyOf s) + 2) z refl
+
+module _ (a b c : ℕ) where
+  pub symbol-none : symbolOf a b c ≡ 0 → Bad 1 ≡ scannedOf (scanBytes a b c)
+  symbol-none e =
+      let z : not (eqb (symbolOf a b c) 0) ≡ false = ap not (eq-eqb (symbolOf a b c) 0 e) in
+      no-form (not (eqb (symbolOf a b c) 0)) true (symbol (symbolOf a b c)) (symbolLength a b c) z
+
+  pub symbol-legal : (symbolOf a b c ≡ 0 → ⊥) → Good (symbolOf a b c) (symbolLength a b c) ≡ scannedOf (scanBytes a b c)
+  symbol-legal f =
+      let z : not (eqb (symbolOf a b c) 0) ≡ true = ap not (ne-eqb (symbolOf a b c) 0 f) in
+      legal (not (eqb (symbolOf a b c) 0)) true (symbol (symbolOf a b c)) (symbolLength a b c) z refl
+
+-- what the code's answer tells of the token
+pub good-told : (x : Scan) (k n : ℕ) → scannedOf x ≡ Good k n → (t : Token) × (x ≡ good t n) × (kindOf t ≡ k)
+good-told (good t m) k n e = (t, cc, cc)
+good-told (bad j) k n e = let z : _≡_ {A = ℕ} 0 1 = cc in absurd (omega arith)
+
+pub bad-told : (x : Scan) (k : ℕ) → scannedOf x ≡ Bad k → x ≡ bad k
+bad-told (good t m) k e = let z : _≡_ {A = ℕ} 0 1 = cc in absurd (omega arith)
+bad-told (bad j) k e = cc
+
+-- a token takes at least one byte, and not more than there are
+abbrev pub Fit : ℕ → Scan → Type 0
+Fit m (good t n) = (0 < n) × (n ≤ m)
+Fit m (bad k) = Unit {0}
+
+judged-fit : (m : ℕ) (form limits : Bool) (t : Token) (n : ℕ) → (form ≡ true → limits ≡ true → (0 < n) × (n ≤ m)) → Fit m (judged form limits t n)
+judged-fit m false limits t n f = tt
+judged-fit m true false t n f = tt
+judged-fit m true true t n f = f refl refl
+
+unescaped-fits : (t : Bool) (s : List ℕ) → length (unescaped t s) ≤ length s
+unescaped-fits t [] = omega arith
+unescaped-fits t (b ∷ s) = go (unescaped-fits true s) (unescaped-fits false s) (takes t b) refl
+  where
+    go : length (unescaped true s) ≤ length s → length (unescaped false s) ≤ length s → (e : Bool) → takes t b ≡ e → length (unescaped t (b ∷ s)) ≤ length (b ∷ s)
+    go p q true e = rw e (omega arith)
+    go p q false e = rw e (omega arith)
+
+digits-fit : (base k : ℕ) (s : List ℕ) → length (digitsOf base (drop k s)) ≤ length s
+digits-fit base k s = let f = first-fits (digitsOf base (drop k s)) (drop k s) (digits-first base (drop k s)) in omega (arith, length-drop k s)
+
+not-empty : (s : List ℕ) → not (isEmpty s) ≡ true → 0 < length s
+not-empty [] e = true-false (sym e)
+not-empty (b ∷ s) e = omega arith
+
+run-fit : (s : List ℕ) → length (runOf 0 s) ≤ length s
+run-fit s = first-fits (runOf 0 s) s (run-first 0 false s)
+
+name-fit : (s : List ℕ) → Fit (length s) (scanName s)
+name-fit s =
+    judged-fit (length s) (legalName false (runOf 0 s)) (nameFits (unescaped false (runOf 0 s))) _ (length (runOf 0 s))
+    (λ e f.
+    let n = length (unescaped false (runOf 0 s)) in
+    let l = leb-true 1 n (and-parts (leb 1 n) (leb n 64) f .0) in
+    (omega (arith, l, unescaped-fits false (runOf 0 s)), run-fit s))
+
+real-digit : (run : List ℕ) → isReal run ≡ true → 0 < length run
+real-digit run e =
+    let some = not (isEmpty (wholeDigits run)) in
+    let point = eqb (getD (fromPoint run) 0 0) 46 in
+    let more = not (isEmpty (fractionDigits run)) in
+    let part = isEmpty (exponentPart run) || isExponent (exponentPart run) in
+    let p = and-parts some point (and-parts (some && point) more (and-parts (some && point && more) part e .0) .0) .0 in
+    let h = not-empty (wholeDigits run) p in
+    omega (arith, h, digits-fit 10 (signLength run) run)
+
+integer-digit : (run : List ℕ) → isInteger run ≡ true → 0 < length run
+integer-digit run e =
+    let p = and-parts (not (isEmpty (integerDigits run))) (eqb (length (drop (suffixAt run) run)) (cond (isLong run) 1 0)) e .0 in
+    let h = not-empty (integerDigits run) p in
+    omega (arith, h, digits-fit (baseOf run) (prefixLength run) run)
+
+number-fit : (s : List ℕ) → Fit (length s) (scanNumber s)
+number-fit s = go (isReal (runOf 0 s)) refl
+  where
+    go : (b : Bool) → isReal (runOf 0 s) ≡ b → Fit (length s) (scanNumber s)
+    go true e =
+        rw (scan-real (runOf 0 s) e)
+        (judged-fit (length s) true (realFits (runOf 0 s)) _ (length (runOf 0 s)) (λ _ f. (real-digit (runOf 0 s) e, run-fit s)))
+    go false e =
+        rw (scan-integer (runOf 0 s) e)
+        (judged-fit (length s) (isInteger (runOf 0 s)) (integerFits (runOf 0 s)) _ (length (runOf 0 s)) (λ i f. (integer-digit (runOf 0 s) i, run-fit s)))
+
+string-fit : (s : List ℕ) → Fit (length s) (scanString s)
+string-fit s =
+    judged-fit (length s) (isClosed s) true _ (length (bodyOf s) + 2)
+    (λ e f. (omega arith, omega (arith, not-empty (drop (length (bodyOf s) + 1) s) e, length-drop (length (bodyOf s) + 1) s)))
+
+-- a byte that is not 0 is there
+is-there : (s : List ℕ) (i : ℕ) → (getD s i 0 ≡ 0 → ⊥) → i < length s
+is-there s i f = go (decLe (length s) i)
+  where
+    go : Dec (length s ≤ i) → i < length s
+    go (yes h) = absurd (f (List·getD-eq-default s 0 h))
+    go (no h) = omega arith
+
+two-none : (a : ℕ) → twoBytes a 0 ≡ 0
+two-none a = go (eqb a 0) refl
+  where
+    go : (e : Bool) → eqb a 0 ≡ e → twoBytes a 0 ≡ 0
+    go true e = let z = eqb-true a 0 e in rw z
+    go false e = rw e
+
+three-none : (a b : ℕ) → threeBytes a b 0 ≡ 0
+three-none a b = go (eqb a 62 && eqb b 62)
+  where
+    go : (e : Bool) → _≡_ {A = ℕ} (cond (e && false) 18 0) 0
+    go true = refl
+    go false = refl
+
+symbol-fit : (s : List ℕ) → 0 < length s → Fit (length s) (scanSymbol s)
+symbol-fit s h =
+    judged-fit (length s) (not (eqb (symbolOf a b c) 0)) true _ (symbolLength a b c)
+    (λ e f. go (eqb (threeBytes a b c) 0) refl (eqb (twoBytes a b) 0) refl)
+  where
+    a : ℕ
+    a = getD s 0 0
+
+    b : ℕ
+    b = getD s 1 0
+
+    c : ℕ
+    c = getD s 2 0
+
+    go : (x : Bool) → eqb (threeBytes a b c) 0 ≡ x → (y : Bool) → eqb (twoBytes a b) 0 ≡ y → (0 < symbolLength a b c) × (symbolLength a b c ≤ length s)
+    go true e true f = rw (e, f) (omega arith, omega arith)
+    go true e false f =
+        let l = is-there s 1 (λ z. eqb-false (twoBytes a b) 0 f (ap (twoBytes a) z ∙ two-none a)) in
+        rw (e, f) (omega arith, omega arith)
+    go false e y f =
+        let l = is-there s 2 (λ z. eqb-false (threeBytes a b c) 0 e (ap (threeBytes a b) z ∙ three-none a b)) in
+        rw e (omega arith, omega arith)
+
+pub scan-fit : (s : List ℕ) → 0 < length s → Fit (length s) (scanOf s)
+scan-fit s h = go (startsName (getD s 0 0)) refl (startsNumber (getD s 0 0) (getD s 1 0)) refl (isQuote (getD s 0 0)) refl
+  where
+    go : (x : Bool) → startsName (getD s 0 0) ≡ x → (y : Bool) → startsNumber (getD s 0 0) (getD s 1 0) ≡ y → (z : Bool) → isQuote (getD s 0 0) ≡ z → Fit (length s) (scanOf s)
+    go true e y f z g = rw (is-name s e) (name-fit s)
+    go false e true f z g = rw (is-number s e f) (number-fit s)
+    go false e false f true g = rw (is-string s e f g) (string-fit s)
+    go false e false f false g = rw (is-symbol s e f g) (symbol-fit s h)

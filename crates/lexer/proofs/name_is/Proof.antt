@@ -1,0 +1,38 @@
+use mathlib.Core.Path.{_∙_, sym}
+use lib.ListN.{drop}
+use Rattle.lexer.specs.Run.{runOf}
+use Rattle.lexer.proofs.Runs.{word-escaped, word-same}
+use borrow.Author.Needs.{needs}
+use Rattle.lexer.proofs.name_is.Statement.{statement}
+use Rattle.lexer.proofs.name_is.Tie as tie
+use Rattle.lexer.proofs.name_is.Reads as reads
+use Rattle.lexer.proofs.name_is.Lts as lts
+use Rattle.lexer.proofs.run.has_escape.Reads as has-escape-reads
+use Rattle.lexer.proofs.run.run.Reads as run-reads
+use Rattle.octets.proofs.same.Reads as same-reads
+
+run-requires : tie.Need-run-requires
+run-requires c κs = search needs
+
+has-escape-requires : tie.Need-has-escape-requires
+has-escape-requires c κs = search needs
+
+returns : tie.Need-returns
+returns c =
+    let a = c .before .before .before .before .before .args in
+    let e = rw (c .before .before .run .ensures) at (c .before .has-escape .ensures) in
+    word-escaped (runOf 0 (drop (a .at) (a .text .now))) (a .word .now) (sym e ∙ c .if1 .taken)
+
+same-requires : tie.Need-same-requires
+same-requires c κs = search needs
+
+returns-2 : tie.Need-returns-2
+returns-2 c =
+    let a = c .before .before .before .before .before .before .args in
+    let e = rw (c .before .before .before .run .ensures) at (c .before .before .has-escape .ensures) in
+    let f = rw (c .before .before .before .run .ensures) at (c .same .ensures) in
+    f ∙ word-same (runOf 0 (drop (a .at) (a .text .now))) (a .word .now) (sym e ∙ c .before .if1 .left)
+
+pub name-is-spec : {M : Type 1} → statement M
+name-is-spec =
+    tie.close (tie.spec run-requires has-escape-requires returns same-requires returns-2)

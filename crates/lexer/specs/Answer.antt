@@ -1,0 +1,18 @@
+-- What the code answers, by the definitions.
+use Prim.Native.Nat.{ℕ}
+use lib.ListN.{length}
+use Rattle.lexer.specs.Token.{Scan, good, bad, kindOf, Lexed, tokens, refused}
+use Rattle.lexer.specs.declared.Lexing.{Lexing}
+use Rattle.lexer.specs.declared.Lexing.the-variants.{Tokens, Refused}
+use Rattle.lexer.specs.declared.Scanned.{Scanned}
+use Rattle.lexer.specs.declared.Scanned.the-variants.{Good, Bad}
+
+-- how many tokens a text has; or document 01's number, and the place
+abbrev pub lexingOf : Lexed → Lexing
+lexingOf (tokens ps) = Tokens (length ps)
+lexingOf (refused k at ps) = Refused k at
+
+-- a token by its kind number and its length; or document 01's number
+abbrev pub scannedOf : Scan → Scanned
+scannedOf (good t n) = Good (kindOf t) n
+scannedOf (bad k) = Bad k

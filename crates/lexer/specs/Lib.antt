@@ -1,0 +1,10 @@
+pub mod Byte
+pub mod Run
+pub mod Digits
+pub mod Integer
+pub mod Real
+pub mod Symbol
+pub mod Token
+pub mod Answer
+pub mod Ascii
+pub mod Theorems

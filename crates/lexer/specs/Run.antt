@@ -1,0 +1,58 @@
+-- The bytes of a name, of a number and of a string, with the escapes in them. Document 01, "Tokens".
+-- The Bool of a definition says whether a backslash before takes the first byte.
+use Prim.Native.Nat.{ℕ, zero, suc, _+_}
+use mathlib.Core.Bool.{Bool, true, false, not, cond, _&&_, _||_}
+use mathlib.Core.List.{List, [], _∷_}
+use lib.Dec.{eqb, leb}
+use lib.ListN.{length, getD, drop}
+use Rattle.lexer.specs.Byte.{within, isDelimiter, isPlain}
+
+-- "A backslash takes the next byte": a byte is such a backslash if it is not taken itself
+abbrev pub takes : Bool → ℕ → Bool
+takes taken b = not taken && eqb b 92
+
+-- what ends a string is its quote; what ends a name or a number (quote 0) is "whitespace, end, `(`, `)` or `,`"
+abbrev pub ends : ℕ → ℕ → Bool
+ends zero b = isDelimiter b
+ends (suc q) b = eqb b (suc q)
+
+-- the bytes up to the first one that ends them and is not taken
+abbrev pub runFrom : ℕ → Bool → List ℕ → List ℕ
+runFrom quote taken [] = []
+runFrom quote taken (b ∷ s) = cond (not taken && ends quote b) [] (b ∷ runFrom quote (takes taken b) s)
+
+abbrev pub runOf : ℕ → List ℕ → List ℕ
+runOf quote s = runFrom quote false s
+
+-- the bytes without the backslashes that take another
+abbrev pub unescaped : Bool → List ℕ → List ℕ
+unescaped taken [] = []
+unescaped taken (b ∷ s) = cond (takes taken b) (unescaped true s) (b ∷ unescaped false s)
+
+-- whether there is an escape: the first backslash is one
+abbrev pub hasEscape : List ℕ → Bool
+hasEscape [] = false
+hasEscape (b ∷ s) = eqb b 92 || hasEscape s
+
+-- "A backslash takes the next byte, which must be 32..126. Unescaped bytes must be 33..126 and none of `[ ] ' "`."
+abbrev pub legalByte : Bool → ℕ → Bool
+legalByte true b = within 32 126 b
+legalByte false b = isPlain b
+
+abbrev pub legalName : Bool → List ℕ → Bool
+legalName taken [] = not taken
+legalName taken (b ∷ s) = legalByte taken b && legalName (takes taken b) s
+
+-- "After removing escapes 1..64 bytes."
+abbrev pub nameFits : List ℕ → Bool
+nameFits bytes = within 1 64 (length bytes)
+
+-- "Strings stand in single or double quotes": the bytes between the quotes, and whether the closing one is there
+abbrev pub bodyOf : List ℕ → List ℕ
+bodyOf s = runOf (getD s 0 0) (drop 1 s)
+
+abbrev pub isEmpty : List ℕ → Bool
+isEmpty s = eqb (length s) 0
+
+abbrev pub isClosed : List ℕ → Bool
+isClosed s = not (isEmpty (drop (length (bodyOf s) + 1) s))

@@ -1,0 +1,207 @@
+// Tokens. Document 01, "Tokens", and "Refusals by number", 10, 1 and 3.
+ghost use mathlib.Core.Path.{_≡_};
+ghost use lib.ListN.{length, drop};
+ghost use lib.Seq.{sets};
+ghost use Rattle.lexer.specs.Token.{scanName, scanNumber, scanString, scanSymbol, scanOf, tokensOf, kindsOf, startsOf, nameAt, escapedAt, nameIs, stringAt, integerAt, realAt};
+ghost use Rattle.lexer.specs.Answer.{lexingOf, scannedOf};
+
+mod byte;
+mod digits;
+mod integer;
+mod real;
+mod run;
+mod symbol;
+
+use byte::is_quote;
+use byte::is_space;
+use byte::starts_name;
+use byte::starts_number;
+use integer::integer_fits;
+use integer::is_integer;
+use integer::is_long;
+use real::is_real;
+use real::real_fits;
+use run::body;
+use run::byte_at;
+use run::has_escape;
+use run::legal_name;
+use run::rest;
+use run::run;
+use run::unescape;
+use run::unescaped_length;
+use symbol::symbol;
+use symbol::symbol_length;
+
+// What stands first: a token's kind number and how many bytes it takes; or the number by which it is refused.
+pub enum Scanned {
+    Good(u8, usize),
+    Bad(u8),
+}
+
+fn scan_name(s: &[u8]) -> Scanned
+    ensures { λ r. ⌜ r ≡ scannedOf (scanName (now (s .entry))) ⌝ }
+{
+    let bytes = run(s, 0, 0);
+    if !legal_name(bytes) {
+        return Scanned::Bad(1);
+    }
+    let n = unescaped_length(bytes);
+    if (1 <= n) & (n <= 64) {
+        return Scanned::Good(5, bytes.len());
+    }
+    Scanned::Bad(3)
+}
+
+fn scan_number(s: &[u8]) -> Scanned
+    ensures { λ r. ⌜ r ≡ scannedOf (scanNumber (now (s .entry))) ⌝ }
+{
+    let bytes = run(s, 0, 0);
+    if is_real(bytes) {
+        if real_fits(bytes) {
+            return Scanned::Good(3, bytes.len());
+        }
+        return Scanned::Bad(3);
+    }
+    if !is_integer(bytes) {
+        return Scanned::Bad(1);
+    }
+    if !integer_fits(bytes) {
+        return Scanned::Bad(3);
+    }
+    if is_long(bytes) {
+        return Scanned::Good(2, bytes.len());
+    }
+    Scanned::Good(1, bytes.len())
+}
+
+fn scan_string(s: &[u8]) -> Scanned
+    ensures { λ r. ⌜ r ≡ scannedOf (scanString (now (s .entry))) ⌝ }
+{
+    let bytes = body(s);
+    let n = bytes.len();
+    let after = rest(s, n + 1);
+    if after.len() == 0 {
+        return Scanned::Bad(1);
+    }
+    Scanned::Good(4, n + 2)
+}
+
+fn scan_symbol(s: &[u8]) -> Scanned
+    ensures { λ r. ⌜ r ≡ scannedOf (scanSymbol (now (s .entry))) ⌝ }
+{
+    let a = byte_at(s, 0);
+    let b = byte_at(s, 1);
+    let c = byte_at(s, 2);
+    let kind = symbol(a, b, c);
+    if kind == 0 {
+        return Scanned::Bad(1);
+    }
+    Scanned::Good(kind, symbol_length(a, b, c))
+}
+
+// By the first byte, and the second after a `-`.
+fn scan(s: &[u8]) -> Scanned
+    ensures { λ r. ⌜ r ≡ scannedOf (scanOf (now (s .entry))) ⌝ }
+{
+    let a = byte_at(s, 0);
+    if starts_name(a) {
+        return scan_name(s);
+    }
+    if starts_number(a, byte_at(s, 1)) {
+        return scan_number(s);
+    }
+    if is_quote(a) {
+        return scan_string(s);
+    }
+    scan_symbol(s)
+}
+
+// How many tokens there are; or the number of a refusal and its place.
+pub enum Lexing {
+    Tokens(usize),
+    Refused(u8, usize),
+}
+
+// The tokens' kind numbers and starts go to the front of the lent arrays, as far as the tokens are legal; the arrays' other elements stay.
+pub fn lex(text: &[u8], kinds: &mut [u8; 4096], starts: &mut [u16; 4096]) -> Lexing
+    ensures { λ r. ⌜ r ≡ lexingOf (tokensOf (now (text .entry))) ⌝ }
+    ensures { λ _. ⌜ now (kinds .exit) ≡ sets (now (kinds .entry)) 0 (kindsOf (tokensOf (now (text .entry)))) ⌝ }
+    ensures { λ _. ⌜ now (starts .exit) ≡ sets (now (starts .entry)) 0 (startsOf (tokensOf (now (text .entry)))) ⌝ }
+{
+    if 4096 < text.len() {
+        return Lexing::Refused(10, 0);
+    }
+    let mut n = 0;
+    let mut at = 0;
+    while at < text.len() {
+        if is_space(text[at]) {
+            at += 1;
+            continue;
+        }
+        match scan(rest(text, at)) {
+            Scanned::Good(kind, length) => {
+                kinds[n] = kind;
+                starts[n] = at as u16;
+                n += 1;
+                at += length;
+            }
+            Scanned::Bad(number) => return Lexing::Refused(number, at),
+        }
+    }
+    Lexing::Tokens(n)
+}
+
+// The value of a token by its start, for any text and any start.
+pub fn name_length(text: &[u8], at: usize) -> usize
+    ensures { λ r. ⌜ r ≡ length (nameAt (now (text .entry)) at) ⌝ }
+{
+    unescaped_length(run(text, at, 0))
+}
+
+pub fn name_escaped(text: &[u8], at: usize) -> bool
+    ensures { λ r. ⌜ r ≡ escapedAt (now (text .entry)) at ⌝ }
+{
+    has_escape(run(text, at, 0))
+}
+
+// To the start of the part, as far as it goes; its other bytes stay.
+pub fn copy_name(text: &[u8], at: usize, part: &mut [u8])
+    ensures { λ _. ⌜ now (part .exit) ≡ sets (now (part .entry)) 0 (nameAt (now (text .entry)) at) ⌝ }
+{
+    unescape(run(text, at, 0), part);
+}
+
+// Whether the name is the word, with no escape.
+pub fn name_is(text: &[u8], at: usize, word: &[u8]) -> bool
+    ensures { λ r. ⌜ r ≡ nameIs (now (text .entry)) at (now (word .entry)) ⌝ }
+{
+    let bytes = run(text, at, 0);
+    if has_escape(bytes) {
+        return false;
+    }
+    octets::same(bytes, false, word, false)
+}
+
+pub fn string_length(text: &[u8], at: usize) -> usize
+    ensures { λ r. ⌜ r ≡ length (stringAt (now (text .entry)) at) ⌝ }
+{
+    unescaped_length(body(rest(text, at)))
+}
+
+pub fn copy_string(text: &[u8], at: usize, part: &mut [u8])
+    ensures { λ _. ⌜ now (part .exit) ≡ sets (now (part .entry)) 0 (stringAt (now (text .entry)) at) ⌝ }
+{
+    unescape(body(rest(text, at)), part);
+}
+
+pub fn int_value(text: &[u8], at: usize) -> i64
+    ensures { λ r. ⌜ r ≡ integerAt (now (text .entry)) at ⌝ }
+{
+    integer::integer_value(run(text, at, 0))
+}
+
+pub fn real_value(text: &[u8], at: usize) -> f64
+    ensures { λ r. ⌜ r ≡ realAt (now (text .entry)) at ⌝ }
+{
+    real::real_value(run(text, at, 0))
+}

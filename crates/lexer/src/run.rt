@@ -1,0 +1,161 @@
+// The bytes of a name, of a number and of a string, with the escapes in them. Document 01, "Tokens".
+// In the loops `taken` says whether a backslash before takes the byte.
+ghost use mathlib.Core.Path.{_≡_};
+ghost use mathlib.Core.Bool.{false};
+ghost use lib.ListN.{length, getD, drop, set};
+ghost use lib.Seq.{sets};
+ghost use Rattle.lexer.specs.Run.{takes as takesOf, ends as endsOf, runOf, unescaped, hasEscape, legalByte, legalName, bodyOf};
+use crate::byte::is_delimiter;
+use crate::byte::is_plain;
+
+// The byte at a place, 0 past the end.
+pub fn byte_at(s: &[u8], at: usize) -> u8
+    ensures { λ r. ⌜ r ≡ getD (now (s .entry)) at 0 ⌝ }
+{
+    if at < s.len() { s[at] } else { 0 }
+}
+
+// What stands from a place on, nothing past the end.
+pub fn rest<'a>(s: &'a [u8], at: usize) -> &'a [u8]
+    ensures { λ r. ⌜ now r ≡ drop at (now (s .entry)) ⌝ }
+{
+    let n = s.len();
+    if n < at {
+        return &s[n..n];
+    }
+    &s[at..n]
+}
+
+// "A backslash takes the next byte"
+fn takes(taken: bool, b: u8) -> bool
+    ensures { λ r. ⌜ r ≡ takesOf taken b ⌝ }
+{
+    (!taken) & (b == b'\\')
+}
+
+// A string ends at its quote; a name or a number (quote 0) at whitespace, end, `(`, `)` or `,`.
+fn ends(quote: u8, b: u8) -> bool
+    ensures { λ r. ⌜ r ≡ endsOf quote b ⌝ }
+{
+    if quote == 0 {
+        return is_delimiter(b);
+    }
+    b == quote
+}
+
+fn run_length(s: &[u8], quote: u8) -> usize
+    ensures { λ r. ⌜ r ≡ length (runOf quote (now (s .entry))) ⌝ }
+{
+    let mut taken = false;
+    let mut i = 0;
+    while i < s.len() {
+        if (!taken) & ends(quote, s[i]) {
+            return i;
+        }
+        taken = takes(taken, s[i]);
+        i += 1;
+    }
+    i
+}
+
+// The bytes from a place up to the first one that ends them and is not taken.
+pub fn run<'a>(s: &'a [u8], at: usize, quote: u8) -> &'a [u8]
+    ensures { λ r. ⌜ now r ≡ runOf quote (drop at (now (s .entry))) ⌝ }
+{
+    let from = rest(s, at);
+    let n = run_length(from, quote);
+    &from[0..n]
+}
+
+// The bytes between the quotes of the string that stands first.
+pub fn body<'a>(s: &'a [u8]) -> &'a [u8]
+    ensures { λ r. ⌜ now r ≡ bodyOf (now (s .entry)) ⌝ }
+{
+    run(s, 1, byte_at(s, 0))
+}
+
+pub fn has_escape(run: &[u8]) -> bool
+    ensures { λ r. ⌜ r ≡ hasEscape (now (run .entry)) ⌝ }
+{
+    let mut i = 0;
+    while i < run.len() {
+        if run[i] == b'\\' {
+            return true;
+        }
+        i += 1;
+    }
+    false
+}
+
+pub fn unescaped_length(run: &[u8]) -> usize
+    ensures { λ r. ⌜ r ≡ length (unescaped false (now (run .entry))) ⌝ }
+{
+    let mut n = 0;
+    let mut taken = false;
+    let mut i = 0;
+    while i < run.len() {
+        let b = run[i];
+        i += 1;
+        if takes(taken, b) {
+            taken = true;
+            continue;
+        }
+        taken = false;
+        n += 1;
+    }
+    n
+}
+
+// Stores a byte where the part has the place.
+fn put(part: &mut [u8], at: usize, b: u8)
+    ensures { λ _. ⌜ now (part .exit) ≡ set (now (part .entry)) at b ⌝ }
+{
+    if at < part.len() {
+        part[at] = b;
+    }
+}
+
+// Copies the bytes without escapes to the start of the part, as far as it goes; its other bytes stay.
+pub fn unescape(run: &[u8], part: &mut [u8])
+    ensures { λ _. ⌜ now (part .exit) ≡ sets (now (part .entry)) 0 (unescaped false (now (run .entry))) ⌝ }
+{
+    let mut n = 0;
+    let mut taken = false;
+    let mut i = 0;
+    while i < run.len() {
+        let b = run[i];
+        i += 1;
+        if takes(taken, b) {
+            taken = true;
+            continue;
+        }
+        taken = false;
+        put(part, n, b);
+        n += 1;
+    }
+}
+
+// "A backslash takes the next byte, which must be 32..126. Unescaped bytes must be 33..126 and none of `[ ] ' "`."
+fn legal_byte(taken: bool, b: u8) -> bool
+    ensures { λ r. ⌜ r ≡ legalByte taken b ⌝ }
+{
+    if taken {
+        return (32 <= b) & (b <= 126);
+    }
+    is_plain(b)
+}
+
+pub fn legal_name(run: &[u8]) -> bool
+    ensures { λ r. ⌜ r ≡ legalName false (now (run .entry)) ⌝ }
+{
+    let mut taken = false;
+    let mut i = 0;
+    while i < run.len() {
+        if !legal_byte(taken, run[i]) {
+            return false;
+        }
+        taken = takes(taken, run[i]);
+        i += 1;
+    }
+    !taken
+}
