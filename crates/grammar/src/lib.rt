@@ -11,7 +11,7 @@ ghost use Rattle.grammar.specs.Answer.{answerOf};
 ghost use Rattle.grammar.specs.Stream.{tokensIn};
 
 mod found;
-mod stream;
+pub mod stream;
 
 use found::Args;
 use found::Found;
