@@ -1,0 +1,1 @@
+// Translation, check and run together: definitions and theorems, in specs/ and proofs/.
