@@ -1,17 +1,16 @@
 -- The guarded run's answers: the refusals, and the last machine's slot and steps. Assumes nothing.
-use mathlib.Core.Path.{_≡_, refl, sym, ap, _∙_}
+use mathlib.Core.Path.{_≡_, sym, ap, _∙_}
 use mathlib.Core.Bool.{true, false}
-use mathlib.Core.List.{List, []}
+use mathlib.Core.List.{List}
 use Prim.Native.Nat.{ℕ}
 use lib.ListN.{length, getD}
 use Rattle.truth.specs.declared.Truth.{Truth}
-use Rattle.truth.specs.declared.Truth.the-variants.{Bottom}
 use Rattle.notice.specs.declared.Layout.{Layout}
 use Rattle.notice.specs.Layout.{checkOf as noticeCheck}
 use Rattle.table.specs.Table.{countOf, poolOf, decode}
 use Rattle.table.specs.Check.{checkOf as tableCheck}
 use Rattle.table.proofs.Reading.{length-entries}
-use Rattle.value.specs.Value.{Item, logic, truthIn}
+use Rattle.value.specs.Value.{truthIn}
 use Rattle.value.specs.Held.{itemOf}
 use Rattle.interpreter.specs.declared.Machine.{Machine}
 use Rattle.interpreter.specs.declared.Ran.{Ran}

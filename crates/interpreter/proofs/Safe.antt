@@ -8,21 +8,20 @@ use native.Mathlib.Decide.{decLt}
 use native.Mathlib.Numerals.{sub-one}
 use native.Mathlib.Omega.{arith}
 use borrow.Author.Tests.{lt-ltb, le-ltb}
-use lib.Dec.{ltb}
-use lib.ListN.{length, drop, getD, replicate}
+use lib.ListN.{length, drop, replicate}
 use Rattle.opcode.specs.Opcode.{opOf, Kind, takesOf, givesOf}
 use Rattle.opcode.specs.declared.Skip.{Skip}
 use Rattle.opcode.specs.declared.Op.{Op}
-use Rattle.table.specs.Table.{blank, countOf, entryAt, entriesOf, poolOf, decode}
+use Rattle.table.specs.Table.{countOf, entryAt, entriesOf, poolOf, decode}
 use Rattle.table.specs.declared.Entry.{Entry}
-use Rattle.table.specs.Check.{entryRight, opRight, isSkip, skipOp, shapeAt, checkOf}
+use Rattle.table.specs.Check.{skipOp, shapeAt, checkOf}
 use Rattle.table.specs.Theorems.{Known}
 use Rattle.table.proofs.Theorems.{checked-entry, checked-skip, checked-ends}
 use Rattle.table.proofs.Reading.{length-entries, entry-of}
 use Rattle.table.proofs.Reached.{depth}
-use Rattle.value.specs.Value.{Item, truthIn, kindOf, unaryOf, binaryOf, manyItems, loadOf}
-use Rattle.value.proofs.Theorems.{unary-kind, binary-kind, many-kind, load-kind}
-use Rattle.interpreter.specs.Run.{State, start, slotAt, skips, stackBy, strideBy, visit, pickState, rule, afterFrom}
+use Rattle.value.specs.Value.{Item, truthIn, kindOf}
+use Rattle.value.proofs.Theorems.{unary-kind, binary-kind, load-kind}
+use Rattle.interpreter.specs.Run.{State, start, slotAt, skips, stackBy, strideBy, visit, rule, afterFrom}
 
 -- a state of the run of a checked table: the kinds are those before the next entry
 pub record Sound (s : List ℕ) (t : State) : Type 0 where

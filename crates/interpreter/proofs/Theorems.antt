@@ -2,18 +2,16 @@
 use mathlib.Core.Path.{_≡_, refl, sym, ap, _∙_}
 use mathlib.Core.Bool.{true}
 use mathlib.Core.List.{List, [], _∷_, map}
-use mathlib.Core.Option.{some}
-use Prim.Native.Nat.{ℕ, _+_, _≤_}
+use Prim.Native.Nat.{ℕ}
 use native.Mathlib.Omega.{arith}
 use lib.ListN.{length, length-map}
-use Rattle.truth.specs.declared.Truth.{Truth}
 use Rattle.opcode.specs.Opcode.{Kind}
 use Rattle.table.specs.Table.{countOf, entriesOf, decode}
 use Rattle.table.specs.Check.{shapeAt, checkOf}
 use Rattle.table.proofs.Theorems.{checked-ends}
 use Rattle.table.proofs.Reading.{length-entries}
 use Rattle.value.specs.Value.{Item, logic, value, truthIn, kindOf}
-use Rattle.interpreter.specs.Run.{State, start, slotAt, after, runOf, verdictOf}
+use Rattle.interpreter.specs.Run.{start, slotAt, after, runOf}
 use Rattle.interpreter.specs.Theorems.{StackKinds, StackSmall, OperandKinds, RunEnds, RunSteps, RunWhole}
 use Rattle.interpreter.proofs.Safe.{Sound, some-same, known, operands, start-sound, after-sound, ends, whole, shallow}
 

@@ -1,9 +1,8 @@
 -- One visit of the machine, by the group of the entry's operator: what there is room for, and that the machine after it is the rule's. Assumes nothing.
 use mathlib.Core.Path.{_≡_, refl, sym, ap, _∙_}
 use mathlib.Core.Bool.{true, cond}
-use mathlib.Core.List.{List, [], _∷_, _++_, map, reverse}
+use mathlib.Core.List.{List, _∷_, _++_, map, reverse}
 use Prim.Native.Nat.{ℕ, suc, _+_, _-_, _*_, _<_, _≤_}
-use native.Mathlib.Nat.{sub-zero}
 use native.Mathlib.Numerals.{add-one}
 use native.Mathlib.Omega.{arith}
 use lib.ListN.{length, getD, set, take, drop, length-set, length-map, length-append, length-replicate}
@@ -16,15 +15,13 @@ use Rattle.opcode.specs.declared.Binary.{Binary}
 use Rattle.opcode.specs.declared.Many.{Many}
 use Rattle.opcode.specs.declared.Skip.{Skip}
 use Rattle.opcode.specs.declared.Op.{Op}
-use Rattle.table.specs.Table.{countOf, entryAt, entriesOf, poolOf, decode}
-use Rattle.table.specs.declared.Entry.{Entry}
+use Rattle.table.specs.Table.{countOf, entryAt, poolOf, decode}
 use Rattle.table.specs.Check.{skipOp, checkOf}
 use Rattle.table.proofs.Theorems.{checked-layout, checked-skip}
 use Rattle.table.proofs.Laid.{laid}
 use Rattle.value.specs.Value.{Item, logic, truthIn, kindOf, unaryOf, binaryOf, manyItems, loadOf, startOf, tallyOf}
 use Rattle.value.specs.Held.{itemOf}
 use Rattle.value.specs.declared.Held.{Held}
-use Rattle.value.specs.declared.Slot.{Slot}
 use Rattle.value.proofs.Theorems.{tally}
 use Rattle.interpreter.specs.declared.Machine.{Machine}
 use Rattle.interpreter.specs.Run.{State, slotAt, skips, stackBy, strideBy, visit, afterFrom}

@@ -1,3 +1,4 @@
+-- `interpreter::run` meets its contract: 12, then 11, then the answer of the whole run. Assumes nothing.
 use mathlib.Core.Path.{sym, _∙_}
 use borrow.Author.Tests.{not-true, not-false}
 use Rattle.interpreter.proofs.Answers.{table-refused, notice-refused, neither-refused}

@@ -1,5 +1,7 @@
-use Prim.Native.Nat.{_+_, _-_, _*_, _<_, _≤_}
-use mathlib.Core.Path.{_≡_, refl, sym, ap, _∙_}
+-- `interpreter::run_checked` meets its contract: at each turn the machine is sound for its table, and what the visits that are left make of it is what the whole budget makes of the start.
+-- The inner loop's invariant: what is known with the later operands below j, and with those that are left, is the whole. Assumes nothing.
+use Prim.Native.Nat.{_+_, _-_, _<_, _≤_}
+use mathlib.Core.Path.{_≡_, sym, ap, _∙_}
 use mathlib.Core.List.{reverse}
 use native.Mathlib.Nat.{sub-zero}
 use native.Mathlib.Omega.{arith}

@@ -1,3 +1,4 @@
+-- `interpreter::run_whole` meets its contract: the last machine has one slot. Assumes nothing.
 use Rattle.table.specs.Table.{poolOf}
 use Rattle.table.proofs.Theorems.{checked-layout}
 use Rattle.table.proofs.Laid.{laid}

@@ -1,3 +1,4 @@
+-- `interpreter::skips_on` meets its contract. Assumes nothing.
 use mathlib.Core.Path.{ap, _∙_}
 use Rattle.truth.specs.Truth.{isTrue, isFalse}
 use borrow.Author.Needs.{needs}
