@@ -1,0 +1,41 @@
+use mathlib.Core.Path.{_≡_}
+use Prim.Native.Nat.{_+_, _≤_, suc, _/_}
+use native.Mathlib.Omega.{arith}
+use borrow.Author.Needs.{needs}
+use lib.ListN.{length}
+use Rattle.record.specs.Line.{decimalOf}
+use Rattle.record.proofs.Laws.{length-small, length-more, length-some, twenty}
+use borrow.Author.Needs.{needs}
+use Rattle.record.proofs.places.Statement.{statement}
+use Rattle.record.proofs.places.Tie as tie
+use Rattle.record.proofs.places.Reads as reads
+use Rattle.record.proofs.places.Lts as lts
+
+abbrev Inv-loop : tie.InvT-loop
+Inv-loop n rest₀ k₀ rest k = (k + length (decimalOf rest) ≡ suc (length (decimalOf n))) × (length (decimalOf n) ≤ 20)
+
+abbrev μ-loop : tie.MeasureT-loop
+μ-loop n rest₀ k₀ rest k = rest
+
+-- src/lib.rt:93:5
+loop-holds : tie.Need-loop-holds Inv-loop μ-loop
+loop-holds c = let h = twenty (c .args .n) (c .fits .n .fits) in (omega arith, h)
+
+-- src/lib.rt:95:9
+add-k : tie.Need-add-k Inv-loop μ-loop
+add-k c = search needs
+
+-- src/lib.rt:93:5
+loop-less : tie.Need-loop-less Inv-loop μ-loop
+loop-less c = search needs
+
+-- src/lib.rt:93:5
+loop-again : tie.Need-loop-again Inv-loop μ-loop
+loop-again c = let e = length-more (c .before .loop .rest) (c .loop-test .taken) in (omega arith, c .before .loop .inv .1)
+
+-- src/lib.rt:88:1
+returns : tie.Need-returns Inv-loop μ-loop
+returns c = let e = length-small (c .before .loop .rest) (c .loop-test .left) in omega arith
+
+pub places-spec : {M : Type 1} → statement M
+places-spec = tie.close (tie.spec Inv-loop μ-loop loop-holds add-k loop-less loop-again returns)

@@ -1,0 +1,41 @@
+use native.Mathlib.Omega.{arith}
+use mathlib.Core.List.{[], _∷_, _++_}
+use Rattle.record.specs.Line.{spaced, lineEnd}
+use Rattle.record.proofs.Laws.{joined}
+use borrow.Author.Needs.{needs}
+use Rattle.record.proofs.put_kind_line.Statement.{statement}
+use Rattle.record.proofs.put_kind_line.Tie as tie
+use Rattle.record.proofs.put_kind_line.Reads as reads
+use Rattle.record.proofs.put_kind_line.Lts as lts
+use Rattle.record.proofs.put_byte.Reads as put-byte-reads
+use Rattle.record.proofs.put_number.Reads as put-number-reads
+
+-- src/lib.rt:166:9
+put-byte-requires : tie.Need-put-byte-requires
+put-byte-requires c κs = search needs
+
+-- src/lib.rt:167:9
+put-number-requires : tie.Need-put-number-requires
+put-number-requires c κs = search needs
+
+-- src/lib.rt:168:5
+put-byte-requires-2 : tie.Need-put-byte-requires-2
+put-byte-requires-2 c κs = search needs
+
+-- src/lib.rt:162:1
+same-length : tie.Need-same-length
+same-length c = search needs
+
+-- src/lib.rt:162:1
+returns : tie.Need-returns
+returns c =
+    let k = spaced (c .before .before .before .before .before .before .before .before .before .before .before .before .before .args .kind) in (
+      joined (88 ∷ []) (k ++ lineEnd) (c .before .before .before .before .before .before .before .before .before .before .put-byte .ensures)
+          (joined k lineEnd (c .before .before .before .before .before .before .put-number .ensures .0) (c .before .before .put-byte2 .ensures)),
+      omega arith,
+    )
+
+pub put-kind-line-spec : {M : Type 1} → statement M
+put-kind-line-spec =
+    tie.close
+    (tie.spec put-byte-requires put-number-requires put-byte-requires-2 same-length returns)

@@ -1,0 +1,58 @@
+-- The lines of standard output. Document 01, "Examples": "It prints `S number place length` or `N number verdict steps place` (verdict `true`, `false` or `bottom` ..), `X kind` for
+-- another kind, and `E`".
+use Prim.Native.Nat.{ℕ, zero, suc, _+_, _/_, _%_}
+use mathlib.Core.Bool.{Bool, true, false}
+use mathlib.Core.List.{List, [], _∷_, _++_}
+use mathlib.Core.Path.{_≡_}
+use lib.Dec.{ltb}
+use lib.ListN.{length}
+use lib.Seq.{sets}
+use Rattle.truth.specs.declared.Truth.{Truth}
+use Rattle.truth.specs.declared.Truth.the-variants.{False, Bottom, True}
+
+abbrev pub pick : Bool → (Unit {0} → List ℕ) → (Unit {0} → List ℕ) → List ℕ
+pick true x y = x tt
+pick false x y = y tt
+
+-- the last digits of n, at most as many as the first number says, with no leading zero
+unfoldable pub digits : ℕ → ℕ → List ℕ
+digits zero n = []
+digits (suc k) n = pick (ltb n 10) (λ _. (48 + n) ∷ []) (λ _. digits k (n / 10) ++ ((48 + n % 10) ∷ []))
+
+-- n in decimal, in ASCII: it has at most n + 1 digits
+abbrev pub decimalOf : ℕ → List ℕ
+decimalOf n = digits (suc n) n
+
+-- a space and a number
+abbrev pub spaced : ℕ → List ℕ
+spaced n = 32 ∷ decimalOf n
+
+-- a space and `true`, `false` or `bottom`
+abbrev pub verdictOf : Truth → List ℕ
+verdictOf True = 32 ∷ 116 ∷ 114 ∷ 117 ∷ 101 ∷ []
+verdictOf False = 32 ∷ 102 ∷ 97 ∷ 108 ∷ 115 ∷ 101 ∷ []
+verdictOf Bottom = 32 ∷ 98 ∷ 111 ∷ 116 ∷ 116 ∷ 111 ∷ 109 ∷ []
+
+abbrev pub lineEnd : List ℕ
+lineEnd = 10 ∷ []
+
+-- `S number place length`
+abbrev pub textLine : ℕ → ℕ → ℕ → List ℕ
+textLine number place len = 83 ∷ (spaced number ++ (spaced place ++ (spaced len ++ lineEnd)))
+
+-- `N number verdict steps place`
+abbrev pub noticeLine : ℕ → Truth → ℕ → ℕ → List ℕ
+noticeLine number t steps place = 78 ∷ (spaced number ++ (verdictOf t ++ (spaced steps ++ (spaced place ++ lineEnd))))
+
+-- `X kind`
+abbrev pub kindLine : ℕ → List ℕ
+kindLine kind = 88 ∷ (spaced kind ++ lineEnd)
+
+-- `E`
+abbrev pub errorLine : List ℕ
+errorLine = 69 ∷ lineEnd
+
+-- the bytes stand from `at` on, all other bytes stay, and r is the place after them
+pub record Put (before : List ℕ) (at : ℕ) (bytes after : List ℕ) (r : ℕ) : Type 0 where
+  pub stored : after ≡ sets before at bytes
+  pub next : r ≡ at + length bytes

@@ -1,0 +1,185 @@
+// The records of standard input and the lines of standard output. Document 01, "Examples", the program `verdict`.
+ghost use mathlib.Core.Path.{_≡_};
+ghost use mathlib.Core.List.{_∷_, []};
+ghost use Prim.Native.Nat.{_+_, _≤_, _<_};
+ghost use lib.ListN.{length};
+ghost use Rattle.record.specs.Record.{recordOf, waitsOf};
+ghost use Rattle.record.specs.Line.{decimalOf, spaced, verdictOf, textLine, noticeLine, kindLine, errorLine, Put};
+use truth::Truth;
+
+// ---- records
+
+// What the bytes that are left of the input start with.
+pub enum Record {
+    // Nothing is left.
+    End,
+    // A whole record: its kind, and how many bytes it takes with its length word.
+    Whole { kind: u16, size: usize },
+    // The bytes end before the record does.
+    Cut,
+    // "its length is under 2 or over 16,380"
+    Wrong,
+}
+
+// The record reader.
+pub fn next_record(s: &[u8]) -> Record
+    ensures { λ r. ⌜ r ≡ recordOf (now (s .entry)) ⌝ }
+{
+    let n = s.len();
+    if n == 0 {
+        return Record::End;
+    }
+    if n < 4 {
+        return Record::Cut;
+    }
+    let len = word::read_u32(s, 0) as usize;
+    if len < 2 {
+        return Record::Wrong;
+    }
+    if 16380 < len {
+        return Record::Wrong;
+    }
+    let size = 4 + len;
+    if size <= n {
+        Record::Whole {
+            kind: word::read_u16(s, 4),
+            size: size,
+        }
+    } else {
+        Record::Cut
+    }
+}
+
+// Whether nothing can be said before more bytes come. `last`: there are no more.
+pub fn waits(found: Record, last: bool) -> bool
+    ensures { λ r. ⌜ r ≡ waitsOf found last ⌝ }
+{
+    match found {
+        Record::End => true,
+        Record::Whole { kind: _, size: _ } => false,
+        Record::Cut => !last,
+        Record::Wrong => false,
+    }
+}
+
+// ---- lines: each function stores its bytes from `at` on and answers the place after them. It asks for room, which its caller has tested once for a whole line.
+
+fn put_byte(out: &mut [u8], at: usize, b: u8) -> usize
+    requires { ⌜ at < length (now out) ⌝ }
+    ensures { λ r. ⌜ Put (now (out .entry)) at (b ∷ []) (now (out .exit)) r ⌝ }
+{
+    out[at] = b;
+    at + 1
+}
+
+fn put_bytes(out: &mut [u8], at: usize, s: &[u8]) -> usize
+    requires { ⌜ at + length (now s) ≤ length (now out) ⌝ }
+    ensures { λ r. ⌜ Put (now (out .entry)) at (now (s .entry)) (now (out .exit)) r ⌝ }
+{
+    let mut i = 0;
+    while i < s.len() {
+        out[at + i] = s[i];
+        i += 1;
+    }
+    at + i
+}
+
+// How many digits n has.
+fn places(n: u64) -> usize
+    ensures { λ r. ⌜ (r ≡ length (decimalOf n)) × (r ≤ 20) ⌝ }
+{
+    let mut rest = n;
+    let mut k = 1;
+    while 10 <= rest {
+        rest /= 10;
+        k += 1;
+    }
+    k
+}
+
+// The digits from the last to the first. Every u64 has at most 20.
+fn put_decimal(out: &mut [u8], at: usize, n: u64) -> usize
+    requires { ⌜ at + 20 ≤ length (now out) ⌝ }
+    ensures { λ r. ⌜ Put (now (out .entry)) at (decimalOf n) (now (out .exit)) r × (r ≤ at + 20) ⌝ }
+{
+    let end = at + places(n);
+    let mut i = end - 1;
+    let mut rest = n;
+    while 10 <= rest {
+        out[i] = 48 + (rest % 10) as u8;
+        rest /= 10;
+        i -= 1;
+    }
+    out[i] = 48 + rest as u8;
+    end
+}
+
+fn put_number(out: &mut [u8], at: usize, n: u64) -> usize
+    requires { ⌜ at + 21 ≤ length (now out) ⌝ }
+    ensures { λ r. ⌜ Put (now (out .entry)) at (spaced n) (now (out .exit)) r × (r ≤ at + 21) ⌝ }
+{
+    let next = put_byte(out, at, b' ');
+    put_decimal(out, next, n)
+}
+
+fn put_verdict(out: &mut [u8], at: usize, t: Truth) -> usize
+    requires { ⌜ at + 7 ≤ length (now out) ⌝ }
+    ensures { λ r. ⌜ Put (now (out .entry)) at (verdictOf t) (now (out .exit)) r × (r ≤ at + 7) ⌝ }
+{
+    match t {
+        Truth::True => put_bytes(out, at, b" true"),
+        Truth::False => put_bytes(out, at, b" false"),
+        Truth::Bottom => put_bytes(out, at, b" bottom"),
+    }
+}
+
+// `S number place length`: what translation answered.
+pub fn put_text_line(out: &mut [u8], at: usize, number: u64, place: u64, len: u64) -> usize
+    requires { ⌜ at + 80 ≤ length (now out) ⌝ }
+    ensures { λ r. ⌜ Put (now (out .entry)) at (textLine number place len) (now (out .exit)) r × (r ≤ at + 80) ⌝ }
+{
+    let a = put_byte(out, at, b'S');
+    let b = put_number(out, a, number);
+    let c = put_number(out, b, place);
+    let d = put_number(out, c, len);
+    put_byte(out, d, b'\n')
+}
+
+// `N number verdict steps place`: what running answered.
+pub fn put_notice_line(
+    out: &mut [u8],
+    at: usize,
+    number: u64,
+    verdict: Truth,
+    steps: u64,
+    place: u64,
+) -> usize
+    requires { ⌜ at + 80 ≤ length (now out) ⌝ }
+    ensures { λ r. ⌜ Put (now (out .entry)) at (noticeLine number verdict steps place) (now (out .exit)) r × (r ≤ at + 80) ⌝ }
+{
+    let a = put_byte(out, at, b'N');
+    let b = put_number(out, a, number);
+    let c = put_verdict(out, b, verdict);
+    let d = put_number(out, c, steps);
+    let e = put_number(out, d, place);
+    put_byte(out, e, b'\n')
+}
+
+// `X kind`
+pub fn put_kind_line(out: &mut [u8], at: usize, kind: u64) -> usize
+    requires { ⌜ at + 80 ≤ length (now out) ⌝ }
+    ensures { λ r. ⌜ Put (now (out .entry)) at (kindLine kind) (now (out .exit)) r × (r ≤ at + 80) ⌝ }
+{
+    let a = put_byte(out, at, b'X');
+    let b = put_number(out, a, kind);
+    put_byte(out, b, b'\n')
+}
+
+// `E`
+pub fn put_error_line(out: &mut [u8], at: usize) -> usize
+    requires { ⌜ at + 80 ≤ length (now out) ⌝ }
+    ensures { λ r. ⌜ Put (now (out .entry)) at errorLine (now (out .exit)) r × (r ≤ at + 80) ⌝ }
+{
+    let a = put_byte(out, at, b'E');
+    put_byte(out, a, b'\n')
+}
