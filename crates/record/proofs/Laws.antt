@@ -6,8 +6,8 @@ use native.Mathlib.Decide.{decLt}
 use native.Mathlib.Nat.{pow-suc}
 use native.Mathlib.Omega.{arith}
 use borrow.Author.Tests.{lt-ltb, le-ltb, le-leb, lt-leb, eq-eqb, ne-eqb}
-use lib.ListN.{length, getD, set, drop, length-append}
-use lib.Seq.{sets, drop-cons, drop-length, set-comm}
+use lib.ListN.{length, getD, set, take, drop, length-append, length-drop}
+use lib.Seq.{sets, drop-cons, drop-length, drop-nil, set-comm, length-take-le, getD-drop, getD-take}
 use Rattle.record.specs.declared.Record.{Record}
 use Rattle.record.specs.declared.Record.the-variants.{End, Whole, Cut, Wrong}
 use Rattle.record.specs.Record.{lengthOf, kindOf, recordOf}
@@ -151,6 +151,26 @@ pub copy-end : (s d d₀ : List ℕ) (at i : ℕ) → i ≡ length s → sets d 
 copy-end s d d₀ at i e h =
     ap (λ (l : List ℕ). sets d (at + i) l) (sym (drop-length s)) ∙ ap (λ (n : ℕ). sets d (at + i) (drop n s)) (sym e) ∙ h
 
+drop-past : (y : List ℕ) (k : ℕ) → length y ≤ k → drop k y ≡ []
+drop-past [] k g = drop-nil k
+drop-past (v ∷ y) zero g = absurd (omega arith)
+drop-past (v ∷ y) (suc k) g = drop-past y k (omega arith)
+
+-- a move to the front, byte by byte: the bytes that are still to be read are as they were
+pub move-one : (d d₀ : List ℕ) (from n i : ℕ) → i < n → from + n ≤ length d₀ → ((j : ℕ) → i ≤ j → getD d j 0 ≡ getD d₀ j 0)
+    → sets (set d i (getD d (from + i) 0)) (i + 1) (drop (i + 1) (take n (drop from d₀))) ≡ sets d i (drop i (take n (drop from d₀)))
+move-one d d₀ from n i h f same =
+    let x : List ℕ = take n (drop from d₀) in
+    let l = length-drop from d₀ in
+    let m : n ≤ length (drop from d₀) = omega arith in
+    let k : i < length x = omega (arith, length-take-le n (drop from d₀) m) in
+    let g : getD d (from + i) 0 ≡ getD x i 0 = same (from + i) (omega arith) ∙ sym (getD-drop from d₀ i 0) ∙ sym (getD-take n (drop from d₀) i 0 h) in
+    let e : i + 1 ≡ suc i = omega arith in
+    ap₂ (λ (v j : ℕ). sets (set d i v) j (drop j x)) g e ∙ ap (λ (y : List ℕ). sets d i y) (sym (drop-cons x i 0 k))
+
+pub move-end : (d d₀ x : List ℕ) (i : ℕ) → length x ≤ i → sets d i (drop i x) ≡ sets d₀ 0 x → d ≡ sets d₀ 0 x
+move-end d d₀ x i h e = ap (λ (y : List ℕ). sets d i y) (sym (drop-past x i h)) ∙ e
+
 -- what is put after what was put
 pub joined : {d d1 d2 : List ℕ} {at a b : ℕ} (xs ys : List ℕ) → Put d at xs d1 a → Put d1 a ys d2 b → Put d at (xs ++ ys) d2 b
 joined {d} {d1} {d2} {at} {a} {b} xs ys p q =
@@ -161,8 +181,10 @@ joined {d} {d1} {d2} {at} {a} {b} xs ys p q =
       next = n;
     }
 
+-- the same bytes by another name
+pub renamed : {d d1 : List ℕ} {at r : ℕ} {xs ys : List ℕ} → xs ≡ ys → Put d at xs d1 r → Put d at ys d1 r
+renamed {d} {d1} {at} {r} e p = record { stored = p .stored ∙ ap (λ (l : List ℕ). sets d at l) e; next = p .next ∙ ap (λ (l : List ℕ). at + length l) e }
+
 -- a verdict's name, by its bytes
 pub spelled : {d d1 : List ℕ} {at r : ℕ} (xs ys : List ℕ) → xs ≡ ys → length xs ≤ 7 → Put d at xs d1 r → Put d at ys d1 r × (r ≤ at + 7)
-spelled {d} {d1} {at} {r} xs ys e h p =
-    let l : r ≤ at + 7 = omega (arith, p .next) in
-    (record { stored = p .stored ∙ ap (λ (l : List ℕ). sets d at l) e; next = p .next ∙ ap (λ (l : List ℕ). at + length l) e }, l)
+spelled {d} {d1} {at} {r} xs ys e h p = let l : r ≤ at + 7 = omega (arith, p .next) in (renamed e p, l)

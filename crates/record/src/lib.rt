@@ -1,8 +1,9 @@
 // The records of standard input and the lines of standard output. Document 01, "Examples", the program `verdict`.
 ghost use mathlib.Core.Path.{_≡_};
 ghost use mathlib.Core.List.{_∷_, []};
-ghost use Prim.Native.Nat.{_+_, _≤_, _<_};
-ghost use lib.ListN.{length};
+ghost use Prim.Native.Nat.{_+_, _-_, _≤_, _<_};
+ghost use lib.ListN.{length, take, drop};
+ghost use lib.Seq.{sets};
 ghost use Rattle.record.specs.Record.{recordOf, waitsOf};
 ghost use Rattle.record.specs.Line.{decimalOf, spaced, verdictOf, textLine, noticeLine, kindLine, errorLine, Put};
 use truth::Truth;
@@ -59,6 +60,19 @@ pub fn waits(found: Record, last: bool) -> bool
         Record::Whole { kind: _, size: _ } => false,
         Record::Cut => !last,
         Record::Wrong => false,
+    }
+}
+
+// The bytes from `from` up to `end` moved to the start of the buffer: what is left of the input when more is to be read. It asks that they lie in the buffer.
+pub fn move_down(buffer: &mut [u8], from: usize, end: usize)
+    requires { ⌜ (from ≤ end) × (end ≤ length (now buffer)) ⌝ }
+    ensures { λ _. ⌜ now (buffer .exit) ≡ sets (now (buffer .entry)) 0 (take (end - from) (drop from (now (buffer .entry)))) ⌝ }
+{
+    let n = end - from;
+    let mut i = 0;
+    while i < n {
+        buffer[i] = buffer[from + i];
+        i += 1;
     }
 }
 
