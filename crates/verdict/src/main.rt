@@ -4,6 +4,7 @@ ghost use lib.ListN.{length};
 ghost use Rattle.verdict.specs.State.{Ready};
 use libc::STDIN_FILENO;
 use libc::STDOUT_FILENO;
+use session::Served;
 use session::Stop;
 
 // What is kept from turn to turn: where the input that is not answered yet stands in its buffer, the length of the table, whether the input has ended, and whether to go on.
@@ -53,6 +54,27 @@ fn more(input: &mut [u8; 65536], s: State) -> State
     }
 }
 
+fn answer(
+    input: &[u8],
+    from: usize,
+    end: usize,
+    last: bool,
+    table: &mut [u8],
+    held: usize,
+    out: &mut [u8],
+) -> Served
+    requires { ⌜ (from ≤ end) × (end ≤ length (now input)) × (held ≤ length (now table)) ⌝ }
+    ensures { λ r. ⌜ (from + r .taken ≤ end) × (r .held ≤ length (now (table .entry))) × (r .written ≤ length (now (out .entry))) ⌝ }
+{
+    session::serve(&input[from..end], last, table, held, out)
+}
+
+fn put(out: &[u8], n: usize) -> bool
+    requires { ⌜ n ≤ length (now out) ⌝ }
+{
+    io::write_all(STDOUT_FILENO, &out[0..n])
+}
+
 // Answers what is there, writes the lines, and reads on where the next record has not come whole.
 fn turn(input: &mut [u8; 65536], table: &mut [u8; 10250], out: &mut [u8; 65536], s: State) -> State
     requires { ⌜ Ready s ⌝ }
@@ -60,9 +82,8 @@ fn turn(input: &mut [u8; 65536], table: &mut [u8; 10250], out: &mut [u8; 65536],
 {
     let from = s.from;
     let end = s.end;
-    let served = session::serve(&input[from..end], s.last, table, s.held, out);
-    let written = served.written;
-    let is_written = io::write_all(STDOUT_FILENO, &out[0..written]);
+    let served = answer(input, from, end, s.last, table, s.held, out);
+    let is_written = put(out, served.written);
     let next = State {
         from: from + served.taken,
         end: end,
