@@ -1,1 +1,13 @@
 pub mod Names
+pub mod Places
+pub mod Checks
+pub mod Walks
+pub mod Fields
+pub mod Renders
+pub mod Stores
+pub mod Inserts
+pub mod Writes
+pub mod Orders
+pub mod Trips
+pub mod Theorems
+pub mod Readings

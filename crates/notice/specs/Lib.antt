@@ -1,1 +1,7 @@
 pub mod Field
+pub mod Render
+pub mod Layout
+pub mod Lookup
+pub mod Read
+pub mod Write
+pub mod Theorems

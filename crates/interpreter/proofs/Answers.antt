@@ -1,0 +1,55 @@
+-- The guarded run's answers: the refusals, and the last machine's slot and steps. Assumes nothing.
+use mathlib.Core.Path.{_≡_, refl, sym, ap, _∙_}
+use mathlib.Core.Bool.{true, false}
+use mathlib.Core.List.{List, []}
+use Prim.Native.Nat.{ℕ}
+use lib.ListN.{length, getD}
+use Rattle.truth.specs.declared.Truth.{Truth}
+use Rattle.truth.specs.declared.Truth.the-variants.{Bottom}
+use Rattle.notice.specs.declared.Layout.{Layout}
+use Rattle.notice.specs.Layout.{checkOf as noticeCheck}
+use Rattle.table.specs.Table.{countOf, poolOf, decode}
+use Rattle.table.specs.Check.{checkOf as tableCheck}
+use Rattle.table.proofs.Reading.{length-entries}
+use Rattle.value.specs.Value.{Item, logic, truthIn}
+use Rattle.value.specs.Held.{itemOf}
+use Rattle.interpreter.specs.declared.Machine.{Machine}
+use Rattle.interpreter.specs.declared.Ran.{Ran}
+use Rattle.interpreter.specs.Run.{State, slotAt, after, runOf, verdictOf}
+use Rattle.interpreter.specs.Machine.{blank, stackOf, stateOf}
+use Rattle.interpreter.specs.Running.{refused, answerOf, runningOf}
+use Rattle.interpreter.proofs.Stack.{stack-length}
+use Rattle.interpreter.proofs.Theorems.{run-ends}
+
+module _ (table notice : List ℕ) where
+  pub table-refused : tableCheck table ≡ false → refused 12 0 ≡ runningOf table notice
+  table-refused e = rw e
+
+  pub notice-refused : (place : ℕ) → tableCheck table ≡ true → noticeCheck notice ≡ Layout.Fault place → refused 11 place ≡ runningOf table notice
+  notice-refused place e f = rw (e, f)
+
+  pub neither-refused : tableCheck table ≡ true → noticeCheck notice ≡ Layout.WellFormed → answerOf (runOf (decode table) notice) ≡ runningOf table notice
+  neither-refused e f = rw (e, f)
+
+  -- the last machine of the whole run
+  module _ (m : Machine) (n : ℕ) (checked : tableCheck table ≡ true) (count : n ≡ countOf table) (ran : stateOf (poolOf table) notice m ≡ after (decode table) notice n) where
+    last : stateOf (poolOf table) notice m ≡ runOf (decode table) notice
+    last = ran ∙ ap (after (decode table) notice) (count ∙ sym (length-entries table))
+
+    one : m .depth ≡ 1
+    one =
+        sym (stack-length (itemOf (poolOf table) notice) (m .stack) (m .depth))
+        ∙ ap (λ (s : State). length (s .stack)) last
+        ∙ ap length (run-ends table notice checked .1)
+
+    verdict-is : truthIn (itemOf (poolOf table) notice (getD (m .stack) 0 blank .held)) ≡ verdictOf (runOf (decode table) notice)
+    verdict-is =
+        sym (ap (λ (d : ℕ). truthIn (slotAt (stackOf (itemOf (poolOf table) notice) (m .stack) d) 0)) one)
+        ∙ ap verdictOf last
+
+    pub answer-is : (v : Truth) → v ≡ truthIn (itemOf (poolOf table) notice (getD (m .stack) 0 blank .held))
+        → _≡_ {A = Ran} (record { number = 0; place = 0; verdict = v; steps = m .steps }) (answerOf (runOf (decode table) notice))
+    answer-is v e =
+        let p : v ≡ verdictOf (runOf (decode table) notice) = e ∙ verdict-is in
+        let q : m .steps ≡ runOf (decode table) notice .steps = ap (λ (s : State). s .steps) last in
+        rw (p, q)

@@ -1,0 +1,5 @@
+pub mod Stack
+pub mod Safe
+pub mod Visits
+pub mod Theorems
+pub mod Answers

@@ -1,0 +1,30 @@
+use Rattle.table.specs.Table.{poolOf}
+use Rattle.table.proofs.Theorems.{checked-layout}
+use Rattle.table.proofs.Laid.{laid}
+use Rattle.interpreter.proofs.Answers.{answer-is}
+use borrow.Author.Needs.{needs}
+use Rattle.interpreter.proofs.run_whole.Statement.{statement}
+use Rattle.interpreter.proofs.run_whole.Tie as tie
+
+count-requires : tie.Need-count-requires
+count-requires c κs = laid (c .before .before .args .table .now) (checked-layout _ (c .before .before .pre)) .head
+
+run-checked-requires : tie.Need-run-checked-requires
+run-checked-requires c κs = search needs
+
+element-copy-out-slot : tie.Need-element-copy-out-slot
+element-copy-out-slot c = search needs
+
+truth-in-requires : tie.Need-truth-in-requires
+truth-in-requires c κs = search needs
+
+returns : tie.Need-returns
+returns c =
+    let a = c .before .before .before .before .before .before .args in
+    answer-is (a .table .now) (a .notice .now) (c .before .before .run-checked .result) (c .before .before .before .count .result) (c .before .before .before .before .before .before .pre) (c .before .before .before .count .ensures .0) (c .before .before .run-checked .ensures .0)
+    (c .truth-in .result) (c .truth-in .ensures (poolOf (a .table .now)) (a .notice .now))
+
+pub run-whole-spec : {M : Type 1} → statement M
+run-whole-spec =
+    tie.close
+    (tie.spec count-requires run-checked-requires element-copy-out-slot truth-in-requires returns)

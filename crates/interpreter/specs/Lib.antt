@@ -1,0 +1,4 @@
+pub mod Run
+pub mod Machine
+pub mod Running
+pub mod Theorems

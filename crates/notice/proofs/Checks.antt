@@ -1,0 +1,79 @@
+-- The tests of the header, and the turns and ends of the walk over the fields. Assumes nothing.
+use mathlib.Core.Path.{_≡_, refl, sym, ap, _∙_}
+use mathlib.Core.Bool.{Bool, true, false, _&&_, and-false}
+use mathlib.Core.List.{List, [], _∷_}
+use Prim.Native.Nat.{ℕ, zero, suc, _+_, _-_, _≤_, _<_}
+use native.Mathlib.Omega.{arith}
+use lib.Dec.{leb, eqb}
+use lib.ListN.{length}
+use borrow.Author.Tests.{le-leb, lt-leb, leb-true, leb-false, eq-eqb, ne-eqb}
+use Rattle.word.specs.Word.{le}
+use Rattle.octets.specs.Octets.{beforeOf}
+use Rattle.octets.proofs.Theorems.{and-parts}
+use Rattle.notice.specs.declared.Layout.{Layout}
+use Rattle.notice.specs.declared.Layout.the-variants.{WellFormed, Fault}
+use Rattle.notice.specs.Layout.{nameAt, nextAt, countOf, headerRight, rightAt, standsAt, checkFrom, checkOf}
+
+module _ (s : List ℕ) where
+  pub short : length s < 8 → false ≡ headerRight s
+  short h = rw (lt-leb 8 (length s) h)
+
+  module _ (p : 8 ≤ length s) where
+    pub long : 16384 < length s → false ≡ headerRight s
+    long h = rw (le-leb 8 (length s) p, lt-leb (length s) 16384 h)
+
+    module _ (q : length s ≤ 16384) where
+      pub other-length : (4 + le 4 s 0 ≡ length s → ⊥) → false ≡ headerRight s
+      other-length h = rw (le-leb 8 (length s) p, le-leb (length s) 16384 q, ne-eqb (4 + le 4 s 0) (length s) h)
+
+      module _ (r : 4 + le 4 s 0 ≡ length s) where
+        pub other-kind : (le 2 s 4 ≡ 1 → ⊥) → false ≡ headerRight s
+        other-kind h = rw (le-leb 8 (length s) p, le-leb (length s) 16384 q, eq-eqb (4 + le 4 s 0) (length s) r, ne-eqb (le 2 s 4) 1 h)
+
+        pub by-count : le 2 s 4 ≡ 1 → leb (countOf s) 64 ≡ headerRight s
+        by-count k = rw (le-leb 8 (length s) p, le-leb (length s) 16384 q, eq-eqb (4 + le 4 s 0) (length s) r, eq-eqb (le 2 s 4) 1 k)
+
+-- one turn of the walk, with n fields left, and its ends
+module _ (s : List ℕ) (at : ℕ) (last : List ℕ) where
+  pub no-more : at ≡ length s → WellFormed ≡ checkFrom 0 last s at
+  unfolding checkFrom
+  no-more e = rw (eq-eqb at (length s) e)
+
+  pub spare : (at ≡ length s → ⊥) → Fault at ≡ checkFrom 0 last s at
+  unfolding checkFrom
+  spare e = rw (ne-eqb at (length s) e)
+
+  fault-suc : (n : ℕ) → standsAt last s at ≡ false → Fault at ≡ checkFrom (suc n) last s at
+  unfolding checkFrom
+  fault-suc n e = rw e
+
+  pub more-suc : (n : ℕ) → standsAt last s at ≡ true → checkFrom n (nameAt s at) s (nextAt s at) ≡ checkFrom (suc n) last s at
+  unfolding checkFrom
+  more-suc n e = rw e
+
+  module _ (n : ℕ) (p : 0 < n) where
+    pub wrong-field : rightAt s at ≡ false → Fault at ≡ checkFrom n last s at
+    wrong-field e =
+        let z : n ≡ suc (n - 1) = omega arith in
+        rw z (fault-suc (n - 1) (rw e))
+
+    module _ (name : List ℕ) (q : name ≡ nameAt s at) (r : rightAt s at ≡ true) where
+      pub wrong-order : beforeOf last name ≡ false → Fault at ≡ checkFrom n last s at
+      wrong-order e =
+          let z : n ≡ suc (n - 1) = omega arith in
+          rw z (fault-suc (n - 1) (rw (r, ← q, e)))
+
+      pub right-field : beforeOf last name ≡ true → checkFrom (n - 1) name s (nextAt s at) ≡ checkFrom n last s at
+      right-field e =
+          let z : n ≡ suc (n - 1) = omega arith in
+          let m = more-suc (n - 1) (rw (r, ← q, e)) in
+          (ap (λ (l : List ℕ). checkFrom (n - 1) l s (nextAt s at)) q ∙ m) ∙ ap (λ (k : ℕ). checkFrom k last s at) (sym z)
+
+pub header-long : (s : List ℕ) → headerRight s ≡ true → 8 ≤ length s
+header-long s e = leb-true 8 (length s) (and-parts _ _ (and-parts _ _ e .0) .0)
+
+pub by-fields : (s : List ℕ) → headerRight s ≡ true → checkFrom (countOf s) [] s 8 ≡ checkOf s
+by-fields s e = rw e
+
+pub wrong-header : (s : List ℕ) → headerRight s ≡ false → Fault 0 ≡ checkOf s
+wrong-header s e = rw e

@@ -1,0 +1,204 @@
+-- The theorems that specs/Theorems.antt states. Assumes nothing.
+use mathlib.Core.Path.{_≡_, refl, sym, ap, ap₂, _∙_}
+use mathlib.Core.Logic.{_⊎_, inl, inr, ⊎-elim, _↔_}
+use mathlib.Core.Bool.{Bool, true, false, not, _&&_, _||_}
+use mathlib.Core.List.{List, [], _∷_, _++_, map, List·Memᴰ, List·Memᴰ·head, List·Memᴰ·tail, List·Memᴰ·cases-cons, List·Memᴰ·not-nil, List·Permᴰ, append-assoc}
+use mathlib.Core.Option.{Option, some, none}
+use Prim.Native.Nat.{ℕ, zero, suc, _+_, _-_, _≤_, _<_}
+use native.Mathlib.Omega.{arith}
+use lib.Dec.{eqb, leb, ltb}
+use lib.ListN.{length, take, drop, length-append, take-append-drop}
+use lib.Seq.{take-at, length-take-le, drop-append-add, drop-drop}
+use borrow.Author.Tests.{le-leb, lt-ltb, eqb-true, leb-true, not-true}
+use Rattle.word.specs.Word.{leBytes, Bytes}
+use Rattle.octets.specs.Octets.{sameOf, beforeOf}
+use Rattle.octets.proofs.Theorems.{and-parts, true-false, same, same-refl, before-transitive}
+use Rattle.notice.specs.declared.Layout.{Layout}
+use Rattle.notice.specs.declared.Layout.the-variants as layouts
+use Rattle.notice.specs.declared.Written.{Written}
+use Rattle.notice.specs.declared.Found.{Found}
+use Rattle.notice.specs.declared.Found.the-variants.{At, Nothing}
+use Rattle.notice.specs.Field.{Field, nameRight, sizeRight, fieldRight, allRight, beforeFirst, rising}
+use Rattle.notice.specs.Render.{fieldsBytes, headerBytes, render, NoticeFields}
+use Rattle.notice.specs.Layout.{pick, kindAt, valueStart, valueSizeAt, nextAt, nameAt, fieldAt, liesAt, countOf, checkOf, startsFrom, startsOf, fieldsOf}
+use Rattle.notice.specs.Lookup.{fieldNamed, lookupIn, lookupOf, FoundIs}
+use Rattle.notice.specs.Write.{fieldSize, hasName, insertField, hasRoom, layoutIn, refusalIn, refusalBy, refusalOf, writtenOf, insertedBytes, writtenBytes, Writes, Insertable}
+use Rattle.notice.specs.Theorems.{WellFormed, OneList, FieldsRead, Lookup, NamedField, NoneNamed, EachFound, WriteAdds, InsertAdds, WrittenAgain, EmptyNotice, Op42}
+use Rattle.notice.proofs.Places.{Lies, lies-true}
+use Rattle.notice.proofs.Walks.{starts-end, starts-more, starts-stop}
+use Rattle.notice.proofs.Renders.{render-passes, render-fields, well-render, well-fields, well-count, length-render}
+use Rattle.notice.proofs.Orders.{before-not-same, insert-rising, insert-length, insert-size, insert-right, insert-splits, insertAll, fresh, fresh-inserted, perm-fresh, perm-inserted, perm-right, perm-length, perm-size, allBeforeFirst, rising-fresh, rising-inserted}
+use Rattle.notice.proofs.Trips.{Fitting, added-fields, added-length, over, writes-all}
+use Rattle.notice.proofs.Writes.{added}
+use Rattle.notice.proofs.Inserts.{Accepted, accepted, bytes-take}
+
+pub well-formed : WellFormed
+well-formed s bytes = (
+  λ well. (fieldsOf s, well-fields s bytes well, well-render s bytes well),
+  λ r. ap checkOf (r .2) ∙ render-passes (r .0) (r .1),
+)
+
+pub fields-read : FieldsRead
+fields-read = render-fields
+
+pub one-list : OneList
+one-list fs gs p q e = sym (fields-read fs p) ∙ (ap fieldsOf e ∙ fields-read gs q)
+
+-- lookup, on every walk over fields that lie within the notice
+found-from : (n : ℕ) (s name : List ℕ) (at : ℕ) → FoundIs s (lookupIn s name (startsFrom n s at)) (fieldNamed name (map (fieldAt s) (startsFrom n s at)))
+found-from zero s name at = rw (starts-end s at) tt
+found-from (suc n) s name at = lies (liesAt s at) refl (found-from n s name (nextAt s at))
+  where
+    i : suc n - 1 ≡ n
+    i = omega arith
+
+    named : liesAt s at ≡ true → (b : Bool) → sameOf (nameAt s at) name ≡ b → FoundIs s (lookupIn s name (startsFrom n s (nextAt s at))) (fieldNamed name (map (fieldAt s) (startsFrom n s (nextAt s at))))
+        → FoundIs s (lookupIn s name (at ∷ startsFrom n s (nextAt s at))) (fieldNamed name (map (fieldAt s) (at ∷ startsFrom n s (nextAt s at))))
+    named l true e ih =
+        let p = lies-true s at l in
+        rw e (refl, omega (arith, p .room, p .within), refl)
+    named l false e ih = rw e ih
+
+    lies : (b : Bool) → liesAt s at ≡ b → FoundIs s (lookupIn s name (startsFrom n s (nextAt s at))) (fieldNamed name (map (fieldAt s) (startsFrom n s (nextAt s at))))
+        → FoundIs s (lookupIn s name (startsFrom (suc n) s at)) (fieldNamed name (map (fieldAt s) (startsFrom (suc n) s at)))
+    lies true e ih = rw (starts-more s at (suc n) (omega arith) e, i) (named e (sameOf (nameAt s at) name) refl ih)
+    lies false e ih = rw (starts-stop s at (suc n) (omega arith) e) tt
+
+pub lookup : Lookup
+lookup s name = go (leb 8 (length s) && leb (length s) 16384)
+  where
+    go : (b : Bool) → FoundIs s (lookupIn s name (pick b (λ _. startsFrom (countOf s) s 8) (λ _. []))) (fieldNamed name (map (fieldAt s) (pick b (λ _. startsFrom (countOf s) s 8) (λ _. []))))
+    go true = found-from (countOf s) s name 8
+    go false = tt
+
+-- the field of a name
+some-none : {A : Type 0} {f : Field} → some f ≡ none → A
+some-none e = let z : _≡_ {A = ℕ} 0 1 = cc in absurd (omega arith)
+
+pub named-field : NamedField
+named-field name [] f e = some-none (sym e)
+named-field name (g ∷ gs) f e = go (sameOf (g .name) name) refl e (named-field name gs f)
+  where
+    go : (b : Bool) → sameOf (g .name) name ≡ b → pick b (λ _. some g) (λ _. fieldNamed name gs) ≡ some f → (fieldNamed name gs ≡ some f → List·Memᴰ f gs × (f .name ≡ name))
+        → List·Memᴰ f (g ∷ gs) × (f .name ≡ name)
+    go true p h ih =
+        let e : g ≡ f = cc in
+        (List·Memᴰ·head (sym e), ap (λ (x : Field). x .name) (sym e) ∙ same (g .name) name .0 p)
+    go false p h ih = let r = ih h in (List·Memᴰ·tail (r .0), r .1)
+
+none-other : (name : List ℕ) (fs : List Field) → fieldNamed name fs ≡ none → (f : Field) → List·Memᴰ f fs → f .name ≡ name → ⊥
+none-other name [] e f m q = List·Memᴰ·not-nil m
+none-other name (g ∷ gs) e f m q = go (sameOf (g .name) name) refl e (none-other name gs) (List·Memᴰ·cases-cons m)
+  where
+    go : (b : Bool) → sameOf (g .name) name ≡ b → pick b (λ _. some g) (λ _. fieldNamed name gs) ≡ none
+        → (fieldNamed name gs ≡ none → (f : Field) → List·Memᴰ f gs → f .name ≡ name → ⊥) → (f ≡ g) ⊎ List·Memᴰ f gs → ⊥
+    go true p h ih c = some-none h
+    go false p h ih (inl c) = true-false (sym (same (g .name) name .1 (ap (λ (x : Field). x .name) (sym c) ∙ q)) ∙ p)
+    go false p h ih (inr c) = ih h f c q
+
+other-none : (name : List ℕ) (fs : List Field) → ((f : Field) → List·Memᴰ f fs → f .name ≡ name → ⊥) → fieldNamed name fs ≡ none
+other-none name [] h = refl
+other-none name (g ∷ gs) h = go (sameOf (g .name) name) refl (other-none name gs (λ f m. h f (List·Memᴰ·tail m)))
+  where
+    go : (b : Bool) → sameOf (g .name) name ≡ b → fieldNamed name gs ≡ none → pick b (λ _. some g) (λ _. fieldNamed name gs) ≡ none
+    go true p ih = absurd (h g (List·Memᴰ·head refl) (same (g .name) name .0 p))
+    go false p ih = ih
+
+pub none-named : NoneNamed
+none-named name fs = (none-other name fs, other-none name fs)
+
+-- a field of a rising list is after the first
+after-first : (name : List ℕ) (fs : List Field) (f : Field) → beforeFirst name fs ≡ true → rising fs ≡ true → List·Memᴰ f fs → beforeOf name (f .name) ≡ true
+after-first name [] f b r m = absurd (List·Memᴰ·not-nil m)
+after-first name (g ∷ gs) f b r m = go (List·Memᴰ·cases-cons m) (after-first (g .name) gs f (and-parts (beforeFirst (g .name) gs) (rising gs) r .0) (and-parts (beforeFirst (g .name) gs) (rising gs) r .1))
+  where
+    go : (f ≡ g) ⊎ List·Memᴰ f gs → (List·Memᴰ f gs → beforeOf (g .name) (f .name) ≡ true) → beforeOf name (f .name) ≡ true
+    go (inl c) ih = ap (λ (x : Field). beforeOf name (x .name)) c ∙ b
+    go (inr c) ih = before-transitive name (g .name) (f .name) b (ih c)
+
+pub each-found : EachFound
+each-found [] f r m = absurd (List·Memᴰ·not-nil m)
+each-found (g ∷ gs) f r m = go (List·Memᴰ·cases-cons m) (each-found gs f (and-parts (beforeFirst (g .name) gs) (rising gs) r .1))
+  where
+    go : (f ≡ g) ⊎ List·Memᴰ f gs → (List·Memᴰ f gs → fieldNamed (f .name) gs ≡ some f) → fieldNamed (f .name) (g ∷ gs) ≡ some f
+    go (inl c) ih = let e : sameOf (g .name) (f .name) ≡ true = same (g .name) (f .name) .1 (ap (λ (x : Field). x .name) (sym c)) in rw e (ap some (sym c))
+    go (inr c) ih =
+        let p = and-parts (beforeFirst (g .name) gs) (rising gs) r in
+        let n : sameOf (g .name) (f .name) ≡ false = before-not-same (g .name) (f .name) (after-first (g .name) gs f (p .0) (p .1) c) in
+        rw n (ih c)
+
+-- insertion into the fields of a notice
+pub insert-adds : InsertAdds
+insert-adds = insert-splits
+
+-- a write that is not refused
+number-zero : (b : List ℕ) (len : ℕ) (f : Field) → refusalOf b len f ≡ 0 → Insertable b len f
+number-zero b len f e = within (leb len (length b)) refl e
+  where
+    well : len ≤ length b → (l : Layout) → checkOf (take len b) ≡ l → refusalBy l b len f ≡ 0 → Insertable b len f
+    well w layouts.WellFormed p h = record { within = w; well = p; accepted = h }
+    well w (layouts.Fault place) p h = absurd (omega arith)
+
+    within : (x : Bool) → leb len (length b) ≡ x → refusalBy (pick x (λ _. checkOf (take len b)) (λ _. layouts.Fault 0)) b len f ≡ 0 → Insertable b len f
+    within true p h = well (leb-true len (length b) p) (checkOf (take len b)) refl h
+    within false p h = absurd (omega arith)
+
+pub write-adds : WriteAdds
+write-adds b len f bytes e =
+    let ins = number-zero b len f e in
+    let s = take len b in
+    let fs = fieldsOf s in
+    let small = bytes-take len b bytes in
+    let a = accepted s (length b) f (ins .accepted) in
+    let l : length s ≡ len = length-take-le len b (ins .within) in
+    let r : s ≡ render fs = well-render s small (ins .well) in
+    let n : length (render fs) ≡ len = sym (ap length r) ∙ l in
+    let t : Fitting fs f (length b) = record {
+      ok = well-fields s small (ins .well);
+      right = a .right;
+      new = a .new;
+      few = omega (arith, well-count s small (ins .well), a .few);
+      short = omega (arith, a .short);
+      fits = omega (arith, a .fits);
+    } in
+    let w = added b len f (ins .within) (ins .well) (ins .accepted) in
+    let m : writtenOf b len f .len ≡ len + fieldSize f = ap (λ (x : Written). x .len) (sym (w .0)) in
+    let new : take (writtenOf b len f .len) (writtenBytes b len f) ≡ render (insertField f fs) =
+    ap₂ (λ (k : ℕ) (d : List ℕ). take k d) m (sym (w .1))
+    ∙ take-at (render (insertField f fs)) (drop (len + fieldSize f) b) (len + fieldSize f) (omega (arith, added-length fs f)) in
+    let ok = added-fields fs f (length b) t in
+    (ap checkOf new ∙ render-passes (insertField f fs) ok, ap fieldsOf new ∙ render-fields (insertField f fs) ok)
+
+no-fields : NoticeFields []
+no-fields = record { few = omega arith; right = refl; rises = refl; short = omega (arith, length-render []) }
+
+pub written-again : WrittenAgain
+written-again s bytes well fs perm b e h =
+    let gs = fieldsOf s in
+    let ok = well-fields s bytes well in
+    let r : s ≡ render gs = well-render s bytes well in
+    let l : length s ≡ 8 + length (fieldsBytes gs) = ap length r ∙ length-render gs in
+    let short : length s ≤ 16384 = rw r (ok .short) in
+    let z : length (render []) ≡ 8 = length-render [] in
+    let n : fresh fs [] ≡ true = perm-fresh perm [] ∙ rising-fresh gs [] (ok .rises) (none-first gs) in
+    let all : insertAll fs [] ≡ gs = perm-inserted perm [] n ∙ rising-inserted gs [] (ok .rises) (none-first gs) in
+    let w = writes-all fs [] b no-fields (perm-right perm ∙ ok .right) n (omega (arith, perm-length perm, ok .few)) (omega (arith, perm-size perm)) (omega (arith, perm-size perm)) in
+    let start : over [] b ≡ b = ap₂ (λ (x : List ℕ) (k : ℕ). x ++ drop k b) (sym e) z ∙ take-append-drop 8 b in
+    let end : over (insertAll fs []) b ≡ s ++ drop (length s) b = ap (λ (x : List Field). over x b) all ∙ ap (λ (x : List ℕ). x ++ drop (length x) b) (sym r) in
+    let last : length (render (insertAll fs [])) ≡ length s = ap (λ (x : List Field). length (render x)) all ∙ ap length (sym r) in
+    along start z end last w
+  where
+    none-first : (gs : List Field) → allBeforeFirst [] gs ≡ true
+    none-first [] = refl
+    none-first (g ∷ gs) = refl
+
+    along : {a a′ d d′ : List ℕ} {m m′ k k′ : ℕ} → a ≡ a′ → m ≡ m′ → d ≡ d′ → k ≡ k′ → Writes fs a m d k → Writes fs a′ m′ d′ k′
+    along p q u v x = rw (← p, ← q, ← u, ← v) x
+
+pub empty-notice : EmptyNotice
+unfolding leBytes
+empty-notice = refl
+
+pub op42 : Op42
+unfolding leBytes
+op42 = refl

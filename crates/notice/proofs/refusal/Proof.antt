@@ -1,0 +1,123 @@
+use mathlib.Core.Path.{_≡_, refl, sym, ap, _∙_}
+use Prim.Native.Nat.{ℕ, _+_}
+use native.Mathlib.Omega.{arith}
+use lib.ListN.{length}
+use Rattle.notice.specs.Write.{field, hasRoom}
+use Rattle.notice.proofs.Inserts.{wrong-name, wrong-size, small-parts, present, no-room, no-refusal}
+use borrow.Author.Needs.{needs}
+use Rattle.notice.proofs.refusal.Statement.{statement}
+use Rattle.notice.proofs.refusal.Tie as tie
+use Rattle.notice.proofs.refusal.Reads as reads
+use Rattle.notice.proofs.refusal.Lts as lts
+use Rattle.notice.proofs.has_room.Reads as has-room-reads
+use Rattle.notice.proofs.lookup.Reads as lookup-reads
+use Rattle.notice.proofs.name_right.Reads as name-right-reads
+use Rattle.notice.proofs.size_right.Reads as size-right-reads
+use Rattle.word.proofs.read_u16.Reads as read-u16-reads
+
+-- src/lib.rt:274:8
+name-right-requires : tie.Need-name-right-requires
+name-right-requires c κs = search needs
+
+-- src/lib.rt:275:12
+size-right-requires : tie.Need-size-right-requires
+size-right-requires c κs = search needs
+
+-- src/lib.rt:276:17
+lookup-requires : tie.Need-lookup-requires
+lookup-requires c κs = search needs
+
+-- src/lib.rt:282:22
+enum-told : tie.Need-enum-told
+enum-told c = search needs
+
+-- src/lib.rt:284:32
+enum-told-2 : tie.Need-enum-told-2
+enum-told-2 c = search needs
+
+-- src/lib.rt:284:48
+add-size : tie.Need-add-size
+add-size c = search needs
+
+-- src/lib.rt:284:48
+add-size-2 : tie.Need-add-size-2
+add-size-2 c =
+    let a = c .before .before .before .before .before .before .before .before .before .before .args in
+    let f = field (a .kind) (a .name .now) (a .value .now) in
+    let m = small-parts (a .notice .now) (a .room) f (sym (c .before .before .before .before .before .before .name-right .ensures) ∙ c .before .before .before .before .before .if1 .taken) (sym (c .before .before .before .before .size-right .ensures) ∙ c .before .before .before .if2 .taken) in
+    omega (arith, m .name-fits, m .value-fits)
+
+-- src/lib.rt:284:32
+add-size-3 : tie.Need-add-size-3
+add-size-3 c =
+    let a = c .before .before .before .before .before .before .before .before .before .before .args in
+    let f = field (a .kind) (a .name .now) (a .value .now) in
+    let m = small-parts (a .notice .now) (a .room) f (sym (c .before .before .before .before .before .before .name-right .ensures) ∙ c .before .before .before .before .before .if1 .taken) (sym (c .before .before .before .before .size-right .ensures) ∙ c .before .before .before .if2 .taken) in
+    omega (arith, m .name-fits, m .value-fits, c .before .before .before .before .before .before .before .before .before .before .good)
+
+-- src/lib.rt:285:33
+read-u16-requires : tie.Need-read-u16-requires
+read-u16-requires c κs = search needs
+
+-- src/lib.rt:285:24
+has-room-requires : tie.Need-has-room-requires
+has-room-requires c κs = search needs
+
+-- src/lib.rt:270:1
+returns : tie.Need-returns
+returns c =
+    let a = c .before .before .before .before .before .before .before .before .before .before .args in
+    let f = field (a .kind) (a .name .now) (a .value .now) in
+    let g = c .enum-told .given in
+    present (a .notice .now) (a .room) f (sym (c .before .before .before .before .before .before .name-right .ensures) ∙ c .before .before .before .before .before .if1 .taken) (sym (c .before .before .before .before .size-right .ensures) ∙ c .before .before .before .if2 .taken)
+    (g .0 .0) (g .0 .1 .0) (g .0 .1 .1 .0) (sym (c .before .before .lookup .ensures) ∙ g .1)
+
+-- src/lib.rt:270:1
+returns-2 : tie.Need-returns-2
+returns-2 c =
+    let a = c .before .before .before .before .before .before .before .before .before .before .before .before .before .args in
+    let f = field (a .kind) (a .name .now) (a .value .now) in
+    let s = a .notice .now in
+    no-refusal s (a .room) f (sym (c .before .before .before .before .before .before .before .before .before .name-right .ensures) ∙ c .before .before .before .before .before .before .before .before .if1 .taken) (sym (c .before .before .before .before .before .before .before .size-right .ensures) ∙ c .before .before .before .before .before .before .if2 .taken) (sym (c .before .before .before .before .before .lookup .ensures) ∙ c .before .before .before .enum-told2 .given .1)
+    (ap (λ (n : ℕ). hasRoom n (length s + (5 + length (a .name .now) + length (a .value .now))) (a .room)) (sym (c .before .before .read-u16 .ensures)) ∙ (sym (c .before .has-room .ensures) ∙ c .if3 .taken))
+
+-- src/lib.rt:270:1
+returns-3 : tie.Need-returns-3
+returns-3 c =
+    let a = c .before .before .before .before .before .before .before .before .before .before .before .before .before .args in
+    let f = field (a .kind) (a .name .now) (a .value .now) in
+    let s = a .notice .now in
+    no-room s (a .room) f (sym (c .before .before .before .before .before .before .before .before .before .name-right .ensures) ∙ c .before .before .before .before .before .before .before .before .if1 .taken) (sym (c .before .before .before .before .before .before .before .size-right .ensures) ∙ c .before .before .before .before .before .before .if2 .taken) (sym (c .before .before .before .before .before .lookup .ensures) ∙ c .before .before .before .enum-told2 .given .1)
+    (ap (λ (n : ℕ). hasRoom n (length s + (5 + length (a .name .now) + length (a .value .now))) (a .room)) (sym (c .before .before .read-u16 .ensures)) ∙ (sym (c .before .has-room .ensures) ∙ c .if3 .left))
+
+-- src/lib.rt:270:1
+returns-4 : tie.Need-returns-4
+returns-4 c =
+    let a = c .before .before .before .before .before .before .before .args in
+    wrong-size (a .notice .now) (a .room) (field (a .kind) (a .name .now) (a .value .now)) (sym (c .before .before .before .name-right .ensures) ∙ c .before .before .if1 .taken) (sym (c .before .size-right .ensures) ∙ c .if2 .left)
+
+-- src/lib.rt:270:1
+returns-5 : tie.Need-returns-5
+returns-5 c =
+    let a = c .before .before .before .before .before .args in
+    wrong-name (a .notice .now) (a .room) (field (a .kind) (a .name .now) (a .value .now)) (sym (c .before .name-right .ensures) ∙ c .if1 .left)
+
+pub refusal-spec : {M : Type 1} → statement M
+refusal-spec =
+    tie.close
+    (tie.spec
+    name-right-requires
+    size-right-requires
+    lookup-requires
+    enum-told
+    enum-told-2
+    add-size
+    add-size-2
+    add-size-3
+    read-u16-requires
+    has-room-requires
+    returns
+    returns-2
+    returns-3
+    returns-4
+    returns-5)

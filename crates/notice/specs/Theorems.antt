@@ -1,0 +1,70 @@
+-- What holds of notices. The proofs are in proofs/Theorems.antt, under the same names.
+use mathlib.Core.Path.{_≡_}
+use mathlib.Core.Logic.{_↔_}
+use mathlib.Core.Bool.{true}
+use mathlib.Core.List.{List, [], _∷_, _++_, List·Memᴰ, List·Permᴰ}
+use mathlib.Core.Option.{Option, some, none}
+use Prim.Native.Nat.{ℕ, _≤_}
+use lib.ListN.{length, take, drop}
+use Rattle.word.specs.Word.{Bytes}
+use Rattle.notice.specs.declared.Layout.{Layout}
+use Rattle.notice.specs.Field.{Field, rising}
+use Rattle.notice.specs.Render.{render, NoticeFields}
+use Rattle.notice.specs.Layout.{checkOf, fieldsOf}
+use Rattle.notice.specs.Lookup.{fieldNamed, lookupOf, FoundIs}
+use Rattle.notice.specs.Write.{field, insertField, writtenOf, writtenBytes, Writes}
+
+-- A slice is a well-formed notice exactly if it is the bytes of some list of at most 64 right fields with rising names, at most 16,384 bytes in all.
+abbrev pub WellFormed : Type 0
+WellFormed = (s : List ℕ) → Bytes s → (checkOf s ≡ Layout.WellFormed) ↔ ((fs : List Field) × NoticeFields fs × (s ≡ render fs))
+
+-- That list is unique, and is the one that the walk over the bytes gives.
+abbrev pub OneList : Type 0
+OneList = (fs gs : List Field) → NoticeFields fs → NoticeFields gs → render fs ≡ render gs → fs ≡ gs
+
+abbrev pub FieldsRead : Type 0
+FieldsRead = (fs : List Field) → NoticeFields fs → fieldsOf (render fs) ≡ fs
+
+-- Lookup finds what the list of fields has under the name: the field's kind, and its value as a part of the notice.
+abbrev pub Lookup : Type 0
+Lookup = (s name : List ℕ) → FoundIs s (lookupOf s name) (fieldNamed name (fieldsOf s))
+
+-- A field that is found by a name is one of the fields and has the name.
+abbrev pub NamedField : Type 0
+NamedField = (name : List ℕ) (fs : List Field) (f : Field) → fieldNamed name fs ≡ some f → List·Memᴰ f fs × (f .name ≡ name)
+
+-- None is found exactly if no field has the name.
+abbrev pub NoneNamed : Type 0
+NoneNamed = (name : List ℕ) (fs : List Field) → (fieldNamed name fs ≡ none) ↔ ((f : Field) → List·Memᴰ f fs → f .name ≡ name → ⊥)
+
+-- Every field of a notice is found by its name.
+abbrev pub EachFound : Type 0
+EachFound = (fs : List Field) (f : Field) → rising fs ≡ true → List·Memᴰ f fs → fieldNamed (f .name) fs ≡ some f
+
+-- "A notice that is written reads back as the same fields": what a write that is not refused leaves is a notice. It has all the old fields and the new one, as it was given, at its name's place, and no other.
+abbrev pub WriteAdds : Type 0
+WriteAdds =
+    (buffer : List ℕ) (len : ℕ) (f : Field) → Bytes buffer → writtenOf buffer len f .number ≡ 0 →
+    (checkOf (take (writtenOf buffer len f .len) (writtenBytes buffer len f)) ≡ Layout.WellFormed)
+    × (fieldsOf (take (writtenOf buffer len f .len) (writtenBytes buffer len f)) ≡ insertField f (fieldsOf (take len buffer)))
+
+-- Insertion keeps every field and adds the new one.
+abbrev pub InsertAdds : Type 0
+InsertAdds = (f : Field) (fs : List Field) → (pre post : List Field) × (fs ≡ pre ++ post) × (insertField f fs ≡ pre ++ (f ∷ post))
+
+-- "one that is read and written again has the same bytes": all fields of a notice, written in any order from the empty notice in any buffer that has room, are not refused, leave the notice's own bytes, and the bytes after them stay.
+abbrev pub WrittenAgain : Type 0
+WrittenAgain =
+    (s : List ℕ) → Bytes s → checkOf s ≡ Layout.WellFormed → (fs : List Field) → List·Permᴰ fs (fieldsOf s) →
+    (buffer : List ℕ) → take 8 buffer ≡ render [] → length s ≤ length buffer →
+    Writes fs buffer 8 (s ++ drop (length s) buffer) (length s)
+
+-- "E is `04 00 00 00 01 00 00 00`"
+abbrev pub EmptyNotice : Type 0
+EmptyNotice = render [] ≡ 4 ∷ 0 ∷ 0 ∷ 0 ∷ 1 ∷ 0 ∷ 0 ∷ 0 ∷ []
+
+-- "Op42 is `0F 00 00 00 01 00 01 00 09 00 01 00 02 4F 70 2A 00 00 00`": the int32 field `Op` of value 42
+abbrev pub Op42 : Type 0
+Op42 =
+    render (field 1 (0x4f ∷ 0x70 ∷ []) (42 ∷ 0 ∷ 0 ∷ 0 ∷ []) ∷ [])
+    ≡ 0x0f ∷ 0 ∷ 0 ∷ 0 ∷ 1 ∷ 0 ∷ 1 ∷ 0 ∷ 9 ∷ 0 ∷ 1 ∷ 0 ∷ 2 ∷ 0x4f ∷ 0x70 ∷ 0x2a ∷ 0 ∷ 0 ∷ 0 ∷ []

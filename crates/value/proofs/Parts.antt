@@ -1,0 +1,61 @@
+-- Parts of slices and folding: what the code's branches give. Assumes nothing.
+use mathlib.Core.Path.{_≡_, refl, sym, ap, _∙_}
+use mathlib.Core.Bool.{Bool, true, false}
+use mathlib.Core.List.{List, [], _∷_, map}
+use Prim.Native.Nat.{ℕ, zero, suc, _+_, _-_, _*_, _^_, _≤_, _<_}
+use native.Mathlib.Nat.{add-sub-cancel-left, pow-le-pow-right, zero-add, suc-add, min-le-left, lt-of-le-of-lt}
+use native.Mathlib.Omega.{arith}
+use mir.Syntax.{w32}
+use mir.Val.{hbits}
+use lib.ListN.{length, take, drop, getD, length-drop, length-take, drop-of-length-le, List·getD-eq-default}
+use lib.Seq.{take-all, take-nil, drop-length}
+use Rattle.octets.specs.Octets.{folded}
+use Rattle.octets.proofs.Theorems.{folded-twice, not-folded}
+use Rattle.word.specs.Word.{le}
+
+-- a part that starts past the end is empty, one that ends past the end is the rest, and any other is as long as it says
+pub past : (s : List ℕ) (start len : ℕ) → length s ≤ start → take (length s - length s) (drop (length s) s) ≡ take len (drop start s)
+past s start len h = rw (drop-of-length-le s h, drop-length s, take-nil, take-nil)
+
+pub rest : (s : List ℕ) (start len : ℕ) → length s - start ≤ len → take (length s - start) (drop start s) ≡ take len (drop start s)
+rest s start len h =
+    take-all (length s - start) (drop start s) (rw (length-drop start s) (omega arith))
+    ∙ sym (take-all len (drop start s) (rw (length-drop start s) (omega arith)))
+
+pub whole : (s : List ℕ) (start len : ℕ) → take (start + len - start) (drop start s) ≡ take len (drop start s)
+whole s start len = rw add-sub-cancel-left
+
+-- folding what may be folded already
+pub refold : (m : Bool) (s : List ℕ) → folded true (folded m s) ≡ folded true s
+refold true s = folded-twice true s
+refold false s = ap (folded true) (not-folded s)
+
+pub shorter : (s : List ℕ) (start len : ℕ) → len < 65536 → length (take len (drop start s)) < 65536
+shorter s start len h = let e = length-take len (drop start s) in rw e (lt-of-le-of-lt (min-le-left len (length (drop start s))) h)
+
+pub below-half : (n : ℕ) → n < 65536 → n < 2 ^ hbits w32
+below-half n h = omega arith
+
+pub length-folded : (m : Bool) (s : List ℕ) → length (folded m s) ≡ length s
+length-folded m [] = refl
+length-folded m (x ∷ xs) = ap suc (length-folded m xs)
+
+-- a word of which bytes are not there
+past-end : (k : ℕ) (s : List ℕ) (at : ℕ) → length s ≤ at → le k s at ≡ 0
+unfolding le
+past-end zero s at h = refl
+past-end (suc k) s at h = rw (List·getD-eq-default s 0 h, past-end k s (suc at) (omega arith))
+
+cut : (n k : ℕ) (s : List ℕ) (at : ℕ) → length s ≤ at + n → le (n + k) s at ≡ le n s at
+unfolding le
+cut zero k s at h = rw zero-add (past-end k s at (omega arith))
+cut (suc n) k s at h = rw suc-add (ap (λ (v : ℕ). getD s at 0 + 256 * v) (cut n k s (suc at) (omega arith)))
+
+pub short-word : (k : ℕ) (s : List ℕ) → length s < k → le (length s) s 0 ≡ le k s 0
+short-word k s h = sym (ap (λ (n : ℕ). le n s 0) e ∙ cut (length s) (k - length s) s 0 (omega arith))
+  where
+    e : k ≡ length s + (k - length s)
+    e = omega arith
+
+pub wider : {v n k : ℕ} → v < 256 ^ n → n < k → v < 256 ^ k
+wider {v} {n} {k} h l = let p : 256 ^ n ≤ 256 ^ k = pow-le-pow-right {n = 256} (omega arith) (omega arith) in omega arith

@@ -1,0 +1,288 @@
+-- The theorems that specs/Theorems.antt states. Assumes nothing.
+use mathlib.Core.Path.{_≡_, refl, sym, ap, _∙_}
+use mathlib.Core.Logic.{_⊎_, inl, inr}
+use mathlib.Core.Bool.{Bool, true, false, cond, _&&_, _||_}
+use mathlib.Core.List.{List, [], _∷_, _++_, map}
+use mathlib.Core.Option.{Option, some, none}
+use Prim.Native.Nat.{ℕ, suc, _+_, _-_, _*_, _%_, _^_, _<_}
+use native.Mathlib.Nat.{mod-eq-of-lt, mul-add-mod-self-right}
+use native.Mathlib.Omega.{arith}
+use lib.IntN.{ℤ, pos, negsuc}
+use lib.ListN.{take, drop}
+use mir.Syntax.{w32, w64}
+use mir.Val.{bits, hbits, SFits, toZ, ofZ}
+use mir.ValLaws.{toZ-ofZ, toZ-pos, toZ-neg}
+use Rattle.truth.specs.declared.Truth.{Truth}
+use Rattle.truth.specs.declared.Truth.the-variants.{False, Bottom, True}
+use Rattle.truth.specs.Truth.{orOf, xorOf, ofBool}
+use Rattle.truth.proofs.Theorems.{false-and as false-and-t, true-or as true-or-t}
+use Rattle.octets.proofs.Theorems.{true-false}
+use Rattle.opcode.specs.declared.Load.{Load}
+use Rattle.opcode.specs.declared.Arithmetic.{Arithmetic}
+use Rattle.opcode.specs.declared.Bitwise.{Bitwise}
+use Rattle.opcode.specs.declared.Shift.{Shift}
+use Rattle.opcode.specs.declared.Order.{Order}
+use Rattle.opcode.specs.declared.Change.{Change}
+use Rattle.opcode.specs.declared.Test.{Test}
+use Rattle.opcode.specs.declared.Unary.{Unary}
+use Rattle.opcode.specs.declared.Combine.{Combine}
+use Rattle.opcode.specs.declared.Compare.{Compare}
+use Rattle.opcode.specs.declared.Connective.{Connective}
+use Rattle.opcode.specs.declared.Binary.{Binary}
+use Rattle.opcode.specs.declared.Fit.{Fit}
+use Rattle.opcode.specs.declared.Many.{Many}
+use Rattle.number.specs.declared.Number.{Number}
+use Rattle.number.specs.Number.{equalOf}
+use Rattle.number.proofs.Theorems.{left-none, right-none, real-bits}
+use Rattle.notice.specs.declared.Found.{Found}
+use Rattle.notice.specs.Field.{Field}
+use Rattle.notice.specs.Layout.{fieldsOf}
+use Rattle.notice.specs.Lookup.{lookupOf, fieldNamed, FoundIs}
+use Rattle.notice.proofs.Theorems.{lookup}
+use Rattle.value.specs.Value.{Value, missing, Item, logic, value, numberOf, valueOf, isText, textIn, equalValues, combineNumbers, compareOf, fitOf, allTexts, anyFits, anyFit, anyEqual, fitValues, truthIn, valueIn, strictOr, tallyOf, startOf, fieldValue, foundValue, namedValue, valueNamed, inPool, int32, int64, real, text}
+use Rattle.value.specs.Theorems.{UnaryKind, BinaryKind, ManyKind, LoadKind, StrictUnary, StrictBinary, StrictMany, LaterNoText, EqualsTrue, FalseAnd, TrueOr, EqualOtherwise, Tally, ValueNamed, LoadInt32, LoadInt64, LoadReal64, LoadText, LoadName}
+
+pub unary-kind : UnaryKind
+unary-kind Unary.Not x = refl
+unary-kind (Unary.Change o) x = refl
+unary-kind (Unary.Test o) x = refl
+
+pub binary-kind : BinaryKind
+binary-kind (Binary.Combine o) x y = refl
+binary-kind (Binary.Compare o) x y = refl
+binary-kind (Binary.Connect o) x y = refl
+
+pub many-kind : ManyKind
+many-kind o x ys = refl
+
+pub load-kind : LoadKind
+load-kind pool notice Load.Int32 a b = refl
+load-kind pool notice Load.Int64 a b = refl
+load-kind pool notice Load.Real64 a b = refl
+load-kind pool notice Load.Text a b = refl
+load-kind pool notice Load.Name a b = refl
+
+pub strict-unary : StrictUnary
+strict-unary Unary.Not = refl
+strict-unary (Unary.Change Change.FoldCase) = refl
+strict-unary (Unary.Change Change.Size) = refl
+strict-unary (Unary.Change Change.Complement) = refl
+strict-unary (Unary.Test Test.Int32) = refl
+strict-unary (Unary.Test Test.Int64) = refl
+strict-unary (Unary.Test Test.Real64) = refl
+strict-unary (Unary.Test Test.Text) = refl
+strict-unary (Unary.Test Test.Opaque) = refl
+strict-unary (Unary.Test Test.Nan) = refl
+strict-unary (Unary.Test Test.Require) = refl
+
+-- numbers' own laws, one at a time
+none-combine : (o : Combine) (n : Number) → (combineNumbers o Number.None n ≡ Number.None) × (combineNumbers o n Number.None ≡ Number.None)
+none-combine (Combine.Shift o) n = (left-none n Arithmetic.Add Bitwise.And o Order.Less .2, right-none n Arithmetic.Add Bitwise.And o Order.Less .2)
+none-combine (Combine.Bitwise o) n = (left-none n Arithmetic.Add o Shift.Left Order.Less .1, right-none n Arithmetic.Add o Shift.Left Order.Less .1)
+none-combine (Combine.Arithmetic o) n = (left-none n o Bitwise.And Shift.Left Order.Less .0, right-none n o Bitwise.And Shift.Left Order.Less .0)
+
+none-equal : (n : Number) → (equalOf Number.None n ≡ Bottom) × (equalOf n Number.None ≡ Bottom)
+none-equal n = (left-none n Arithmetic.Add Bitwise.And Shift.Left Order.Less .3, right-none n Arithmetic.Add Bitwise.And Shift.Left Order.Less .3)
+
+and-false : (t : Bool) → (t && false) ≡ false
+and-false true = refl
+and-false false = refl
+
+missing-equal : (v : Value) → (equalValues missing v ≡ Bottom) × (equalValues v missing ≡ Bottom)
+missing-equal v = (none-equal (numberOf v) .0, rw (and-false (isText v)) (none-equal (numberOf v) .1))
+
+missing-compare : (o : Compare) (v : Value) → (compareOf o missing v ≡ Bottom) × (compareOf o v missing ≡ Bottom)
+missing-compare Compare.Equal v = missing-equal v
+missing-compare Compare.NotEqual v = (rw (missing-equal v .0), rw (missing-equal v .1))
+missing-compare (Compare.Order o) v =
+    (left-none (numberOf v) Arithmetic.Add Bitwise.And Shift.Left o .4, right-none (numberOf v) Arithmetic.Add Bitwise.And Shift.Left o .4)
+
+pub strict-binary : StrictBinary
+strict-binary (Binary.Combine o) x e =
+    let n = none-combine o (numberOf (valueIn x)) in (ap (λ (n : Number). value (valueOf n)) (n .0), ap (λ (n : Number). value (valueOf n)) (n .1))
+strict-binary (Binary.Compare o) x e = let c = missing-compare o (valueIn x) in (ap logic (c .0), ap logic (c .1))
+strict-binary (Binary.Connect Connective.And) x e = true-false (sym e)
+strict-binary (Binary.Connect Connective.Xor) x e = ends (truthIn x)
+  where
+    ends : (t : Truth) → (logic (xorOf Bottom t) ≡ logic Bottom) × (logic (xorOf t Bottom) ≡ logic Bottom)
+    ends True = (refl, refl)
+    ends Bottom = (refl, refl)
+    ends False = (refl, refl)
+strict-binary (Binary.Connect Connective.Or) x e = true-false (sym e)
+
+bottom-or : (t : Truth) → (t ≡ False) ⊎ (t ≡ Bottom) → orOf Bottom t ≡ Bottom
+bottom-or t (inl e) = rw e
+bottom-or t (inr e) = rw e
+
+missing-any : (ws : List Value) → (anyEqual missing ws ≡ False) ⊎ (anyEqual missing ws ≡ Bottom)
+missing-any [] = inl refl
+missing-any (w ∷ ws) = inr (rw (missing-equal w .0) (bottom-or (anyEqual missing ws) (missing-any ws)))
+
+pub strict-many : StrictMany
+strict-many (Many.Fit f) y ys = refl
+strict-many Many.Equals y ys = ap logic (rw (missing-equal (valueIn y) .0) (bottom-or (anyEqual missing (map valueIn ys)) (missing-any (map valueIn ys))))
+
+no-text : (y : Item) (ys zs : List Item) → isText (valueIn y) ≡ false → allTexts (map valueIn (ys ++ (y ∷ zs))) ≡ false
+no-text y [] zs e = rw e
+no-text y (x ∷ xs) zs e = rw (no-text y xs zs e) (and-false (isText (valueIn x)))
+
+pub later-no-text : LaterNoText
+later-no-text f x y ys zs e = rw (no-text y ys zs e, and-false (isText (valueIn x)))
+
+or-true : (t : Truth) → (orOf True t ≡ True) × (orOf t True ≡ True)
+or-true True = (refl, refl)
+or-true Bottom = (refl, refl)
+or-true False = (refl, refl)
+
+some-equal : (x y : Item) (ys zs : List Item) → equalValues (valueIn x) (valueIn y) ≡ True → anyEqual (valueIn x) (map valueIn (ys ++ (y ∷ zs))) ≡ True
+some-equal x y [] zs e = rw e (or-true (anyEqual (valueIn x) (map valueIn zs)) .0)
+some-equal x y (w ∷ ws) zs e = rw (some-equal x y ws zs e) (or-true (equalValues (valueIn x) (valueIn w)) .1)
+
+pub equals-true : EqualsTrue
+equals-true x y ys zs e = ap logic (some-equal x y ys zs e)
+
+pub false-and : FalseAnd
+false-and (logic t) y e = ap logic (false-and-t t (truthIn y) e)
+false-and (value v) y e = true-false (sym e)
+
+pub true-or : TrueOr
+true-or (logic t) y e = ap logic (true-or-t t (truthIn y) e)
+true-or (value v) y e = true-false (sym e)
+
+pub equal-otherwise : EqualOtherwise
+equal-otherwise v w e (inl n) = rw (e, n) (none-equal (numberOf w) .0)
+equal-otherwise v w e (inr n) = rw (e, n) (none-equal (numberOf v) .1)
+
+-- one later operand after the other
+or-assoc : (r s t : Truth) → orOf (orOf r s) t ≡ orOf r (orOf s t)
+or-assoc True True True = refl
+or-assoc True True Bottom = refl
+or-assoc True True False = refl
+or-assoc True Bottom True = refl
+or-assoc True Bottom Bottom = refl
+or-assoc True Bottom False = refl
+or-assoc True False True = refl
+or-assoc True False Bottom = refl
+or-assoc True False False = refl
+or-assoc Bottom True True = refl
+or-assoc Bottom True Bottom = refl
+or-assoc Bottom True False = refl
+or-assoc Bottom Bottom True = refl
+or-assoc Bottom Bottom Bottom = refl
+or-assoc Bottom Bottom False = refl
+or-assoc Bottom False True = refl
+or-assoc Bottom False Bottom = refl
+or-assoc Bottom False False = refl
+or-assoc False True True = refl
+or-assoc False True Bottom = refl
+or-assoc False True False = refl
+or-assoc False Bottom True = refl
+or-assoc False Bottom Bottom = refl
+or-assoc False Bottom False = refl
+or-assoc False False True = refl
+or-assoc False False Bottom = refl
+or-assoc False False False = refl
+
+or-false : (t : Truth) → (orOf t False ≡ t) × (orOf False t ≡ t)
+or-false True = (refl, refl)
+or-false Bottom = (refl, refl)
+or-false False = (refl, refl)
+
+equals-from : (x : Item) (known : Truth) (ys : List Item) → tallyOf Many.Equals x known ys ≡ orOf known (anyEqual (valueIn x) (map valueIn ys))
+equals-from x known [] = sym (or-false known .0)
+equals-from x known (y ∷ ys) =
+    equals-from x (orOf known (equalValues (valueIn x) (valueIn y))) ys
+    ∙ or-assoc known (equalValues (valueIn x) (valueIn y)) (anyEqual (valueIn x) (map valueIn ys))
+
+strict-assoc : (r s t : Truth) → strictOr (strictOr r s) t ≡ strictOr r (strictOr s t)
+strict-assoc Bottom s t = refl
+strict-assoc False s t = refl
+strict-assoc True Bottom t = refl
+strict-assoc True False Bottom = refl
+strict-assoc True False False = refl
+strict-assoc True False True = refl
+strict-assoc True True Bottom = refl
+strict-assoc True True False = refl
+strict-assoc True True True = refl
+
+strict-false : (t : Truth) → strictOr t False ≡ t
+strict-false Bottom = refl
+strict-false False = refl
+strict-false True = refl
+
+strict-bottom : (t : Truth) → strictOr t Bottom ≡ Bottom
+strict-bottom Bottom = refl
+strict-bottom False = refl
+strict-bottom True = refl
+
+strict-known : (a b : Bool) → strictOr (ofBool a) (ofBool b) ≡ ofBool (a || b)
+strict-known true true = refl
+strict-known true false = refl
+strict-known false b = refl
+
+module _ (f : Fit) (v : Value) (e : isText v ≡ true) where
+  one-more : (w : Value) (ws : List Value) → strictOr (fitValues f v w) (anyFit f v ws) ≡ anyFit f v (w ∷ ws)
+  one-more w ws = rw e (by (isText w) (allTexts ws) (fitOf f (textIn v) (textIn w)) (anyFits f (textIn v) ws))
+    where
+      by : (s t a b : Bool) → strictOr (cond s (ofBool a) Bottom) (cond t (ofBool b) Bottom) ≡ cond (s && t) (ofBool (a || b)) Bottom
+      by true true a b = strict-known a b
+      by true false a b = strict-bottom (ofBool a)
+      by false t a b = refl
+
+fits-from : (f : Fit) (x : Item) (known : Truth) → isText (valueIn x) ≡ true → (ys : List Item)
+    → tallyOf (Many.Fit f) x known ys ≡ strictOr known (anyFit f (valueIn x) (map valueIn ys))
+fits-from f x known e [] = rw e (sym (strict-false known))
+fits-from f x known e (y ∷ ys) =
+    fits-from f x (strictOr known (fitValues f (valueIn x) (valueIn y))) e ys
+    ∙ strict-assoc known (fitValues f (valueIn x) (valueIn y)) (anyFit f (valueIn x) (map valueIn ys))
+    ∙ ap (strictOr known) (one-more f (valueIn x) e (valueIn y) (map valueIn ys))
+
+stays-bottom : (f : Fit) (x : Item) (ys : List Item) → tallyOf (Many.Fit f) x Bottom ys ≡ Bottom
+stays-bottom f x [] = refl
+stays-bottom f x (y ∷ ys) = stays-bottom f x ys
+
+fits-by : (f : Fit) (x : Item) (ys : List Item) (b : Bool) → isText (valueIn x) ≡ b
+    → tallyOf (Many.Fit f) x (cond (isText (valueIn x)) False Bottom) ys ≡ anyFit f (valueIn x) (map valueIn ys)
+fits-by f x ys true e = ap (λ (t : Bool). tallyOf (Many.Fit f) x (cond t False Bottom) ys) e ∙ fits-from f x False e ys
+fits-by f x ys false e = ap (λ (t : Bool). tallyOf (Many.Fit f) x (cond t False Bottom) ys) e ∙ stays-bottom f x ys ∙ rw e
+
+pub tally : Tally
+tally (Many.Fit f) x ys = ap logic (fits-by f x ys (isText (valueIn x)) refl)
+tally Many.Equals x ys = ap logic (equals-from x False ys ∙ or-false (anyEqual (valueIn x) (map valueIn ys)) .1)
+
+-- names and loads
+found : (s : List ℕ) (r : Found) (o : Option Field) → FoundIs s r o → foundValue s r ≡ namedValue o
+found s Found.Nothing none h = refl
+found s Found.Nothing (some f) h = absurd h
+found s (Found.At kind start len) none h = absurd h
+found s (Found.At kind start len) (some f) h = rw (h .0, h .2)
+
+pub value-named : ValueNamed
+value-named notice name = found notice (lookupOf notice name) (fieldNamed name (fieldsOf notice)) (lookup notice name)
+
+low-half : (z : ℤ) → SFits w32 z → toZ w32 (ofZ w64 z % 2 ^ 32) ≡ z
+low-half (pos n) f = let h = f .sfits in let e : n % 2 ^ 32 ≡ n = mod-eq-of-lt (omega arith) in ap (toZ w32) e ∙ toZ-pos w32 n h
+low-half (negsuc n) f =
+    let h = f .sfits in
+    let l : 2 ^ 64 - suc n ≡ (2 ^ 32 - 1) * 2 ^ 32 + (2 ^ 32 - suc n) = omega arith in
+    let e : (2 ^ 64 - suc n) % 2 ^ 32 ≡ 2 ^ 32 - suc n =
+    ap (λ (m : ℕ). m % 2 ^ 32) l ∙ mul-add-mod-self-right (2 ^ 32 - 1) (2 ^ 32) (2 ^ 32 - suc n) ∙ mod-eq-of-lt (omega arith) in
+    ap (toZ w32) e ∙ toZ-neg w32 n h
+
+pub load-int32 : LoadInt32
+load-int32 pool notice a z f = ap (λ (n : ℤ). value (int32 n)) (low-half z f)
+
+pub load-int64 : LoadInt64
+load-int64 pool notice a z f = ap (λ (n : ℤ). value (int64 n)) (toZ-ofZ w64 z f)
+
+pub load-real64 : LoadReal64
+load-real64 pool notice a x f = ap (λ y. value (real y)) (real-bits x f)
+
+at-offset : (pool : List ℕ) (a b : ℕ) → b < 2 ^ 16 → inPool pool a b ≡ take a (drop b pool)
+at-offset pool a b h = ap (λ (n : ℕ). take a (drop n pool)) (mod-eq-of-lt h)
+
+pub load-text : LoadText
+load-text pool notice a b h = ap (λ (s : List ℕ). value (text s)) (at-offset pool a b h)
+
+pub load-name : LoadName
+load-name pool notice a b h = ap (λ (s : List ℕ). value (valueNamed notice s)) (at-offset pool a b h)

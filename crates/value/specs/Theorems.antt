@@ -1,0 +1,96 @@
+-- What holds of values and items. The proofs are in proofs/Theorems.antt, under the same names.
+use mathlib.Core.Path.{_≡_}
+use mathlib.Core.Logic.{_⊎_}
+use mathlib.Core.Bool.{true, false, _&&_}
+use mathlib.Core.List.{List, _∷_, _++_}
+use Prim.Native.Nat.{ℕ, _<_, _^_}
+use lib.Dec.{T}
+use lib.IntN.{ℤ}
+use lib.ListN.{take, drop}
+use lib.Ieee.{Float, binary64, fits, toBits}
+use mir.Syntax.{w32, w64}
+use mir.Val.{SFits, ofZ}
+use Rattle.truth.specs.declared.Truth.the-variants.{Bottom, True}
+use Rattle.truth.specs.Truth.{isFalse, isTrue}
+use Rattle.opcode.specs.Opcode.{Kind, unaryTakes, unaryGives, binaryTakes, binaryGives}
+use Rattle.opcode.specs.declared.Load.{Load}
+use Rattle.opcode.specs.declared.Unary.{Unary}
+use Rattle.opcode.specs.declared.Connective.{Connective}
+use Rattle.opcode.specs.declared.Binary.{Binary}
+use Rattle.opcode.specs.declared.Fit.{Fit}
+use Rattle.opcode.specs.declared.Many.{Many}
+use Rattle.number.specs.declared.Number.{Number}
+use Rattle.notice.specs.Layout.{fieldsOf}
+use Rattle.notice.specs.Lookup.{fieldNamed}
+use Rattle.value.specs.Value.{Value, missing, int32, int64, real, text, Item, logic, value, numberOf, isText, equalValues, truthIn, valueIn, unaryOf, binaryOf, manyItems, kindOf, bottomOf, isStrict, startOf, tallyOf, valueNamed, namedValue, loadOf}
+
+-- The kind of each answer is the operator's, whatever the operands are.
+abbrev pub UnaryKind : Type 0
+UnaryKind = (o : Unary) (x : Item) → kindOf (unaryOf o x) ≡ unaryGives o
+
+abbrev pub BinaryKind : Type 0
+BinaryKind = (o : Binary) (x y : Item) → kindOf (binaryOf o x y) ≡ binaryGives o
+
+abbrev pub ManyKind : Type 0
+ManyKind = (o : Many) (x : Item) (ys : List Item) → kindOf (manyItems o x ys) ≡ Kind.logic
+
+abbrev pub LoadKind : Type 0
+LoadKind = (pool notice : List ℕ) (o : Load) (a b : ℕ) → kindOf (loadOf pool notice o a b) ≡ Kind.value
+
+-- "bottom in a value makes the enclosing value or comparison bottom": every operator of one operand gives bottom on bottom ..
+abbrev pub StrictUnary : Type 0
+StrictUnary = (o : Unary) → unaryOf o (bottomOf (unaryTakes o)) ≡ bottomOf (unaryGives o)
+
+-- .. every operator of two but `&&` and `||` does so with bottom on either side, whatever is on the other ..
+abbrev pub StrictBinary : Type 0
+StrictBinary =
+    (o : Binary) (x : Item) → isStrict o ≡ true
+    → (binaryOf o (bottomOf (binaryTakes o)) x ≡ bottomOf (binaryGives o)) × (binaryOf o x (bottomOf (binaryTakes o)) ≡ bottomOf (binaryGives o))
+
+-- .. and every operator of several does so where the first is missing.
+abbrev pub StrictMany : Type 0
+StrictMany = (o : Many) (y : Item) (ys : List Item) → manyItems o (value missing) (y ∷ ys) ≡ logic Bottom
+
+-- "In 56..58 a later operand that is no string gives bottom", whatever fitted before it.
+abbrev pub LaterNoText : Type 0
+LaterNoText = (f : Fit) (x y : Item) (ys zs : List Item) → isText (valueIn y) ≡ false → manyItems (Many.Fit f) x (ys ++ (y ∷ zs)) ≡ logic Bottom
+
+-- `equals` is true where any of its values is equal, also beside a bottom.
+abbrev pub EqualsTrue : Type 0
+EqualsTrue = (x y : Item) (ys zs : List Item) → equalValues (valueIn x) (valueIn y) ≡ True → manyItems Many.Equals x (ys ++ (y ∷ zs)) ≡ logic True
+
+-- false && x is false and true || x is true, for every x: what a skip rests on.
+abbrev pub FalseAnd : Type 0
+FalseAnd = (x y : Item) → isFalse (truthIn x) ≡ true → binaryOf (Binary.Connect Connective.And) x y ≡ x
+
+abbrev pub TrueOr : Type 0
+TrueOr = (x y : Item) → isTrue (truthIn x) ≡ true → binaryOf (Binary.Connect Connective.Or) x y ≡ x
+
+-- "string with string by bytes, number with number; otherwise bottom": where not both are strings and one is no number.
+abbrev pub EqualOtherwise : Type 0
+EqualOtherwise = (v w : Value) → (isText v && isText w) ≡ false → (numberOf v ≡ Number.None) ⊎ (numberOf w ≡ Number.None) → equalValues v w ≡ Bottom
+
+-- One later operand after the other, in their order, gives what the operator gives on all of them.
+abbrev pub Tally : Type 0
+Tally = (o : Many) (x : Item) (ys : List Item) → logic (tallyOf o x (startOf o x) ys) ≡ manyItems o x ys
+
+-- A name's value is that of the field that has the name, and missing where none has.
+abbrev pub ValueNamed : Type 0
+ValueNamed = (notice name : List ℕ) → valueNamed notice name ≡ namedValue (fieldNamed name (fieldsOf notice))
+
+-- "b: two's complement or bits, int32 widened by sign and in range": what is stored as b is loaded.
+abbrev pub LoadInt32 : Type 0
+LoadInt32 = (pool notice : List ℕ) (a : ℕ) (z : ℤ) → SFits w32 z → loadOf pool notice Load.Int32 a (ofZ w64 z) ≡ value (int32 z)
+
+abbrev pub LoadInt64 : Type 0
+LoadInt64 = (pool notice : List ℕ) (a : ℕ) (z : ℤ) → SFits w64 z → loadOf pool notice Load.Int64 a (ofZ w64 z) ≡ value (int64 z)
+
+abbrev pub LoadReal64 : Type 0
+LoadReal64 = (pool notice : List ℕ) (a : ℕ) (x : Float) → T (fits binary64 x) → loadOf pool notice Load.Real64 a (toBits binary64 x) ≡ value (real x)
+
+-- "a length, b pool offset": a pool of at most 4,096 bytes has no offset past 16 bits.
+abbrev pub LoadText : Type 0
+LoadText = (pool notice : List ℕ) (a b : ℕ) → b < 2 ^ 16 → loadOf pool notice Load.Text a b ≡ value (text (take a (drop b pool)))
+
+abbrev pub LoadName : Type 0
+LoadName = (pool notice : List ℕ) (a b : ℕ) → b < 2 ^ 16 → loadOf pool notice Load.Name a b ≡ value (valueNamed notice (take a (drop b pool)))

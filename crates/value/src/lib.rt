@@ -1,0 +1,182 @@
+// Values as a table's run holds them, and what each operator and function gives. Document 01, "Meaning", "Table".
+// No function here asks anything of its operands: what a piece names beyond its source is not there, and an operand of the other kind counts as bottom.
+ghost use mathlib.Core.Path.{_≡_};
+ghost use mathlib.Core.List.{List};
+ghost use Prim.Native.Nat.{ℕ};
+ghost use Rattle.value.specs.Value.{truthIn, valueIn, connectOf, unaryOf, binaryOf, startOf, joinOf, besideOf, moreOf, loadOf};
+ghost use Rattle.value.specs.Held.{typedOf, itemOf, pooled};
+
+mod fields;
+mod texts;
+mod values;
+
+use opcode::Binary;
+use opcode::Connective;
+use opcode::Load;
+use opcode::Many;
+use opcode::Unary;
+pub use texts::fetch;
+use truth::Truth;
+
+// "a string on the stack stands in the table's pool or in the notice"
+pub enum Origin {
+    Pool,
+    Notice,
+}
+
+// A part of the pool or of the notice, "a folded one with a mark beside it".
+pub struct Piece {
+    pub origin: Origin,
+    pub start: u16,
+    pub len: u16,
+    pub folded: bool,
+}
+
+pub enum Typed {
+    Missing,
+    Int32(i32),
+    Int64(i64),
+    Real(f64),
+    Text(Piece),
+    Opaque(Piece),
+}
+
+// "A slot holds a truth value or a value of some type"
+pub enum Held {
+    Logic(Truth),
+    Value(Typed),
+}
+
+pub struct Slot {
+    pub held: Held,
+}
+
+// What is held as an operand of either kind; the other kind counts as bottom.
+pub fn truth_in(h: Held) -> Truth
+    ensures { λ r. ⌜ ((p : List ℕ) → (q : List ℕ) → r ≡ truthIn (itemOf p q h)) ⌝ }
+{
+    match h {
+        Held::Logic(t) => t,
+        Held::Value(_) => Truth::Bottom,
+    }
+}
+
+fn value_in(h: Held) -> Typed
+    ensures { λ r. ⌜ ((p : List ℕ) → (q : List ℕ) → typedOf p q r ≡ valueIn (itemOf p q h)) ⌝ }
+{
+    match h {
+        Held::Logic(_) => Typed::Missing,
+        Held::Value(v) => v,
+    }
+}
+
+// `&& ^^ ||`
+fn connect(op: Connective, s: Truth, t: Truth) -> Truth
+    ensures { λ r. ⌜ r ≡ connectOf op s t ⌝ }
+{
+    match op {
+        Connective::And => truth::and(s, t),
+        Connective::Xor => truth::xor(s, t),
+        Connective::Or => truth::or(s, t),
+    }
+}
+
+// Ops 6..8, 40, 48..54.
+pub fn unary<'a>(pool: &'a [u8], notice: &'a [u8], op: Unary, h: Held) -> Held
+    ensures { λ r. ⌜ itemOf (now (pool .entry)) (now (notice .entry)) r ≡ unaryOf op (itemOf (now (pool .entry)) (now (notice .entry)) h) ⌝ }
+{
+    match op {
+        Unary::Not => Held::Logic(truth::not(truth_in(h))),
+        Unary::Change(o) => Held::Value(values::change(pool, notice, o, value_in(h))),
+        Unary::Test(o) => Held::Logic(values::test(o, value_in(h))),
+    }
+}
+
+// Ops 16..26, 32..37, 41..43.
+pub fn binary<'a>(pool: &'a [u8], notice: &'a [u8], op: Binary, h: Held, g: Held) -> Held
+    ensures { λ r. ⌜ itemOf (now (pool .entry)) (now (notice .entry)) r ≡ binaryOf op (itemOf (now (pool .entry)) (now (notice .entry)) h) (itemOf (now (pool .entry)) (now (notice .entry)) g) ⌝ }
+{
+    match op {
+        Binary::Combine(o) => Held::Value(values::combine(o, value_in(h), value_in(g))),
+        Binary::Compare(o) => Held::Logic(values::compare(
+            pool,
+            notice,
+            o,
+            value_in(h),
+            value_in(g),
+        )),
+        Binary::Connect(o) => Held::Logic(connect(o, truth_in(h), truth_in(g))),
+    }
+}
+
+// Ops 56..59, one later operand after the other: what is known before any of them ..
+pub fn start(op: Many, first: Held) -> Truth
+    ensures { λ r. ⌜ ((p : List ℕ) → (q : List ℕ) → r ≡ startOf op (itemOf p q first)) ⌝ }
+{
+    match op {
+        Many::Fit(_) => values::start_fit(value_in(first)),
+        Many::Equals => Truth::False,
+    }
+}
+
+// .. and with one more.
+pub fn more<'a>(
+    pool: &'a [u8],
+    notice: &'a [u8],
+    op: Many,
+    first: Held,
+    known: Truth,
+    later: Held,
+) -> Truth
+    ensures { λ r. ⌜ r ≡ moreOf op (itemOf (now (pool .entry)) (now (notice .entry)) first) known (itemOf (now (pool .entry)) (now (notice .entry)) later) ⌝ }
+{
+    join(
+        op,
+        known,
+        beside(pool, notice, op, value_in(first), value_in(later)),
+    )
+}
+
+// The first operand beside a later one.
+fn beside<'a>(pool: &'a [u8], notice: &'a [u8], op: Many, v: Typed, w: Typed) -> Truth
+    ensures { λ r. ⌜ r ≡ besideOf op (typedOf (now (pool .entry)) (now (notice .entry)) v) (typedOf (now (pool .entry)) (now (notice .entry)) w) ⌝ }
+{
+    match op {
+        Many::Fit(f) => values::fit(pool, notice, f, v, w),
+        Many::Equals => values::equal(pool, notice, v, w),
+    }
+}
+
+fn join(op: Many, s: Truth, t: Truth) -> Truth
+    ensures { λ r. ⌜ r ≡ joinOf op s t ⌝ }
+{
+    match op {
+        Many::Fit(_) => values::strict_or(s, t),
+        Many::Equals => truth::or(s, t),
+    }
+}
+
+// Ops 1..5.
+pub fn load<'a>(pool: &'a [u8], notice: &'a [u8], op: Load, a: u16, b: u64) -> Held
+    ensures { λ r. ⌜ itemOf (now (pool .entry)) (now (notice .entry)) r ≡ loadOf (now (pool .entry)) (now (notice .entry)) op a b ⌝ }
+{
+    match op {
+        Load::Int32 => Held::Value(Typed::Int32(word::i32_of_bits((b % 0x1_0000_0000) as u32))),
+        Load::Int64 => Held::Value(Typed::Int64(word::i64_of_bits(b))),
+        Load::Real64 => Held::Value(Typed::Real(number::real_of_bits(b))),
+        Load::Text => Held::Value(Typed::Text(in_pool(a, b))),
+        Load::Name => Held::Value(fields::named(pool, notice, in_pool(a, b))),
+    }
+}
+
+// "a length, b pool offset"
+fn in_pool(a: u16, b: u64) -> Piece
+    ensures { λ r. ⌜ r ≡ pooled a b ⌝ }
+{
+    Piece {
+        origin: Origin::Pool,
+        start: (b % 65536) as u16,
+        len: a,
+        folded: false,
+    }
+}

@@ -1,0 +1,255 @@
+// What the operators and functions give on values.
+ghost use mathlib.Core.Path.{_≡_};
+ghost use mathlib.Core.Bool.{cond};
+ghost use mathlib.Core.List.{List};
+ghost use Prim.Native.Nat.{ℕ};
+ghost use Rattle.truth.specs.declared.Truth.the-variants.{False, Bottom};
+ghost use Rattle.value.specs.Value.{numberOf, valueOf, typeOf, isText, textIn, foldCaseOf, sizeOf, changeOf, ifPresent, typeTest, nanOf, testOf, combineNumbers, combineOf, equalValues, compareOf, fitValues, strictOr};
+ghost use Rattle.value.specs.Held.{pooled, foldedPiece, textOf, typedOf};
+use crate::Origin;
+use crate::Piece;
+use crate::Typed;
+use crate::texts;
+use number::Number;
+use opcode::Change;
+use opcode::Combine;
+use opcode::Compare;
+use opcode::Fit;
+use opcode::Test;
+use truth::Truth;
+
+// The number that a value is, and the value that a number is.
+fn number_of(v: Typed) -> Number
+    ensures { λ r. ⌜ ((p : List ℕ) → (q : List ℕ) → r ≡ numberOf (typedOf p q v)) ⌝ }
+{
+    match v {
+        Typed::Missing => Number::None,
+        Typed::Int32(x) => Number::Int32(x),
+        Typed::Int64(x) => Number::Int64(x),
+        Typed::Real(x) => Number::Real(x),
+        Typed::Text(_) => Number::None,
+        Typed::Opaque(_) => Number::None,
+    }
+}
+
+fn value_of(n: Number) -> Typed
+    ensures { λ r. ⌜ ((p : List ℕ) → (q : List ℕ) → typedOf p q r ≡ valueOf n) ⌝ }
+{
+    match n {
+        Number::Int32(x) => Typed::Int32(x),
+        Number::Int64(x) => Typed::Int64(x),
+        Number::Real(x) => Typed::Real(x),
+        Number::None => Typed::Missing,
+    }
+}
+
+// The type's number among the kinds of fields, 0 where the value is missing.
+fn type_of(v: Typed) -> u8
+    ensures { λ r. ⌜ ((p : List ℕ) → (q : List ℕ) → r ≡ typeOf (typedOf p q v)) ⌝ }
+{
+    match v {
+        Typed::Missing => 0,
+        Typed::Int32(_) => 1,
+        Typed::Int64(_) => 2,
+        Typed::Real(_) => 3,
+        Typed::Text(_) => 4,
+        Typed::Opaque(_) => 5,
+    }
+}
+
+fn is_text(v: Typed) -> bool
+    ensures { λ r. ⌜ ((p : List ℕ) → (q : List ℕ) → r ≡ isText (typedOf p q v)) ⌝ }
+{
+    type_of(v) == 4
+}
+
+// The piece of a text, and an empty one of what is no text.
+fn text_in(v: Typed) -> Piece
+    ensures { λ r. ⌜ ((p : List ℕ) → (q : List ℕ) → textOf p q r ≡ textIn (typedOf p q v)) ⌝ }
+{
+    match v {
+        Typed::Missing => no_text(),
+        Typed::Int32(_) => no_text(),
+        Typed::Int64(_) => no_text(),
+        Typed::Real(_) => no_text(),
+        Typed::Text(p) => p,
+        Typed::Opaque(_) => no_text(),
+    }
+}
+
+fn no_text() -> Piece
+    ensures { λ r. ⌜ r ≡ pooled 0 0 ⌝ }
+{
+    Piece {
+        origin: Origin::Pool,
+        start: 0,
+        len: 0,
+        folded: false,
+    }
+}
+
+fn fold_piece(p: Piece) -> Piece
+    ensures { λ r. ⌜ r ≡ foldedPiece p ⌝ }
+{
+    let origin = p.origin;
+    Piece {
+        origin,
+        start: p.start,
+        len: p.len,
+        folded: true,
+    }
+}
+
+// `fold-case`: the piece with its mark set.
+fn fold_case(v: Typed) -> Typed
+    ensures { λ r. ⌜ ((p : List ℕ) → (q : List ℕ) → typedOf p q r ≡ foldCaseOf (typedOf p q v)) ⌝ }
+{
+    match v {
+        Typed::Missing => Typed::Missing,
+        Typed::Int32(_) => Typed::Missing,
+        Typed::Int64(_) => Typed::Missing,
+        Typed::Real(_) => Typed::Missing,
+        Typed::Text(p) => Typed::Text(fold_piece(p)),
+        Typed::Opaque(_) => Typed::Missing,
+    }
+}
+
+// `size`
+fn size<'a>(pool: &'a [u8], notice: &'a [u8], v: Typed) -> Typed
+    ensures { λ r. ⌜ typedOf (now (pool .entry)) (now (notice .entry)) r ≡ sizeOf (typedOf (now (pool .entry)) (now (notice .entry)) v) ⌝ }
+{
+    match v {
+        Typed::Missing => Typed::Missing,
+        Typed::Int32(_) => Typed::Missing,
+        Typed::Int64(_) => Typed::Missing,
+        Typed::Real(_) => Typed::Missing,
+        Typed::Text(p) => Typed::Int32(texts::bytes_in(pool, notice, p)),
+        Typed::Opaque(p) => Typed::Int32(texts::bytes_in(pool, notice, p)),
+    }
+}
+
+// `fold-case size ~`
+pub fn change<'a>(pool: &'a [u8], notice: &'a [u8], op: Change, v: Typed) -> Typed
+    ensures { λ r. ⌜ typedOf (now (pool .entry)) (now (notice .entry)) r ≡ changeOf op (typedOf (now (pool .entry)) (now (notice .entry)) v) ⌝ }
+{
+    match op {
+        Change::FoldCase => fold_case(v),
+        Change::Size => size(pool, notice, v),
+        Change::Complement => value_of(number::complement(number_of(v))),
+    }
+}
+
+fn if_present(v: Typed, t: Truth) -> Truth
+    ensures { λ r. ⌜ ((p : List ℕ) → (q : List ℕ) → r ≡ ifPresent (typedOf p q v) t) ⌝ }
+{
+    if type_of(v) == 0 { Truth::Bottom } else { t }
+}
+
+// "Type tests: bottom if missing."
+fn type_test(number: u8, v: Typed) -> Truth
+    ensures { λ r. ⌜ ((p : List ℕ) → (q : List ℕ) → r ≡ typeTest number (typedOf p q v)) ⌝ }
+{
+    if_present(v, truth::of_bool(type_of(v) == number))
+}
+
+// "`nan`: false for other present values."
+fn nan(v: Typed) -> Truth
+    ensures { λ r. ⌜ ((p : List ℕ) → (q : List ℕ) → r ≡ nanOf (typedOf p q v)) ⌝ }
+{
+    match v {
+        Typed::Missing => Truth::Bottom,
+        Typed::Int32(_) => Truth::False,
+        Typed::Int64(_) => Truth::False,
+        Typed::Real(x) => truth::of_bool(number::is_nan(x)),
+        Typed::Text(_) => Truth::False,
+        Typed::Opaque(_) => Truth::False,
+    }
+}
+
+// `int32 int64 real64 string opaque nan require`
+pub fn test(op: Test, v: Typed) -> Truth
+    ensures { λ r. ⌜ ((p : List ℕ) → (q : List ℕ) → r ≡ testOf op (typedOf p q v)) ⌝ }
+{
+    match op {
+        Test::Int32 => type_test(1, v),
+        Test::Int64 => type_test(2, v),
+        Test::Real64 => type_test(3, v),
+        Test::Text => type_test(4, v),
+        Test::Opaque => type_test(5, v),
+        Test::Nan => nan(v),
+        Test::Require => if_present(v, Truth::True),
+    }
+}
+
+fn combine_numbers(op: Combine, a: Number, b: Number) -> Number
+    ensures { λ r. ⌜ r ≡ combineNumbers op a b ⌝ }
+{
+    match op {
+        Combine::Shift(o) => number::shift(o, a, b),
+        Combine::Bitwise(o) => number::bitwise(o, a, b),
+        Combine::Arithmetic(o) => number::arithmetic(o, a, b),
+    }
+}
+
+// `<< >> >>> & ^ | * / % + -`
+pub fn combine(op: Combine, v: Typed, w: Typed) -> Typed
+    ensures { λ r. ⌜ ((p : List ℕ) → (q : List ℕ) → typedOf p q r ≡ combineOf op (typedOf p q v) (typedOf p q w)) ⌝ }
+{
+    value_of(combine_numbers(op, number_of(v), number_of(w)))
+}
+
+// `==`: "string with string by bytes, number with number; otherwise bottom"
+pub fn equal<'a>(pool: &'a [u8], notice: &'a [u8], v: Typed, w: Typed) -> Truth
+    ensures { λ r. ⌜ r ≡ equalValues (typedOf (now (pool .entry)) (now (notice .entry)) v) (typedOf (now (pool .entry)) (now (notice .entry)) w) ⌝ }
+{
+    if is_text(v) & is_text(w) {
+        return truth::of_bool(texts::same_text(pool, notice, text_in(v), text_in(w)));
+    }
+    number::equal(number_of(v), number_of(w))
+}
+
+// `== != < <= > >=`
+pub fn compare<'a>(pool: &'a [u8], notice: &'a [u8], op: Compare, v: Typed, w: Typed) -> Truth
+    ensures { λ r. ⌜ r ≡ compareOf op (typedOf (now (pool .entry)) (now (notice .entry)) v) (typedOf (now (pool .entry)) (now (notice .entry)) w) ⌝ }
+{
+    match op {
+        Compare::Equal => equal(pool, notice, v, w),
+        Compare::NotEqual => truth::not(equal(pool, notice, v, w)),
+        Compare::Order(o) => number::order(o, number_of(v), number_of(w)),
+    }
+}
+
+// Ops 56..58: what is known before any literal, and what one literal says.
+pub fn start_fit(v: Typed) -> Truth
+    ensures { λ r. ⌜ ((p : List ℕ) → (q : List ℕ) → r ≡ cond (isText (typedOf p q v)) False Bottom) ⌝ }
+{
+    if is_text(v) {
+        Truth::False
+    } else {
+        Truth::Bottom
+    }
+}
+
+pub fn fit<'a>(pool: &'a [u8], notice: &'a [u8], op: Fit, v: Typed, w: Typed) -> Truth
+    ensures { λ r. ⌜ r ≡ fitValues op (typedOf (now (pool .entry)) (now (notice .entry)) v) (typedOf (now (pool .entry)) (now (notice .entry)) w) ⌝ }
+{
+    if is_text(v) & is_text(w) {
+        return truth::of_bool(texts::fits(pool, notice, op, text_in(v), text_in(w)));
+    }
+    Truth::Bottom
+}
+
+// `||` of two that are known, else bottom.
+pub fn strict_or(s: Truth, t: Truth) -> Truth
+    ensures { λ r. ⌜ r ≡ strictOr s t ⌝ }
+{
+    match s {
+        Truth::Bottom => Truth::Bottom,
+        Truth::False => t,
+        Truth::True => match t {
+            Truth::Bottom => Truth::Bottom,
+            Truth::False => Truth::True,
+            Truth::True => Truth::True,
+        },
+    }
+}

@@ -1,0 +1,60 @@
+#!/usr/bin/env python3
+"""run_vectors.py VECTORS: writes crates/interpreter_test/stdin and stdout from VECTORS/run.txt, document 01's own runs, and runs at the limits that document 01 names.
+
+A vector's answer is its own. Those of the other cases follow from document 01's sentences, which are named beside them."""
+import struct
+import sys
+from pathlib import Path
+
+OP42 = bytes.fromhex("0F0000000100010009000100024F702A000000")
+E = bytes.fromhex("0400000001000000")
+NAME, NUMBER, EQUAL, NOT = (5, 2, 0), (1, 0, 42), (32, 0, 0), (40, 0, 0)
+
+
+def table(entries, pool=b"Op"):
+    body = struct.pack("<HHH", 2, len(entries), len(pool)) + b"".join(struct.pack("<HHQ", *e) for e in entries) + pool
+    return struct.pack("<I", len(body)) + body
+
+
+def cases():
+    op42 = [NAME, NUMBER, EQUAL]
+    # "P `Op == 42`: true on Op42, 3 steps."; "N 0 bottom 3 0" on E
+    yield table(op42), OP42, "0 0 true 3"
+    yield table(op42), E, "0 0 bottom 3"
+    # "P `Op == 1 && 1 == 2` on E: false, 8 steps. P `1 == 2 && Op == 42` on E: false, 4 steps."
+    one, two = (1, 0, 1), (1, 0, 2)
+    yield table([NAME, one, EQUAL, (44, 4, 0), one, two, EQUAL, (41, 0, 0)]), E, "0 0 false 8"
+    yield table([one, two, EQUAL, (44, 4, 0), NAME, NUMBER, EQUAL, (41, 0, 0)]), E, "0 0 false 4"
+    # "P `1 / 0 == 0 || 1 == 1`: true"
+    zero = (1, 0, 0)
+    yield table([one, zero, (23, 0, 0), zero, EQUAL, (45, 4, 0), one, one, EQUAL, (43, 0, 0)]), E, "0 0 true 10"
+    # "Running: 12 before 11."; "0 for the header (size over 16,384 ..)"
+    yield table(op42)[:-1], OP42[:-1], "12 0 bottom 0"
+    yield table(op42), OP42[:-1], "11 0 bottom 0"
+    yield table(op42), OP42[:8] + b"\x08" + OP42[9:], "11 8 bottom 0"
+    yield table(op42), OP42 + bytes(16385 - len(OP42)), "11 0 bottom 0"
+    yield b"", b"", "12 0 bottom 0"
+    # "entry count N 1..512": 509 times `!`
+    yield table(op42 + [NOT] * 509), OP42, "0 0 false 512"
+    yield table(op42 + [NOT] * 510), OP42, "12 0 bottom 0"
+    # "depth is at most 32": 32 times 42 added up
+    for depth in (32, 33):
+        sums = [NUMBER] * depth + [(25, 0, 0)] * (depth - 1)
+        yield table(sums[:depth] + sums[depth + 1:] + [(33, 0, 0)]), E, "0 0 true %d" % (2 * depth - 1) if depth <= 32 else "12 0 bottom 0"
+    # "a: literals or values, 1..8; taken from the stack with the first": the last of eight is equal, the first deepest
+    for last, verdict in ((42, "true"), (43, "false")):
+        yield table([NAME] + [two] * 7 + [(1, 0, last), (59, 8, 0)]), OP42, "0 0 %s 10" % verdict
+
+
+def main(vectors):
+    here = Path(__file__).resolve().parent.parent / "crates" / "interpreter_test"
+    rows = list(cases())
+    for line in (Path(vectors) / "run.txt").read_text().split("\n"):
+        if line:
+            t, notice, *answer = line.split()
+            rows.append((*(b"" if s == "-" else bytes.fromhex(s) for s in (t, notice)), " ".join(answer)))
+    (here / "stdin").write_bytes(b"".join(struct.pack("<I", len(s)) + s for row in rows for s in row[:2]))
+    (here / "stdout").write_text("".join(row[2] + "\n" for row in rows))
+
+
+main(sys.argv[1])
