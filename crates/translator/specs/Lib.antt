@@ -1,3 +1,5 @@
 pub mod Compile
 pub mod Depth
+pub mod Pool
 pub mod Emit
+pub mod Translation
