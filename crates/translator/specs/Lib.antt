@@ -3,3 +3,4 @@ pub mod Depth
 pub mod Pool
 pub mod Emit
 pub mod Translation
+pub mod Theorems

@@ -182,7 +182,14 @@ fn put_header(out: &mut [u8], entries: usize, names: usize)
 }
 
 // The whole table, once all is judged.
-fn put_table(text: &[u8], kinds: &[u8], starts: &[u16], out: &mut [u8], entries: usize, names: usize)
+fn put_table(
+    text: &[u8],
+    kinds: &[u8],
+    starts: &[u16],
+    out: &mut [u8],
+    entries: usize,
+    names: usize,
+)
     requires { ⌜ (length (now text) ≤ 4096) × (length (now kinds) ≤ 4096) × Judged (tokensIn (now text) (now kinds) (now starts)) entries names (length (now out)) ⌝ }
     ensures { λ _. ⌜ Filled (tokensIn (now (text .entry)) (now (kinds .entry)) (now (starts .entry))) (now (out .entry)) (now (out .exit)) ⌝ }
 {
@@ -236,7 +243,7 @@ fn place_of(text: &[u8], starts: &[u16], p: usize) -> usize
     ensures { λ r. ⌜ r ≡ getD (now (starts .entry)) p (length (now (text .entry))) ⌝ }
 {
     if p < starts.len() {
-        starts[p] as usize
+        stream::start(starts, p)
     } else {
         text.len()
     }

@@ -8,7 +8,14 @@ ghost use Rattle.translator.specs.Pool.{broughtAt, broughtFrom};
 use grammar::stream;
 
 // Copies what the token i brings to the buffer, from `at` on, and answers where it ends.
-fn put_brought(text: &[u8], kinds: &[u8], starts: &[u16], out: &mut [u8], i: usize, at: usize) -> usize
+fn put_brought(
+    text: &[u8],
+    kinds: &[u8],
+    starts: &[u16],
+    out: &mut [u8],
+    i: usize,
+    at: usize,
+) -> usize
     requires { ⌜ (i < length (now kinds)) × (at + length (broughtAt (tokensIn (now text) (now kinds) (now starts)) i) ≤ length (now out)) ⌝ }
     ensures { λ r. ⌜ r ≡ at + length (broughtAt (tokensIn (now (text .entry)) (now (kinds .entry)) (now (starts .entry))) i) ⌝ }
     ensures { λ _. ⌜ now (out .exit) ≡ sets (now (out .entry)) at (broughtAt (tokensIn (now (text .entry)) (now (kinds .entry)) (now (starts .entry))) i) ⌝ }
