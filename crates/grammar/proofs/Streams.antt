@@ -67,7 +67,7 @@ kind-in s kinds starts i = go (decLt i (length kinds))
         ap kindOf (List·getD-eq-default (tokensIn s kinds starts) ended out) ∙ sym (List·getD-eq-default kinds 99 (omega arith))
 
 -- a token of the kind k, at a place that the arrays have or not
-token-at : (s kinds starts : List ℕ) (i k : ℕ) → getD kinds i 99 ≡ k → k < 99 → tokenAt (tokensIn s kinds starts) i ≡ tokenOf s k (getD starts i 0)
+pub token-at : (s kinds starts : List ℕ) (i k : ℕ) → getD kinds i 99 ≡ k → k < 99 → tokenAt (tokensIn s kinds starts) i ≡ tokenOf s k (getD starts i 0)
 token-at s kinds starts i k e lt = go (decLt i (length kinds))
   where
     go : Dec (i < length kinds) → tokenAt (tokensIn s kinds starts) i ≡ tokenOf s k (getD starts i 0)
@@ -86,7 +86,7 @@ function-is s kinds starts i k ep ef = ef ∙ rw (ep, name-at s kinds starts i k
 
 -- ---- what a token takes of the pool
 
-run-small : (quote : ℕ) (taken : Bool) (s : List ℕ) → length (runFrom quote taken s) ≤ length s
+pub run-small : (quote : ℕ) (taken : Bool) (s : List ℕ) → length (runFrom quote taken s) ≤ length s
 run-small quote taken [] = omega arith
 run-small quote taken (b ∷ s) = go (not taken && ends quote b) (run-small quote (takes taken b) s)
   where
@@ -94,7 +94,7 @@ run-small quote taken (b ∷ s) = go (not taken && ends quote b) (run-small quot
     go true h = omega arith
     go false h = omega arith
 
-unescaped-small : (taken : Bool) (s : List ℕ) → length (unescaped taken s) ≤ length s
+pub unescaped-small : (taken : Bool) (s : List ℕ) → length (unescaped taken s) ≤ length s
 unescaped-small taken [] = omega arith
 unescaped-small taken (b ∷ s) = go (takes taken b) (unescaped-small true s) (unescaped-small false s)
   where
@@ -102,10 +102,10 @@ unescaped-small taken (b ∷ s) = go (takes taken b) (unescaped-small true s) (u
     go true h g = omega arith
     go false h g = omega arith
 
-name-small : (s : List ℕ) (p : ℕ) → length (nameAt s p) ≤ length s
+pub name-small : (s : List ℕ) (p : ℕ) → length (nameAt s p) ≤ length s
 name-small s p = omega (arith, unescaped-small false (runFrom 0 false (drop p s)), run-small 0 false (drop p s), length-drop p s)
 
-string-small : (s : List ℕ) (p : ℕ) → length (stringAt s p) ≤ length s
+pub string-small : (s : List ℕ) (p : ℕ) → length (stringAt s p) ≤ length s
 string-small s p =
     omega (arith, unescaped-small false (bodyOf (drop p s)), run-small (getD (drop p s) 0 0) false (drop 1 (drop p s)), length-drop 1 (drop p s), length-drop p s)
 

@@ -11,10 +11,10 @@ ghost use Rattle.grammar.specs.Answer.{answerOf};
 ghost use Rattle.grammar.specs.Stream.{tokensIn};
 
 mod found;
-mod stream;
+pub mod stream;
 
 use found::Args;
-use found::Found;
+pub use found::Found;
 
 pub enum Parsed {
     // The first token after the expression, and what is known of it.

@@ -16,7 +16,7 @@ use Rattle.record.specs.Line.{textLine, kindLine, errorLine, Put}
 use Rattle.record.proofs.Laws.{renamed, joined}
 use Rattle.translator.specs.declared.Translated.{Translated}
 use Rattle.translator.specs.Translation.{Outcome, translationOf, answerOf, Answers as Translates}
-use Rattle.translator.proofs.Theorems.{length-fits}
+use Rattle.translator.proofs.Fits.{fits-room}
 use Rattle.interpreter.specs.Running.{runningOf}
 use Rattle.session.specs.declared.Stop.{Stop}
 use Rattle.session.specs.declared.Stop.the-variants.{Full, Waiting, Ended}
@@ -58,7 +58,7 @@ text-answers r t b out b′ out′ x at next y ex q p h =
     let n : y .length ≡ length (o .table) = ap (λ (v : Translated). v .length) ey in
     let eb : b′ ≡ sets b 0 (o .table) = q .bytes ∙ ap (λ (v : Outcome). sets b 0 (v .table)) eo in
     let l : length b′ ≡ length b = ap length eb ∙ length-sets b 0 (o .table) in
-    let f : length (o .table) ≤ length b = length-fits (textOf r) (length b) in
+    let f : length (o .table) ≤ length b = fits-room (textOf r) (length b) in
     let w : y .length ≤ length b′ = omega arith in
     record {
       within = w;

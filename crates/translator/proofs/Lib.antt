@@ -1,0 +1,14 @@
+pub mod Entries
+pub mod Sound
+pub mod Derived
+pub mod Depth
+pub mod Passes
+pub mod Stores
+pub mod Emitting
+pub mod Making
+pub mod Brought
+pub mod Lexed
+pub mod Filling
+pub mod Answering
+pub mod Theorems
+pub mod Fits

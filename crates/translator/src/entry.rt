@@ -1,0 +1,130 @@
+// Entries: how each is made, and how it is written into its own stretch of the table buffer.
+ghost use mathlib.Core.Path.{_≡_};
+ghost use Prim.Native.Nat.{_+_, _-_, _*_, _≤_, _<_};
+ghost use lib.ListN.{length, getD};
+ghost use lib.Seq.{sets};
+ghost use Rattle.grammar.specs.Grammar.{isLiteral};
+ghost use Rattle.grammar.specs.Parse.{tokenAt};
+ghost use Rattle.grammar.specs.Stream.{tokensIn};
+ghost use Rattle.table.specs.Table.{entryBytes, entriesBytes};
+ghost use Rattle.translator.specs.Compile.{entry, leafEntry, callEntry, skipOp, skipEntries};
+ghost use Rattle.translator.specs.Emit.{placeOf, skipCount};
+use grammar::stream;
+use table::Entry;
+
+// The entry, over the whole of a part of 12 bytes.
+fn put_entry(part: &mut [u8], e: Entry)
+    requires { ⌜ length (now part) ≡ 12 ⌝ }
+    ensures { λ _. ⌜ now (part .exit) ≡ entryBytes e ⌝ }
+{
+    word::write_u16(part, 0, e.op);
+    word::write_u16(part, 2, e.a);
+    word::write_u64(part, 4, e.b);
+}
+
+// Lends the entry's own stretch of the buffer to the entry writer; every other byte stays.
+pub fn put(out: &mut [u8], i: usize, e: Entry)
+    requires { ⌜ (i < 512) × (placeOf (i + 1) ≤ length (now out)) ⌝ }
+    ensures { λ _. ⌜ now (out .exit) ≡ sets (now (out .entry)) (placeOf i) (entryBytes e) ⌝ }
+{
+    let at = 10 + 12 * i;
+    put_entry(&mut out[at..at + 12], e);
+}
+
+// The entry of an operator.
+pub fn operator_entry(k: u8) -> Entry
+    ensures { λ r. ⌜ r ≡ entry k 0 0 ⌝ }
+{
+    Entry {
+        op: k as u16,
+        a: 0,
+        b: 0,
+    }
+}
+
+// The entry that pushes the literal or name at a token, whose bytes stand in the pool from `pool` on. It asks that a literal or a name stands there.
+pub fn leaf_entry(text: &[u8], kinds: &[u8], starts: &[u16], at: usize, pool: usize) -> Entry
+    requires { ⌜ (length (now text) ≤ 4096) × (1 ≤ getD (now kinds) at 99) × (getD (now kinds) at 99 ≤ 5) ⌝ }
+    ensures { λ r. ⌜ r ≡ leafEntry pool (tokenAt (tokensIn (now (text .entry)) (now (kinds .entry)) (now (starts .entry))) at) ⌝ }
+{
+    let k = stream::kind(kinds, at);
+    let s = stream::start(starts, at);
+    if k == 5 {
+        return part_entry(5, lexer::name_length(text, s), pool);
+    }
+    if k == 4 {
+        return part_entry(4, lexer::string_length(text, s), pool);
+    }
+    if k == 3 {
+        return literal_entry(3, number::bits_of_real(lexer::real_value(text, s)));
+    }
+    literal_entry(k as u16, word::bits_of_i64(lexer::int_value(text, s)))
+}
+
+// "a length, b pool offset"
+fn part_entry(op: u16, len: usize, pool: usize) -> Entry
+    requires { ⌜ len ≤ 4096 ⌝ }
+    ensures { λ r. ⌜ r ≡ entry op len pool ⌝ }
+{
+    Entry {
+        op: op,
+        a: len as u16,
+        b: pool as u64,
+    }
+}
+
+// "b: two's complement or bits"
+fn literal_entry(op: u16, b: u64) -> Entry
+    ensures { λ r. ⌜ r ≡ entry op 0 b ⌝ }
+{
+    Entry { op: op, a: 0, b: b }
+}
+
+// The entry of a call of the function f with so many arguments.
+pub fn call_entry(f: u8, count: usize) -> Entry
+    requires { ⌜ count ≤ 4096 ⌝ }
+    ensures { λ r. ⌜ r ≡ callEntry f count ⌝ }
+{
+    if f < 56 {
+        return operator_entry(f);
+    }
+    if count == 0 {
+        return operator_entry(f);
+    }
+    part_entry(f as u16, count - 1, 0)
+}
+
+// The skip of `&&` and of `||`; 0 for any other operator.
+fn skip_op(k: u8) -> u16
+    ensures { λ r. ⌜ r ≡ skipOp k ⌝ }
+{
+    if k == 41 {
+        return 44;
+    }
+    if k == 43 {
+        return 45;
+    }
+    0
+}
+
+// The first entry of the right side of an operator, where the left side ends before the entry i.
+pub fn after_skip(k: u8, i: usize) -> usize
+    requires { ⌜ i ≤ 512 ⌝ }
+    ensures { λ r. ⌜ r ≡ i + skipCount k ⌝ }
+{
+    if skip_op(k) == 0 { i } else { i + 1 }
+}
+
+// Writes a binary operator as the entry `end`, and the skip, if it has one, as the entry `from`, before its right side.
+pub fn put_operator(out: &mut [u8], k: u8, from: usize, end: usize)
+    requires { ⌜ (from < end) × (end < 512) × (placeOf (end + 1) ≤ length (now out)) ⌝ }
+    ensures { λ _. ⌜ now (out .exit) ≡ sets (sets (now (out .entry)) (placeOf from) (entriesBytes (skipEntries k (end - from - 1)))) (placeOf end) (entryBytes (entry k 0 0)) ⌝ }
+{
+    let skip = skip_op(k);
+    if skip == 0 {
+        put(out, end, operator_entry(k));
+        return;
+    }
+    put(out, from, part_entry(skip, end - from, 0));
+    put(out, end, operator_entry(k));
+}
