@@ -86,7 +86,7 @@ function-is s kinds starts i k ep ef = ef ∙ rw (ep, name-at s kinds starts i k
 
 -- ---- what a token takes of the pool
 
-run-small : (quote : ℕ) (taken : Bool) (s : List ℕ) → length (runFrom quote taken s) ≤ length s
+pub run-small : (quote : ℕ) (taken : Bool) (s : List ℕ) → length (runFrom quote taken s) ≤ length s
 run-small quote taken [] = omega arith
 run-small quote taken (b ∷ s) = go (not taken && ends quote b) (run-small quote (takes taken b) s)
   where
@@ -94,7 +94,7 @@ run-small quote taken (b ∷ s) = go (not taken && ends quote b) (run-small quot
     go true h = omega arith
     go false h = omega arith
 
-unescaped-small : (taken : Bool) (s : List ℕ) → length (unescaped taken s) ≤ length s
+pub unescaped-small : (taken : Bool) (s : List ℕ) → length (unescaped taken s) ≤ length s
 unescaped-small taken [] = omega arith
 unescaped-small taken (b ∷ s) = go (takes taken b) (unescaped-small true s) (unescaped-small false s)
   where

@@ -14,7 +14,7 @@ mod found;
 pub mod stream;
 
 use found::Args;
-use found::Found;
+pub use found::Found;
 
 pub enum Parsed {
     // The first token after the expression, and what is known of it.

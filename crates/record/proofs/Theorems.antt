@@ -1,17 +1,28 @@
 -- The theorems that specs/Theorems.antt states. Assumes nothing.
-use mathlib.Core.Path.{_≡_, refl}
+use mathlib.Core.Path.{_≡_, refl, sym, ap, ap₂, _∙_}
 use mathlib.Core.Bool.{Bool, true, false, cond, _&&_}
-use mathlib.Core.List.{List}
+use mathlib.Core.List.{List, _++_}
 use mathlib.Core.Logic.{_⊎_, inl, inr, ⊎-elim}
-use Prim.Native.Nat.{ℕ, _+_, _≤_, _<_}
+use Prim.Native.Nat.{ℕ, zero, suc, _+_, _≤_, _<_}
 use native.Mathlib.Omega.{arith}
 use lib.Dec.{ltb, leb, eqb}
-use lib.ListN.{length}
-use borrow.Author.Tests.{ltb-true, leb-true, leb-false}
+use lib.ListN.{length, getD, length-append, List·getD-append}
+use Rattle.word.specs.Word.{le}
+use borrow.Author.Tests.{ltb-true, ltb-false, leb-true, leb-false, le-ltb, ne-eqb}
 use Rattle.record.specs.declared.Record.{Record}
 use Rattle.record.specs.declared.Record.the-variants.{End, Whole, Cut, Wrong}
 use Rattle.record.specs.Record.{lengthOf, kindOf, lengthRight, recordOf}
-use Rattle.record.specs.Theorems.{WholeLies, CutShort}
+use Rattle.record.specs.Theorems.{WholeLies, CutShort, WholeGrows, WrongGrows}
+use Rattle.record.proofs.Laws.{found-whole}
+
+-- a word that lies in s stays where more comes after it
+le-grows : (k at : ℕ) (s t : List ℕ) → at + k ≤ length s → le k (s ++ t) at ≡ le k s at
+unfolding le
+le-grows zero at s t h = refl
+le-grows (suc k) at s t h =
+    let g : getD (s ++ t) at 0 ≡ getD s at 0 = List·getD-append s t 0 at (omega arith) in
+    let ih = le-grows k (suc at) s t (omega arith) in
+    rw (g, ih)
 
 -- the reader's four tests
 abbrev by-tests : Bool → Bool → Bool → Bool → Record → Record
@@ -56,3 +67,37 @@ cut-short s e =
     ⊎-elim (λ h. let l = ltb-true (length s) 4 h in omega arith)
     (λ p. let r = length-right n (p .0) in let h = leb-false (4 + n) (length s) (p .1) in omega arith)
     (cut-tests (eqb (length s) 0) (ltb (length s) 4) (lengthRight n) (leb (4 + n) (length s)) (kindOf s) (4 + n) e)
+
+wrong-tests : (a b c d : Bool) (k n : ℕ) → by-tests a b c d (Whole k n) ≡ Wrong → (a ≡ false) × (b ≡ false) × (c ≡ false)
+wrong-tests true b c d k n e = differ (cc)
+wrong-tests false true c d k n e = differ (cc)
+wrong-tests false false false d k n e = (refl, refl, refl)
+wrong-tests false false true true k n e = differ (cc)
+wrong-tests false false true false k n e = differ (cc)
+
+pub whole-grows : WholeGrows
+whole-grows s t kind size e =
+    let n = lengthOf s in
+    let w = whole-tests (eqb (length s) 0) (ltb (length s) 4) (lengthRight n) (leb (4 + n) (length s)) (kindOf s) (4 + n) kind size e in
+    let r = length-right n (w .0) in
+    let h = leb-true (4 + n) (length s) (w .1) in
+    let l = length-append s t in
+    let el : lengthOf (s ++ t) ≡ n = le-grows 4 0 s t (omega arith) in
+    let ek : kindOf (s ++ t) ≡ kindOf s = le-grows 2 4 s t (omega arith) in
+    let h4 : 4 ≤ length (s ++ t) = omega arith in
+    let hw : 4 + lengthOf (s ++ t) ≤ length (s ++ t) = omega arith in
+    sym (found-whole (s ++ t) h4 (lengthOf (s ++ t)) refl (kindOf (s ++ t)) refl (omega (arith, r .0)) (omega (arith, r .1)) hw)
+    ∙ ap₂ (λ (x y : ℕ). Whole x (4 + y)) ek el
+    ∙ found-whole s (omega arith) n refl (kindOf s) refl (r .0) (r .1) h
+    ∙ e
+
+pub wrong-grows : WrongGrows
+wrong-grows s t e =
+    let n = lengthOf s in
+    let w = wrong-tests (eqb (length s) 0) (ltb (length s) 4) (lengthRight n) (leb (4 + n) (length s)) (kindOf s) (4 + n) e in
+    let h : 4 ≤ length s = ltb-false (length s) 4 (w .1) in
+    let l = length-append s t in
+    let g : 4 ≤ length (s ++ t) = omega arith in
+    let el : lengthOf (s ++ t) ≡ n = le-grows 4 0 s t (omega arith) in
+    let f : lengthRight (lengthOf (s ++ t)) ≡ false = ap lengthRight el ∙ w .2 in
+    rw (ne-eqb (length (s ++ t)) 0 (λ z. omega arith), le-ltb (length (s ++ t)) 4 g, f)

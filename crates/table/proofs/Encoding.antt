@@ -28,7 +28,7 @@ length-entriesBytes (e ∷ es) =
     omega (arith, length-append (entryBytes e) (entriesBytes es))
 
 module _ (p : Program) where
-  length-body : length (bodyBytes p) ≡ 6 + 12 * length (p .entries) + length (p .pool)
+  pub length-body : length (bodyBytes p) ≡ 6 + 12 * length (p .entries) + length (p .pool)
   unfolding bodyBytes
   length-body = simp (length-append, length-leBytes, length-entriesBytes) (omega arith)
 

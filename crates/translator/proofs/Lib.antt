@@ -6,3 +6,9 @@ pub mod Passes
 pub mod Stores
 pub mod Emitting
 pub mod Making
+pub mod Brought
+pub mod Lexed
+pub mod Filling
+pub mod Answering
+pub mod Theorems
+pub mod Fits

@@ -57,7 +57,7 @@ mutual
   size-in none at = refl
   size-in (_then_ ts t) at = omega (arith, length-append (codeIn at ts) (codeOf (at + poolIn ts) t), size-in ts at, size t (at + poolIn ts))
 
-leaf-size : (x : Token) → length (leafBytes x) ≡ poolBytes x
+pub leaf-size : (x : Token) → length (leafBytes x) ≡ poolBytes x
 leaf-size (name s e) = refl
 leaf-size (int32 z) = refl
 leaf-size (int64 z) = refl

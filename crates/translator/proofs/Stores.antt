@@ -4,7 +4,7 @@ use native.Mathlib.Omega.{arith}
 use mathlib.Core.Path.{_≡_, refl, sym, ap, _∙_}
 use mathlib.Core.List.{List, [], _∷_, _++_, append-assoc, append-nil}
 use lib.ListN.{length, set, drop, length-append}
-use lib.Seq.{sets, sets-eq, set-comm, drop-length}
+use lib.Seq.{sets, sets-eq, set-comm, drop-length, length-sets}
 use Rattle.word.proofs.Laws.{length-leBytes}
 use Rattle.word.specs.Word.{leBytes}
 use Rattle.table.specs.declared.Entry.{Entry}
@@ -89,3 +89,7 @@ between was mid right now i n m xs ss us e p pn q qm r =
     let four : now ≡ sets was (placeOf i) (entriesBytes (((xs ++ ss) ++ us) ++ (e ∷ []))) =
     join-one was (sets right (placeOf n) (entriesBytes ss)) now i m ((xs ++ ss) ++ us) e three r (omega arith) in
     four ∙ ap (λ (l : List Entry). sets was (placeOf i) (entriesBytes l)) (simp append-assoc)
+
+-- writing keeps the length
+pub kept-by : (s now : List ℕ) (at : ℕ) (xs : List ℕ) → now ≡ sets s at xs → length now ≡ length s
+kept-by s now at xs e = ap length e ∙ length-sets s at xs

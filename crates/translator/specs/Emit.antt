@@ -1,14 +1,20 @@
 -- What the writer of entries asks and leaves, of the result of the parser at a token.
 use Prim.Native.Nat.{ℕ, _+_, _*_, _≤_}
 use mathlib.Core.Path.{_≡_}
-use mathlib.Core.Bool.{cond}
-use mathlib.Core.List.{List}
+use mathlib.Core.Bool.{cond, not, _&&_}
+use mathlib.Core.List.{List, _++_}
+use lib.Dec.{ltb}
+use lib.ListN.{length}
 use lib.Seq.{sets}
-use Rattle.table.specs.Table.{entriesBytes}
+use Rattle.word.specs.Word.{leBytes}
+use Rattle.table.specs.Table.{entriesBytes, encode}
+use Rattle.lexer.specs.Token.{Token}
 use Rattle.grammar.specs.Tree.{Tree}
-use Rattle.grammar.specs.Parse.{Result, ok}
+use Rattle.grammar.specs.Parse.{Result, ok, parseAll}
 use Rattle.grammar.specs.Size.{skips, entriesOf, poolOf}
-use Rattle.translator.specs.Compile.{codeOf}
+use Rattle.grammar.specs.Answer.{foundOf}
+use Rattle.grammar.specs.declared.found.Found.{Found}
+use Rattle.translator.specs.Compile.{codeOf, compile}
 use Rattle.translator.specs.declared.Emitted.{Emitted}
 
 -- "N entries of 12 bytes" after the header of 10: where the entry i stands
@@ -35,3 +41,39 @@ pub record Writes (x : Result) (i at : ℕ) (was now : List ℕ) (r : Emitted) :
 -- the entries that the skip before a right side takes
 abbrev pub skipCount : ℕ → ℕ
 skipCount k = cond (skips k) 1 0
+
+-- All is judged: the tokens are one expression of so many entries and pool bytes, and its table is within the limits and the buffer's length.
+pub record Judged (ks : List Token) (entries pool long : ℕ) : Type 0 where
+  pub tree : Tree
+  pub is-ok : parseAll ks ≡ ok tree (length ks)
+  pub entries-are : entries ≡ entriesOf tree
+  pub pool-is : pool ≡ poolOf tree
+  pub few : entries ≤ 512
+  pub small : pool ≤ 4096
+  pub room : placeOf entries + pool ≤ long
+
+-- The table of the tree stands at the start of the buffer, and every later byte is as it was.
+pub record Filled (ks : List Token) (was now : List ℕ) : Type 0 where
+  pub tree : Tree
+  pub is-ok : parseAll ks ≡ ok tree (length ks)
+  pub bytes : now ≡ sets was 0 (encode (compile tree))
+
+-- The tokens are one expression, of which this is known, and its pool is within the limits.
+pub record Known (ks : List Token) (f : Found) : Type 0 where
+  pub tree : Tree
+  pub is-ok : parseAll ks ≡ ok tree (length ks)
+  pub has : foundOf tree ≡ f
+  pub small : poolOf tree ≤ 4096
+
+-- "u32 length of all after it; u16 kind 2; u16 entry count N ..; u16 pool length .."
+abbrev pub headerBytes : ℕ → ℕ → List ℕ
+headerBytes entries pool = leBytes 4 (6 + 12 * entries + pool) ++ (leBytes 2 2 ++ (leBytes 2 entries ++ leBytes 2 pool))
+
+-- the first of the refusals 4, 5, 7, 8 and 9, by what is known of the expression
+abbrev pub refusalBy : Found → ℕ → ℕ
+refusalBy f room =
+    cond (not (f .forms)) 4
+    (cond (not (f .kinds && f .logic)) 5
+    (cond (ltb 512 (f .entries)) 7
+    (cond (ltb 32 (f .depth)) 8
+    (cond (ltb room (placeOf (f .entries) + f .pool)) 9 0))))

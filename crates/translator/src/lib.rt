@@ -2,12 +2,18 @@
 ghost use mathlib.Core.Path.{_≡_};
 ghost use Prim.Native.Nat.{_+_, _≤_, _<_};
 ghost use lib.ListN.{length, getD};
-ghost use Rattle.grammar.specs.Parse.{levelOf, prefixOf, operandOf};
+ghost use lib.Seq.{sets};
+ghost use Rattle.grammar.specs.Parse.{levelOf, prefixOf, operandOf, parseAll};
 ghost use Rattle.grammar.specs.Stream.{tokensIn};
-ghost use Rattle.translator.specs.Emit.{Accepts, Writes};
+ghost use Rattle.translator.specs.Emit.{Accepts, Writes, Judged, Filled, Known, headerBytes, refusalBy};
+ghost use Rattle.translator.specs.Translation.{refusal, answerOf, ofResult, ofTokens, translationOf, Answers, Small};
+use grammar::Found;
+use grammar::Parsed;
 use grammar::stream;
+use lexer::Lexing;
 
 mod entry;
+mod pool;
 
 // The entries are written by the same recursion over the tokens as the parser's, where the parser is known to accept: so nothing can break here, and each function asks that the parser accepts and that there is room.
 // The answer: the next token, the next entry, the next place in the pool.
@@ -161,5 +167,129 @@ fn arguments(
             };
         }
         next = after + 1;
+    }
+}
+
+// "u32 length of all after it; u16 kind 2; u16 entry count N ..; u16 pool length .."
+fn put_header(out: &mut [u8], entries: usize, names: usize)
+    requires { ⌜ (entries ≤ 512) × (names ≤ 4096) × (10 ≤ length (now out)) ⌝ }
+    ensures { λ _. ⌜ now (out .exit) ≡ sets (now (out .entry)) 0 (headerBytes entries names) ⌝ }
+{
+    word::write_u32(out, 0, (6 + 12 * entries + names) as u32);
+    word::write_u16(out, 4, 2);
+    word::write_u16(out, 6, entries as u16);
+    word::write_u16(out, 8, names as u16);
+}
+
+// The whole table, once all is judged.
+fn put_table(
+    text: &[u8],
+    kinds: &[u8],
+    starts: &[u16],
+    out: &mut [u8],
+    entries: usize,
+    names: usize,
+)
+    requires { ⌜ (length (now text) ≤ 4096) × (length (now kinds) ≤ 4096) × Judged (tokensIn (now text) (now kinds) (now starts)) entries names (length (now out)) ⌝ }
+    ensures { λ _. ⌜ Filled (tokensIn (now (text .entry)) (now (kinds .entry)) (now (starts .entry))) (now (out .entry)) (now (out .exit)) ⌝ }
+{
+    put_header(out, entries, names);
+    level(text, kinds, starts, out, 0, 0, 0, 0);
+    pool::put_pool(text, kinds, starts, out, 10 + 12 * entries);
+}
+
+// The first of the refusals 4, 5, 7, 8 and 9; 0 if none applies.
+fn first_refusal(f: Found, room: usize) -> u8
+    requires { ⌜ f .pool ≤ 4096 ⌝ }
+    ensures { λ r. ⌜ r ≡ refusalBy f room ⌝ }
+{
+    if !f.forms {
+        return 4;
+    }
+    if !(f.kinds & f.logic) {
+        return 5;
+    }
+    if 512 < f.entries {
+        return 7;
+    }
+    if 32 < f.depth {
+        return 8;
+    }
+    if room < 10 + 12 * f.entries + f.pool {
+        return 9;
+    }
+    0
+}
+
+// Number, place and table length.
+pub struct Translated {
+    pub number: u8,
+    pub place: usize,
+    pub length: usize,
+}
+
+fn refused(number: u8, place: usize) -> Translated
+    ensures { λ r. ⌜ r ≡ answerOf (refusal number place) ⌝ }
+{
+    Translated {
+        number: number,
+        place: place,
+        length: 0,
+    }
+}
+
+// The start of the token p, or the text's length.
+fn place_of(text: &[u8], starts: &[u16], p: usize) -> usize
+    ensures { λ r. ⌜ r ≡ getD (now (starts .entry)) p (length (now (text .entry))) ⌝ }
+{
+    if p < starts.len() {
+        stream::start(starts, p)
+    } else {
+        text.len()
+    }
+}
+
+// Of an expression: all is judged before the first byte is written.
+fn expression(text: &[u8], kinds: &[u8], starts: &[u16], buffer: &mut [u8], f: Found) -> Translated
+    requires { ⌜ (length (now text) ≤ 4096) × (length (now kinds) ≤ 4096) × Known (tokensIn (now text) (now kinds) (now starts)) f ⌝ }
+    ensures { λ r. ⌜ Answers (ofResult (length (now (text .entry))) (now (starts .entry)) (length (now (buffer .entry))) (parseAll (tokensIn (now (text .entry)) (now (kinds .entry)) (now (starts .entry))))) (now (buffer .entry)) (now (buffer .exit)) r ⌝ }
+{
+    let number = first_refusal(f, buffer.len());
+    if number != 0 {
+        return refused(number, 0);
+    }
+    let entries = f.entries;
+    let names = f.pool;
+    put_table(text, kinds, starts, buffer, entries, names);
+    Translated {
+        number: 0,
+        place: 0,
+        length: 10 + 12 * entries + names,
+    }
+}
+
+// Of the tokens of a text. It asks that the pool of what they say is within the limits, which holds of every text's tokens.
+fn tokens(text: &[u8], kinds: &[u8], starts: &[u16], buffer: &mut [u8]) -> Translated
+    requires { ⌜ (length (now text) ≤ 4096) × (length (now kinds) ≤ 4096) × Small (tokensIn (now text) (now kinds) (now starts)) ⌝ }
+    ensures { λ r. ⌜ Answers (ofTokens (length (now (text .entry))) (now (kinds .entry)) (now (starts .entry)) (length (now (buffer .entry))) (tokensIn (now (text .entry)) (now (kinds .entry)) (now (starts .entry)))) (now (buffer .entry)) (now (buffer .exit)) r ⌝ }
+{
+    if grammar::too_deep(kinds) {
+        return refused(6, 0);
+    }
+    match grammar::parse(text, kinds, starts) {
+        Parsed::Whole(_, f) => expression(text, kinds, starts, buffer, f),
+        Parsed::Broken(p) => refused(2, place_of(text, starts, p)),
+    }
+}
+
+// Text to table. A refusal leaves every byte of the buffer as it was; a table stands at the buffer's start, and every later byte stays.
+pub fn translate(text: &[u8], buffer: &mut [u8]) -> Translated
+    ensures { λ r. ⌜ Answers (translationOf (now (text .entry)) (length (now (buffer .entry)))) (now (buffer .entry)) (now (buffer .exit)) r ⌝ }
+{
+    let mut kinds = [0u8; 4096];
+    let mut starts = [0u16; 4096];
+    match lexer::lex(text, &mut kinds, &mut starts) {
+        Lexing::Tokens(n) => tokens(text, &kinds[0..n], &starts[0..n], buffer),
+        Lexing::Refused(number, place) => refused(number, place),
     }
 }

@@ -1,0 +1,36 @@
+use mathlib.Core.Path.{ap}
+use Rattle.session.specs.Session.{ranLine}
+use Rattle.record.proofs.Laws.{renamed}
+use borrow.Author.Needs.{needs}
+use Rattle.session.proofs.put_verdict.Statement.{statement}
+use Rattle.session.proofs.put_verdict.Tie as tie
+use Rattle.session.proofs.put_verdict.Reads as reads
+use Rattle.session.proofs.put_verdict.Lts as lts
+use Rattle.interpreter.proofs.run.Reads as run-reads
+use Rattle.record.proofs.put_notice_line.Reads as put-notice-line-reads
+
+-- src/lib.rt:37:9
+run-requires : tie.Need-run-requires
+run-requires c κs = search needs
+
+-- src/lib.rt:39:38
+cast-put-notice-line : tie.Need-cast-put-notice-line
+cast-put-notice-line c = search needs
+
+-- src/lib.rt:39:5
+put-notice-line-requires : tie.Need-put-notice-line-requires
+put-notice-line-requires c κs = search needs
+
+-- src/lib.rt:33:1
+same-length : tie.Need-same-length
+same-length c = search needs
+
+-- src/lib.rt:33:1
+returns : tie.Need-returns
+returns c =
+    (renamed (ap ranLine (c .before .before .before .before .before .run .ensures)) (c .before .before .put-notice-line .ensures .0), c .before .before .put-notice-line .ensures .1)
+
+pub put-verdict-spec : {M : Type 1} → statement M
+put-verdict-spec =
+    tie.close
+    (tie.spec run-requires cast-put-notice-line put-notice-line-requires same-length returns)

@@ -1,0 +1,139 @@
+// What each record of standard input means, as functions on slices. Document 01, "Examples", the program `verdict`.
+ghost use mathlib.Core.Path.{_≡_};
+ghost use mathlib.Core.List.{List};
+ghost use Prim.Native.Nat.{ℕ, _+_, _-_, _/_, _≤_};
+ghost use lib.ListN.{length, take, drop};
+ghost use lib.Seq.{sets};
+ghost use Rattle.record.specs.Line.{Put};
+ghost use Rattle.interpreter.specs.Running.{runningOf};
+ghost use Rattle.session.specs.Session.{ranLine};
+ghost use Rattle.session.specs.Serving.{Answers, Serves, servingOf};
+use record::Record;
+
+// What a record leaves: the length of the table, 0 where there is none, and the place after the line.
+pub struct Answered {
+    pub held: usize,
+    pub next: usize,
+}
+
+// Kind 3. It asks for the kind, which the record reader found, and for room for a line.
+fn answer_text(bytes: &[u8], table: &mut [u8], out: &mut [u8], at: usize) -> Answered
+    requires { ⌜ (6 ≤ length (now bytes)) × (at + 80 ≤ length (now out)) ⌝ }
+    ensures { λ r. ⌜ ((t : List ℕ) → Answers 3 (now (bytes .entry)) t (now (table .entry)) (now (out .entry)) at (now (table .exit)) (now (out .exit)) r) ⌝ }
+{
+    let t = translator::translate(&bytes[6..], table);
+    let next = record::put_text_line(out, at, t.number as u64, t.place as u64, t.length as u64);
+    Answered {
+        held: t.length,
+        next: next,
+    }
+}
+
+// Kind 1: the table on the notice. It asks for room for a line.
+fn put_verdict<'a>(table: &'a [u8], notice: &'a [u8], out: &mut [u8], at: usize) -> usize
+    requires { ⌜ at + 80 ≤ length (now out) ⌝ }
+    ensures { λ r. ⌜ Put (now (out .entry)) at (ranLine (runningOf (now (table .entry)) (now (notice .entry)))) (now (out .exit)) r × (r ≤ at + 80) ⌝ }
+{
+    let a = interpreter::run(table, notice);
+    let verdict = a.verdict;
+    record::put_notice_line(
+        out,
+        at,
+        a.number as u64,
+        verdict,
+        a.steps as u64,
+        a.place as u64,
+    )
+}
+
+// What the whole record `bytes` of a kind means: the line is stored in `out` from `at` on, and a text's table in `table`, of which `held` bytes are the last text's.
+// It asks for a record's length and kind, which the record reader found, and for room for a line.
+pub fn answer(
+    bytes: &[u8],
+    kind: u16,
+    table: &mut [u8],
+    held: usize,
+    out: &mut [u8],
+    at: usize,
+) -> Answered
+    requires { ⌜ (6 ≤ length (now bytes)) × (held ≤ length (now table)) × (at + 80 ≤ length (now out)) ⌝ }
+    ensures { λ r. ⌜ Answers kind (now (bytes .entry)) (take held (now (table .entry))) (now (table .entry)) (now (out .entry)) at (now (table .exit)) (now (out .exit)) r ⌝ }
+{
+    if kind == 3 {
+        return answer_text(bytes, table, out, at);
+    }
+    if kind == 1 {
+        let next = put_verdict(&table[0..held], bytes, out, at);
+        return Answered {
+            held: held,
+            next: next,
+        };
+    }
+    let next = record::put_kind_line(out, at, kind as u64);
+    Answered {
+        held: held,
+        next: next,
+    }
+}
+
+// Why no more records were answered.
+pub enum Stop {
+    // There is no room for another line.
+    Full,
+    // The next record has not come whole.
+    Waiting,
+    // "`E` and stops"
+    Ended,
+}
+
+// What a stretch of the input leaves: the bytes of it that were answered, the length of the table, the bytes of the lines, and why no more were.
+pub struct Served {
+    pub taken: usize,
+    pub held: usize,
+    pub written: usize,
+    pub stop: Stop,
+}
+
+// Answers the records of a stretch of the input, as many as `out` has room for lines of 80 bytes. `last`: the input ends with the stretch.
+// It asks that the table lies in its buffer.
+pub fn serve(input: &[u8], last: bool, table: &mut [u8], held: usize, out: &mut [u8]) -> Served
+    requires { ⌜ held ≤ length (now table) ⌝ }
+    ensures { λ r. ⌜ Serves (servingOf (length (now (out .entry)) / 80) last (take held (now (table .entry))) (now (table .entry)) (now (input .entry))) (now (input .entry)) (now (out .entry)) (now (table .exit)) (now (out .exit)) r ⌝ }
+{
+    let mut at = 0;
+    let mut size_held = held;
+    let mut written = 0;
+    let mut left = out.len() / 80;
+    while 0 < left {
+        let found = record::next_record(&input[at..]);
+        if record::waits(found, last) {
+            return Served {
+                taken: at,
+                held: size_held,
+                written: written,
+                stop: Stop::Waiting,
+            };
+        }
+        let Record::Whole { kind, size } = found else {
+            let end = record::put_error_line(out, written);
+            return Served {
+                taken: at,
+                held: size_held,
+                written: end,
+                stop: Stop::Ended,
+            };
+        };
+        let next = at + size;
+        let done = answer(&input[at..next], kind, table, size_held, out, written);
+        size_held = done.held;
+        written = done.next;
+        at = next;
+        left -= 1;
+    }
+    Served {
+        taken: at,
+        held: size_held,
+        written: written,
+        stop: Stop::Full,
+    }
+}

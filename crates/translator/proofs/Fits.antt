@@ -1,0 +1,60 @@
+-- The table that is answered lies in the buffer. Assumes nothing.
+use mathlib.Core.Bool.{Bool, true, false, cond, not, _&&_}
+use mathlib.Core.Path.{_≡_, refl}
+use mathlib.Core.List.{List, [], map}
+use Prim.Native.Nat.{ℕ, _≤_}
+use native.Mathlib.Omega.{arith}
+use borrow.Author.Tests.{ltb-false}
+use lib.Dec.{eqb, ltb}
+use lib.ListN.{length}
+use Rattle.lexer.specs.Token.{Token, Placed, kindOf, pick, Lexed, tokens, refused, tokensOf}
+use Rattle.grammar.specs.Tree.{Tree}
+use Rattle.grammar.specs.Parse.{Result, ok, bad, parseAll}
+use Rattle.grammar.specs.Nesting.{tooDeep}
+use Rattle.grammar.specs.Judge.{formsRight, kindsRight, isLogic}
+use Rattle.grammar.specs.Size.{entriesOf, depthOf}
+use Rattle.table.specs.Table.{encode}
+use Rattle.translator.specs.Compile.{compile}
+use Rattle.translator.specs.Translation.{Outcome, refusal, refusalOf, ofTree, ofResult, ofTokens, ofLexed, translationOf}
+use Rattle.translator.specs.Theorems.{FitsRoom}
+
+-- a tree's refusal by its tests
+abbrev numberBy : Bool → Bool → Bool → Bool → Bool → ℕ
+numberBy a b c d e = cond a 4 (cond b 5 (cond c 7 (cond d 8 (cond e 9 0))))
+
+abbrev outcomeBy : ℕ → List ℕ → Outcome
+outcomeBy k table = pick (eqb k 0) (λ _. record { number = 0; place = 0; table = table }) (λ _. refusal k 0)
+
+fits-tests : (a b c d e : Bool) (table : List ℕ) (room : ℕ) → (e ≡ false → length table ≤ room) → length (outcomeBy (numberBy a b c d e) table .table) ≤ room
+fits-tests true b c d e table room h = omega arith
+fits-tests false true c d e table room h = omega arith
+fits-tests false false true d e table room h = omega arith
+fits-tests false false false true e table room h = omega arith
+fits-tests false false false false true table room h = omega arith
+fits-tests false false false false false table room h = h refl
+
+fits-tree : (t : Tree) (room : ℕ) → length (ofTree t room .table) ≤ room
+unfolding ofTree refusalOf
+fits-tree t room =
+    fits-tests (not (formsRight t)) (not (kindsRight t && isLogic t)) (ltb 512 (entriesOf t)) (ltb 32 (depthOf t)) (ltb room (length (encode (compile t)))) (encode (compile t)) room
+    (λ h. ltb-false room (length (encode (compile t))) h)
+
+fits-result : (long : ℕ) (starts : List ℕ) (room : ℕ) (r : Result) → length (ofResult long starts room r .table) ≤ room
+unfolding ofResult
+fits-result long starts room (ok t n) = fits-tree t room
+fits-result long starts room (bad p) = omega arith
+
+fits-either : (b : Bool) (o : Outcome) (room : ℕ) → length (o .table) ≤ room → length (pick b (λ _. refusal 6 0) (λ _. o) .table) ≤ room
+fits-either true o room h = omega arith
+fits-either false o room h = h
+
+fits-lexed : (long room : ℕ) (x : Lexed) → length (ofLexed long room x .table) ≤ room
+unfolding ofLexed ofTokens
+fits-lexed long room (tokens ps) =
+    fits-either (tooDeep (map (λ p. kindOf (p .token)) ps)) (ofResult long (map (λ p. p .start) ps) room (parseAll (map (λ p. p .token) ps))) room
+    (fits-result long (map (λ p. p .start) ps) room (parseAll (map (λ p. p .token) ps)))
+fits-lexed long room (refused number place ps) = omega arith
+
+pub fits-room : FitsRoom
+unfolding translationOf
+fits-room s room = fits-lexed (length s) room (tokensOf s)

@@ -1,0 +1,69 @@
+-- Translation: number, place and table for every text and every buffer. Document 01, "Refusals by number".
+use Prim.Native.Nat.{ℕ, _≤_}
+use mathlib.Core.Path.{_≡_}
+use mathlib.Core.Bool.{cond, not, _&&_}
+use mathlib.Core.List.{List, [], map}
+use lib.Dec.{eqb, ltb}
+use lib.ListN.{length, getD}
+use lib.Seq.{sets}
+use Rattle.lexer.specs.Token.{Token, Placed, kindOf, pick, Lexed, tokens, refused, tokensOf}
+use Rattle.grammar.specs.Tree.{Tree}
+use Rattle.grammar.specs.Parse.{Result, ok, bad, parseAll}
+use Rattle.grammar.specs.Nesting.{tooDeep}
+use Rattle.grammar.specs.Judge.{formsRight, kindsRight, isLogic}
+use Rattle.grammar.specs.Size.{entriesOf, poolOf, depthOf}
+use Rattle.table.specs.Table.{encode}
+use Rattle.translator.specs.Compile.{compile}
+use Rattle.translator.specs.declared.Translated.{Translated}
+
+-- the number and place of a refusal, and no table; or 0, 0 and the table's bytes
+pub record Outcome : Type 0 where
+  pub number : ℕ
+  pub place : ℕ
+  pub table : List ℕ
+
+abbrev pub refusal : ℕ → ℕ → Outcome
+refusal number place = record { number = number; place = place; table = [] }
+
+-- "4, 5, 7, 8, 9", the first that applies to a tree, for a buffer of so many bytes; 0 if none does
+unfoldable pub refusalOf : Tree → ℕ → ℕ
+refusalOf t room =
+    cond (not (formsRight t)) 4
+    (cond (not (kindsRight t && isLogic t)) 5
+    (cond (ltb 512 (entriesOf t)) 7
+    (cond (ltb 32 (depthOf t)) 8
+    (cond (ltb room (length (encode (compile t)))) 9 0))))
+
+unfoldable pub ofTree : Tree → ℕ → Outcome
+ofTree t room = pick (eqb (refusalOf t room) 0) (λ _. record { number = 0; place = 0; table = encode (compile t) }) (λ _. refusal (refusalOf t room) 0)
+
+-- "2 | grammar not kept", with its place: the start of the token that the parser names, or the text's length
+unfoldable pub ofResult : ℕ → List ℕ → ℕ → Result → Outcome
+ofResult long starts room (ok t n) = ofTree t room
+ofResult long starts room (bad p) = refusal 2 (getD starts p long)
+
+-- "6", then what the parser says; by the tokens' kinds and starts
+unfoldable pub ofTokens : ℕ → List ℕ → List ℕ → ℕ → List Token → Outcome
+ofTokens long kinds starts room ks = pick (tooDeep kinds) (λ _. refusal 6 0) (λ _. ofResult long starts room (parseAll ks))
+
+-- "10, then 1 or 3 at the first bad token"
+unfoldable pub ofLexed : ℕ → ℕ → Lexed → Outcome
+ofLexed long room (tokens ps) = ofTokens long (map (λ p. kindOf (p .token)) ps) (map (λ p. p .start) ps) room (map (λ p. p .token) ps)
+ofLexed long room (refused number place ps) = refusal number place
+
+-- "Translation, first that applies in this order: 10, then 1 or 3 at the first bad token, 6, 2, 4, 5, 7, 8, 9."
+unfoldable pub translationOf : List ℕ → ℕ → Outcome
+translationOf text room = ofLexed (length text) room (tokensOf text)
+
+-- "Translation answers number, place and table length, 0 if refused."
+abbrev pub answerOf : Outcome → Translated
+answerOf o = record { number = o .number; place = o .place; length = length (o .table) }
+
+-- What a translation answers and leaves: the table's bytes, none where it is refused, over the start of the buffer, and every later byte as it was.
+pub record Answers (o : Outcome) (was now : List ℕ) (r : Translated) : Type 0 where
+  pub answer : r ≡ answerOf o
+  pub bytes : now ≡ sets was 0 (o .table)
+
+-- the pool of what the tokens say is within the limits
+abbrev pub Small : List Token → Type 0
+Small ks = (t : Tree) (n : ℕ) → parseAll ks ≡ ok t n → poolOf t ≤ 4096

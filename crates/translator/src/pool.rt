@@ -1,0 +1,50 @@
+// The pool: one linear pass over the tokens.
+ghost use mathlib.Core.Path.{_≡_};
+ghost use Prim.Native.Nat.{_+_, _≤_, _<_};
+ghost use lib.ListN.{length};
+ghost use lib.Seq.{sets};
+ghost use Rattle.grammar.specs.Stream.{tokensIn};
+ghost use Rattle.translator.specs.Pool.{broughtAt, broughtFrom};
+use grammar::stream;
+
+// Copies what the token i brings to the buffer, from `at` on, and answers where it ends.
+fn put_brought(
+    text: &[u8],
+    kinds: &[u8],
+    starts: &[u16],
+    out: &mut [u8],
+    i: usize,
+    at: usize,
+) -> usize
+    requires { ⌜ (i < length (now kinds)) × (at + length (broughtAt (tokensIn (now text) (now kinds) (now starts)) i) ≤ length (now out)) ⌝ }
+    ensures { λ r. ⌜ r ≡ at + length (broughtAt (tokensIn (now (text .entry)) (now (kinds .entry)) (now (starts .entry))) i) ⌝ }
+    ensures { λ _. ⌜ now (out .exit) ≡ sets (now (out .entry)) at (broughtAt (tokensIn (now (text .entry)) (now (kinds .entry)) (now (starts .entry))) i) ⌝ }
+{
+    let k = stream::kind(kinds, i);
+    let s = stream::start(starts, i);
+    if k == 4 {
+        lexer::copy_string(text, s, &mut out[at..]);
+        return at + lexer::string_length(text, s);
+    }
+    if k != 5 {
+        return at;
+    }
+    if stream::kind(kinds, i + 1) == 9 {
+        return at;
+    }
+    lexer::copy_name(text, s, &mut out[at..]);
+    at + lexer::name_length(text, s)
+}
+
+// Copies what all tokens bring to the buffer, from `from` on; every other byte stays.
+pub fn put_pool(text: &[u8], kinds: &[u8], starts: &[u16], out: &mut [u8], from: usize)
+    requires { ⌜ from + length (broughtFrom (tokensIn (now text) (now kinds) (now starts)) 0 (length (now kinds))) ≤ length (now out) ⌝ }
+    ensures { λ _. ⌜ now (out .exit) ≡ sets (now (out .entry)) from (broughtFrom (tokensIn (now (text .entry)) (now (kinds .entry)) (now (starts .entry))) 0 (length (now (kinds .entry)))) ⌝ }
+{
+    let mut at = from;
+    let mut i = 0;
+    while i < kinds.len() {
+        at = put_brought(text, kinds, starts, out, i, at);
+        i += 1;
+    }
+}
