@@ -155,8 +155,8 @@ fn refused(number: u8, place: usize) -> Ran
     }
 }
 
-// The whole run of a checked table: "At N it ends and the one slot is the verdict."
-fn run_whole<'a>(table: &'a [u8], notice: &'a [u8]) -> Ran
+// The whole run of a table that passes the check, for a caller who checks a table once and runs it often: "At N it ends and the one slot is the verdict."
+pub fn run_whole<'a>(table: &'a [u8], notice: &'a [u8]) -> Ran
     requires { ⌜ checkOf (now table) ≡ true ⌝ }
     ensures { λ r. ⌜ r ≡ answerOf (runOf (decode (now (table .entry))) (now (notice .entry))) ⌝ }
 {
