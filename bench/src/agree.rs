@@ -1,0 +1,89 @@
+//! Both sides on random texts, tables and notices: every answer and every byte must be the same.
+
+use crate::load::{self, Dice};
+use bench::{expert, ours, translate};
+
+const TOKENS: [&str; 60] = [
+    "a", "Op", "Subject", "Level", "Cost", "Id", "Key", "none", "1", "0", "-7", "42", "3L", "2147483647", "-2147483648",
+    "9223372036854775807L", "0x1F", "017", "1.5", "-0.0", "2.5e3", "1.0e22", "\"x\"", "'ops'", "\"a\\\"b\"", "(", ")", ",", "==", "!=", "<",
+    "<=", ">", ">=", "&&", "||", "^^", "!", "~", "+", "-", "*", "/", "%", "&", "|", "^", "<<", ">>", ">>>", "size (Subject)",
+    "fold-case (Subject)", "int32 (Op)", "real64 (Cost)", "nan (Cost)", "require (Op)", "contains (Subject, \"e\")", "equals (Op, 1, 42)",
+    "ends-with (fold-case (Event), \"D\", \"x\")", "begins-with (Subject, \"al\")",
+];
+
+const SIZES: [usize; 5] = [1, 2, 8, 32, 64];
+
+fn value(dice: &mut Dice, depth: usize) -> String {
+    match dice.next(if depth == 0 { 2 } else { 5 }) {
+        0 => load::NAMES[dice.next(64)].0.to_string(),
+        1 => TOKENS[8 + dice.next(17)].to_string(),
+        2 => format!("~ {}", value(dice, 0)),
+        _ => {
+            let op = ["+", "-", "*", "/", "%", "&", "|", "^", "<<", ">>", ">>>"][dice.next(11)];
+            format!("({} {op} {})", value(dice, depth - 1), value(dice, depth - 1))
+        }
+    }
+}
+
+fn logic(dice: &mut Dice, depth: usize) -> String {
+    match dice.next(if depth == 0 { 2 } else { 6 }) {
+        0 => format!("{} {} {}", value(dice, 2), TOKENS[28 + dice.next(6)], value(dice, 2)),
+        1 => TOKENS[52 + dice.next(8)].to_string(),
+        2 => format!("! ({})", logic(dice, depth - 1)),
+        _ => format!("({} {} {})", logic(dice, depth - 1), ["&&", "||", "^^"][dice.next(3)], logic(dice, depth - 1)),
+    }
+}
+
+/// A text that is often right, or tokens and bytes at random.
+fn text(dice: &mut Dice) -> Vec<u8> {
+    let mut t = match dice.next(4) {
+        0 => {
+            let n = 1 + dice.next(8);
+            let words: Vec<&str> = (0..n).map(|_| TOKENS[dice.next(TOKENS.len())]).collect();
+            words.join(if dice.next(2) == 0 { " " } else { "" }).into_bytes()
+        }
+        _ => {
+            let depth = 1 + dice.next(5);
+            logic(dice, depth).into_bytes()
+        }
+    };
+    if dice.next(3) == 0 && !t.is_empty() {
+        let i = dice.next(t.len());
+        t[i] = dice.next(256) as u8;
+    }
+    t
+}
+
+pub fn agree(cases: usize) {
+    let mut dice = Dice(0xdead_beef_cafe_f00d);
+    let notices: Vec<Vec<u8>> = SIZES.map(load::notice).to_vec();
+    let (mut x, mut y) = (vec![0u8; 10250], vec![0u8; 10250]);
+    let (mut accepted, mut passed) = (0, 0);
+    for _ in 0..cases {
+        let t = text(&mut dice);
+        let room = if dice.next(50) == 0 { dice.next(600) } else { 10250 };
+        let a = ours::translate(&t, &mut x[..room]);
+        let b = translate::translate(&t, &mut y[..room]);
+        assert_eq!(a, b, "{}", String::from_utf8_lossy(&t));
+        assert_eq!(x, y, "{}", String::from_utf8_lossy(&t));
+        if a.0 != 0 {
+            continue;
+        }
+        accepted += 1;
+        let mut table = x[..a.2].to_vec();
+        if dice.next(2) == 0 {
+            let i = dice.next(table.len());
+            table[i] = [0, 1, 2, 4, 5, 41, 44, 255][dice.next(8)];
+        }
+        assert_eq!(ours::check(&table), expert::check(&table));
+        passed += ours::check(&table) as usize;
+        let mut notice = notices[dice.next(notices.len())].clone();
+        if dice.next(4) == 0 {
+            let i = dice.next(notice.len());
+            notice[i] = dice.next(256) as u8;
+        }
+        assert_eq!(ours::check_notice(&notice), expert::check_notice(&notice));
+        assert_eq!(ours::guarded(&table, &notice), expert::guarded(&table, &notice), "{}", String::from_utf8_lossy(&t));
+    }
+    println!("same answers on {cases} random texts, of which {accepted} have a table, and on {passed} tables that pass the check");
+}

@@ -1,0 +1,801 @@
+//! The router core as an expert would write it for speed in Rust: entries decoded once into a compact
+//! enum, stack in an array that is not initialised, no allocation, no test that a check has made already.
+//! Same answers as document 01 asks; written for this benchmark only.
+
+use std::mem::MaybeUninit;
+
+pub const FALSE: u8 = 0;
+pub const BOTTOM: u8 = 1;
+pub const TRUE: u8 = 2;
+
+// ---- reading bytes that a check has found to be there
+
+#[inline(always)]
+unsafe fn u16_at(s: &[u8], at: usize) -> u16 {
+    u16::from_le((s.as_ptr().add(at) as *const u16).read_unaligned())
+}
+
+#[inline(always)]
+unsafe fn u32_at(s: &[u8], at: usize) -> u32 {
+    u32::from_le((s.as_ptr().add(at) as *const u32).read_unaligned())
+}
+
+#[inline(always)]
+unsafe fn u64_at(s: &[u8], at: usize) -> u64 {
+    u64::from_le((s.as_ptr().add(at) as *const u64).read_unaligned())
+}
+
+/// Equality of two stretches of the same length, by words that may overlap.
+#[inline(always)]
+unsafe fn same_bytes(a: *const u8, b: *const u8, n: usize) -> bool {
+    if n >= 8 {
+        let mut i = 0;
+        while i + 8 <= n {
+            if (a.add(i) as *const u64).read_unaligned() != (b.add(i) as *const u64).read_unaligned() {
+                return false;
+            }
+            i += 8;
+        }
+        return (a.add(n - 8) as *const u64).read_unaligned() == (b.add(n - 8) as *const u64).read_unaligned();
+    }
+    if n >= 4 {
+        return (a as *const u32).read_unaligned() == (b as *const u32).read_unaligned()
+            && (a.add(n - 4) as *const u32).read_unaligned() == (b.add(n - 4) as *const u32).read_unaligned();
+    }
+    if n >= 2 {
+        return (a as *const u16).read_unaligned() == (b as *const u16).read_unaligned() && *a.add(n - 1) == *b.add(n - 1);
+    }
+    n == 0 || *a == *b
+}
+
+// ---- the program
+
+/// One decoded entry, 16 bytes. A skip has the entry it lands at.
+#[derive(Clone, Copy)]
+pub enum Ins {
+    Int32(i32),
+    Int64(i64),
+    Real(f64),
+    Text(u16, u16),
+    Name(u16, u16),
+    Fold,
+    Size,
+    Complement,
+    Shl,
+    Sar,
+    Shr,
+    BitAnd,
+    BitXor,
+    BitOr,
+    Mul,
+    Div,
+    Rem,
+    Add,
+    Sub,
+    Eq,
+    Ne,
+    Lt,
+    Le,
+    Gt,
+    Ge,
+    Not,
+    And,
+    Xor,
+    Or,
+    SkipFalse(u16),
+    SkipTrue(u16),
+    IsKind(u8),
+    Nan,
+    Require,
+    Begins(u8),
+    Contains(u8),
+    Ends(u8),
+    Equals(u8),
+}
+
+pub type Code = [MaybeUninit<Ins>; 512];
+
+pub fn no_code() -> Code {
+    [MaybeUninit::uninit(); 512]
+}
+
+pub struct Program<'a> {
+    pub code: &'a [MaybeUninit<Ins>],
+    pub pool: &'a [u8],
+}
+
+fn name_right(name: &[u8]) -> bool {
+    if name.is_empty() || name.len() > 64 {
+        return false;
+    }
+    let mut bad = 0u8;
+    for &b in name {
+        bad |= (b.wrapping_sub(32) > 94) as u8;
+    }
+    bad == 0
+}
+
+/// The check in one pass over the entries, with decoding into `code` where asked for. The kinds on the stack are
+/// a number: 1 for none, then a bit for each slot (1 for a value). Answers the number of entries, 0 if the check fails.
+#[inline(always)]
+fn check_decode<const DECODE: bool>(table: &[u8], code: &mut Code) -> usize {
+    if table.len() < 10 {
+        return 0;
+    }
+    let (n, pool_len) = unsafe {
+        if u32_at(table, 0) as usize + 4 != table.len() || u16_at(table, 4) != 2 {
+            return 0;
+        }
+        (u16_at(table, 6) as usize, u16_at(table, 8) as usize)
+    };
+    if n == 0 || n > 512 || pool_len > 4096 || 10 + 12 * n + pool_len != table.len() {
+        return 0;
+    }
+    let pool = &table[10 + 12 * n..];
+    let mut shapes = [MaybeUninit::<u64>::uninit(); 513];
+    let mut skips = [MaybeUninit::<(u16, u16)>::uninit(); 512];
+    let mut skip_count = 0;
+    let mut c: u64 = 1;
+    for i in 0..n {
+        let (op, a, b) = unsafe {
+            let at = 10 + 12 * i;
+            (u16_at(table, at), u16_at(table, at + 2), u64_at(table, at + 4))
+        };
+        shapes[i].write(c);
+        macro_rules! plain {
+            () => {
+                if a != 0 || b != 0 {
+                    return 0;
+                }
+            };
+        }
+        macro_rules! push {
+            () => {{
+                if c > 0xffff_ffff {
+                    return 0;
+                }
+                c = 2 * c + 1;
+            }};
+        }
+        macro_rules! one_value {
+            ($bit:expr) => {{
+                plain!();
+                if c < 3 || c & 1 == 0 {
+                    return 0;
+                }
+                c = (c & !1) | $bit;
+            }};
+        }
+        macro_rules! two {
+            ($both:expr, $bit:expr) => {{
+                plain!();
+                if c < 4 || c & 3 != $both {
+                    return 0;
+                }
+                c = ((c >> 2) << 1) | $bit;
+            }};
+        }
+        let ins = match op {
+            1 => {
+                if a != 0 || b as i64 != b as i32 as i64 {
+                    return 0;
+                }
+                push!();
+                Ins::Int32(b as i32)
+            }
+            2 | 3 => {
+                if a != 0 {
+                    return 0;
+                }
+                push!();
+                if op == 2 {
+                    Ins::Int64(b as i64)
+                } else {
+                    Ins::Real(f64::from_bits(b))
+                }
+            }
+            4 | 5 => {
+                if b > 4096 || b as usize + a as usize > pool_len {
+                    return 0;
+                }
+                if op == 5 && !name_right(&pool[b as usize..b as usize + a as usize]) {
+                    return 0;
+                }
+                push!();
+                if op == 4 {
+                    Ins::Text(b as u16, a)
+                } else {
+                    Ins::Name(b as u16, a)
+                }
+            }
+            6 => {
+                one_value!(1);
+                Ins::Fold
+            }
+            7 => {
+                one_value!(1);
+                Ins::Size
+            }
+            8 => {
+                one_value!(1);
+                Ins::Complement
+            }
+            16..=26 => {
+                two!(3, 1);
+                [
+                    Ins::Shl,
+                    Ins::Sar,
+                    Ins::Shr,
+                    Ins::BitAnd,
+                    Ins::BitXor,
+                    Ins::BitOr,
+                    Ins::Mul,
+                    Ins::Div,
+                    Ins::Rem,
+                    Ins::Add,
+                    Ins::Sub,
+                ][op as usize - 16]
+            }
+            32..=37 => {
+                two!(3, 0);
+                [Ins::Eq, Ins::Ne, Ins::Lt, Ins::Le, Ins::Gt, Ins::Ge][op as usize - 32]
+            }
+            40 => {
+                plain!();
+                if c < 2 || c & 1 != 0 {
+                    return 0;
+                }
+                Ins::Not
+            }
+            41..=43 => {
+                two!(0, 0);
+                [Ins::And, Ins::Xor, Ins::Or][op as usize - 41]
+            }
+            44 | 45 => {
+                let to = i + a as usize + 1;
+                if a == 0 || b != 0 || to > n || c < 2 || c & 1 != 0 {
+                    return 0;
+                }
+                skips[skip_count].write((i as u16, to as u16));
+                skip_count += 1;
+                if op == 44 {
+                    Ins::SkipFalse(to as u16)
+                } else {
+                    Ins::SkipTrue(to as u16)
+                }
+            }
+            48..=54 => {
+                one_value!(0);
+                match op {
+                    53 => Ins::Nan,
+                    54 => Ins::Require,
+                    _ => Ins::IsKind(op as u8 - 47),
+                }
+            }
+            56..=59 => {
+                if a == 0 || a > 8 || b != 0 {
+                    return 0;
+                }
+                let mask = (2u64 << a) - 1;
+                if c <= mask || c & mask != mask {
+                    return 0;
+                }
+                c = (c >> (a + 1)) << 1;
+                match op {
+                    56 => Ins::Begins(a as u8),
+                    57 => Ins::Contains(a as u8),
+                    58 => Ins::Ends(a as u8),
+                    _ => Ins::Equals(a as u8),
+                }
+            }
+            _ => return 0,
+        };
+        if DECODE {
+            code[i].write(ins);
+        }
+    }
+    if c != 2 {
+        return 0;
+    }
+    shapes[n].write(c);
+    for s in &skips[..skip_count] {
+        unsafe {
+            let (from, to) = s.assume_init();
+            if shapes[from as usize].assume_init() != shapes[to as usize].assume_init() {
+                return 0;
+            }
+        }
+    }
+    n
+}
+
+pub fn check(table: &[u8]) -> bool {
+    check_decode::<false>(table, &mut no_code()) != 0
+}
+
+/// The program of a table, decoded once; none if the check fails.
+pub fn decode<'a>(table: &'a [u8], code: &'a mut Code) -> Option<Program<'a>> {
+    let n = check_decode::<true>(table, code);
+    if n == 0 {
+        return None;
+    }
+    Some(Program { code: &code[..n], pool: &table[10 + 12 * n..] })
+}
+
+/// The program that `decode` last made of this table; none of an empty one.
+///
+/// # Safety
+/// `decode` has filled `code` from these bytes, or they are none.
+pub unsafe fn decoded<'a>(table: &'a [u8], code: &'a Code) -> Option<Program<'a>> {
+    if table.is_empty() {
+        return None;
+    }
+    let n = u16_at(table, 6) as usize;
+    Some(Program { code: &code[..n], pool: &table[10 + 12 * n..] })
+}
+
+// ---- notices
+
+/// None if the notice is well formed, else the place of its first fault.
+pub fn check_notice(notice: &[u8]) -> Option<usize> {
+    let len = notice.len();
+    if !(8..=16384).contains(&len) {
+        return Some(0);
+    }
+    unsafe {
+        let count = u16_at(notice, 6);
+        if u32_at(notice, 0) as usize + 4 != len || u16_at(notice, 4) != 1 || count > 64 {
+            return Some(0);
+        }
+        let mut at = 8;
+        let mut last: &[u8] = &[];
+        for _ in 0..count {
+            if len - at < 5 {
+                return Some(at);
+            }
+            let size = u16_at(notice, at) as usize;
+            let name_len = *notice.get_unchecked(at + 4) as usize;
+            if size < 3 + name_len || size > len - at - 2 {
+                return Some(at);
+            }
+            let name = notice.get_unchecked(at + 5..at + 5 + name_len);
+            let value_len = size - 3 - name_len;
+            let right = match u16_at(notice, at + 2) {
+                1 => value_len == 4,
+                2 | 3 => value_len == 8,
+                4 | 5 => value_len <= 1024,
+                _ => false,
+            };
+            if !right || !name_right(name) || last >= name {
+                return Some(at);
+            }
+            last = name;
+            at += 2 + size;
+        }
+        if at == len {
+            None
+        } else {
+            Some(at)
+        }
+    }
+}
+
+/// The value of the field of a name. Names rise, so a first byte past the name's ends the walk.
+#[inline(always)]
+unsafe fn lookup(notice: &[u8], key: &[u8]) -> Slot {
+    let mut left = u16_at(notice, 6);
+    let mut at = 8;
+    let first = *key.get_unchecked(0);
+    while left > 0 {
+        let head = *notice.get_unchecked(at + 5);
+        if head == first {
+            let name_len = *notice.get_unchecked(at + 4) as usize;
+            if name_len == key.len() && same_bytes(notice.as_ptr().add(at + 5), key.as_ptr(), name_len) {
+                let start = at + 5 + name_len;
+                let len = at + 2 + u16_at(notice, at) as usize - start;
+                return match u16_at(notice, at + 2) {
+                    1 => Slot::Int32(u32_at(notice, start) as i32),
+                    2 => Slot::Int64(u64_at(notice, start) as i64),
+                    3 => Slot::Real(f64::from_bits(u64_at(notice, start))),
+                    4 => Slot::Text(Piece { at: start as u16, len: len as u16, in_pool: false, folded: false }),
+                    _ => Slot::Opaque(len as u16),
+                };
+            }
+        } else if head > first {
+            return Slot::Missing;
+        }
+        at += 2 + u16_at(notice, at) as usize;
+        left -= 1;
+    }
+    Slot::Missing
+}
+
+// ---- values
+
+#[derive(Clone, Copy)]
+pub struct Piece {
+    at: u16,
+    len: u16,
+    in_pool: bool,
+    folded: bool,
+}
+
+#[derive(Clone, Copy)]
+pub enum Slot {
+    Truth(u8),
+    Missing,
+    Int32(i32),
+    Int64(i64),
+    Real(f64),
+    Text(Piece),
+    Opaque(u16),
+}
+
+const EXACT: i64 = 1 << 53;
+
+#[inline(always)]
+fn as_real(s: Slot) -> Option<f64> {
+    match s {
+        Slot::Int32(x) => Some(x as f64),
+        Slot::Int64(x) if (-EXACT..=EXACT).contains(&x) => Some(x as f64),
+        Slot::Real(x) => Some(x),
+        _ => None,
+    }
+}
+
+#[inline(always)]
+fn as_int(s: Slot) -> Option<i64> {
+    match s {
+        Slot::Int32(x) => Some(x as i64),
+        Slot::Int64(x) => Some(x),
+        _ => None,
+    }
+}
+
+#[inline(always)]
+fn of_bool(b: bool) -> u8 {
+    (b as u8) << 1
+}
+
+#[inline(always)]
+fn order(x: Slot, y: Slot, ints: impl Fn(i64, i64) -> bool, reals: impl Fn(f64, f64) -> bool) -> u8 {
+    if let (Slot::Int32(a), Slot::Int32(b)) = (x, y) {
+        return of_bool(ints(a as i64, b as i64));
+    }
+    if let (Some(a), Some(b)) = (as_int(x), as_int(y)) {
+        return of_bool(ints(a, b));
+    }
+    if let (Some(a), Some(b)) = (as_real(x), as_real(y)) {
+        return of_bool(reals(a, b));
+    }
+    BOTTOM
+}
+
+#[inline(always)]
+unsafe fn bytes<'a>(pool: &'a [u8], notice: &'a [u8], p: Piece) -> &'a [u8] {
+    let s = if p.in_pool { pool } else { notice };
+    s.get_unchecked(p.at as usize..p.at as usize + p.len as usize)
+}
+
+#[inline(always)]
+fn fold(mark: bool, b: u8) -> u8 {
+    if mark {
+        b.to_ascii_lowercase()
+    } else {
+        b
+    }
+}
+
+#[inline(always)]
+fn same_text(s: &[u8], s_mark: bool, t: &[u8], t_mark: bool) -> bool {
+    if s.len() != t.len() {
+        return false;
+    }
+    if !s_mark && !t_mark {
+        return unsafe { same_bytes(s.as_ptr(), t.as_ptr(), s.len()) };
+    }
+    s.iter().zip(t).all(|(&a, &b)| fold(s_mark, a) == fold(t_mark, b))
+}
+
+fn fits(how: u8, s: &[u8], s_mark: bool, t: &[u8], t_mark: bool) -> bool {
+    if t.len() > s.len() {
+        return false;
+    }
+    match how {
+        0 => same_text(&s[..t.len()], s_mark, t, t_mark),
+        2 => same_text(&s[s.len() - t.len()..], s_mark, t, t_mark),
+        _ => {
+            if t.is_empty() {
+                return true;
+            }
+            let first = fold(t_mark, t[0]);
+            for i in 0..=s.len() - t.len() {
+                if fold(s_mark, s[i]) == first && same_text(&s[i + 1..i + t.len()], s_mark, &t[1..], t_mark) {
+                    return true;
+                }
+            }
+            false
+        }
+    }
+}
+
+#[inline(always)]
+unsafe fn equal(pool: &[u8], notice: &[u8], x: Slot, y: Slot) -> u8 {
+    if let (Slot::Text(p), Slot::Text(q)) = (x, y) {
+        if p.len != q.len {
+            return FALSE;
+        }
+        return of_bool(same_text(bytes(pool, notice, p), p.folded, bytes(pool, notice, q), q.folded));
+    }
+    order(x, y, |a, b| a == b, |a, b| a == b)
+}
+
+#[inline(always)]
+fn narrow(z: i64) -> Slot {
+    if z == z as i32 as i64 {
+        Slot::Int32(z as i32)
+    } else {
+        Slot::Int64(z)
+    }
+}
+
+#[inline(always)]
+fn wide(z: Option<i64>) -> Slot {
+    match z {
+        Some(z) => Slot::Int64(z),
+        None => Slot::Missing,
+    }
+}
+
+#[inline(always)]
+fn arithmetic(
+    x: Slot,
+    y: Slot,
+    small: impl Fn(i64, i64) -> i64,
+    large: impl Fn(i64, i64) -> Option<i64>,
+    real: impl Fn(f64, f64) -> Option<f64>,
+) -> Slot {
+    if let (Slot::Int32(a), Slot::Int32(b)) = (x, y) {
+        return narrow(small(a as i64, b as i64));
+    }
+    if let (Some(a), Some(b)) = (as_int(x), as_int(y)) {
+        return wide(large(a, b));
+    }
+    if let (Some(a), Some(b)) = (as_real(x), as_real(y)) {
+        return match real(a, b) {
+            Some(r) => Slot::Real(r),
+            None => Slot::Missing,
+        };
+    }
+    Slot::Missing
+}
+
+#[inline(always)]
+fn is_zero(y: Slot) -> bool {
+    match y {
+        Slot::Int32(b) => b == 0,
+        Slot::Int64(b) => b == 0,
+        Slot::Real(b) => b == 0.0,
+        _ => false,
+    }
+}
+
+#[inline(always)]
+fn bitwise(x: Slot, y: Slot, f: impl Fn(i64, i64) -> i64) -> Slot {
+    if let (Slot::Int32(a), Slot::Int32(b)) = (x, y) {
+        return Slot::Int32(f(a as i64, b as i64) as i32);
+    }
+    match (as_int(x), as_int(y)) {
+        (Some(a), Some(b)) => Slot::Int64(f(a, b)),
+        _ => Slot::Missing,
+    }
+}
+
+#[inline(always)]
+fn shift(x: Slot, y: Slot, small: impl Fn(i32, u32) -> i32, large: impl Fn(i64, u32) -> i64) -> Slot {
+    let Some(k) = as_int(y) else {
+        return Slot::Missing;
+    };
+    match x {
+        Slot::Int32(a) if (0..32).contains(&k) => Slot::Int32(small(a, k as u32)),
+        Slot::Int64(a) if (0..64).contains(&k) => Slot::Int64(large(a, k as u32)),
+        _ => Slot::Missing,
+    }
+}
+
+// ---- the run
+
+/// Verdict and steps. The program was checked when it was decoded; the notice has been checked or is known to be right.
+///
+/// # Safety
+/// The notice is well formed.
+pub unsafe fn run(p: &Program, notice: &[u8]) -> (u8, usize) {
+    let pool = p.pool;
+    let code = p.code;
+    let mut stack = [MaybeUninit::<Slot>::uninit(); 33];
+    let base = stack.as_mut_ptr() as *mut Slot;
+    // the slot after the topmost
+    let mut top = base;
+    let mut at = 0;
+    let mut steps = 0;
+    while at < code.len() {
+        steps += 1;
+        macro_rules! push {
+            ($v:expr) => {{
+                let v = $v;
+                top.write(v);
+                top = top.add(1);
+            }};
+        }
+        macro_rules! unary {
+            ($x:ident, $v:expr) => {{
+                let $x = top.sub(1).read();
+                top.sub(1).write($v);
+            }};
+        }
+        macro_rules! binary {
+            ($x:ident, $y:ident, $v:expr) => {{
+                let $y = top.sub(1).read();
+                let $x = top.sub(2).read();
+                top = top.sub(1);
+                let v = $v;
+                top.sub(1).write(v);
+            }};
+        }
+        macro_rules! truths {
+            ($x:ident, $y:ident, $v:expr) => {{
+                let $y = truth(top.sub(1).read());
+                let $x = truth(top.sub(2).read());
+                top = top.sub(1);
+                top.sub(1).write(Slot::Truth($v));
+            }};
+        }
+        macro_rules! many {
+            ($n:expr, $first:ident, $later:ident, $v:expr) => {{
+                let n = $n as usize;
+                top = top.sub(n);
+                let $first = top.sub(1).read();
+                let $later = std::slice::from_raw_parts(top, n);
+                let v = $v;
+                top.sub(1).write(Slot::Truth(v));
+            }};
+        }
+        match code.get_unchecked(at).assume_init() {
+            Ins::Int32(x) => push!(Slot::Int32(x)),
+            Ins::Int64(x) => push!(Slot::Int64(x)),
+            Ins::Real(x) => push!(Slot::Real(x)),
+            Ins::Text(start, len) => push!(Slot::Text(Piece { at: start, len, in_pool: true, folded: false })),
+            Ins::Name(start, len) => push!(lookup(notice, pool.get_unchecked(start as usize..start as usize + len as usize))),
+            Ins::Fold => unary!(x, match x {
+                Slot::Text(p) => Slot::Text(Piece { folded: true, ..p }),
+                _ => Slot::Missing,
+            }),
+            Ins::Size => unary!(x, match x {
+                Slot::Text(p) => Slot::Int32(p.len as i32),
+                Slot::Opaque(n) => Slot::Int32(n as i32),
+                _ => Slot::Missing,
+            }),
+            Ins::Complement => unary!(x, match x {
+                Slot::Int32(a) => Slot::Int32(!a),
+                Slot::Int64(a) => Slot::Int64(!a),
+                _ => Slot::Missing,
+            }),
+            Ins::Shl => binary!(x, y, shift(x, y, |a, k| a << k, |a, k| a << k)),
+            Ins::Sar => binary!(x, y, shift(x, y, |a, k| a >> k, |a, k| a >> k)),
+            Ins::Shr => binary!(x, y, shift(x, y, |a, k| (a as u32 >> k) as i32, |a, k| (a as u64 >> k) as i64)),
+            Ins::BitAnd => binary!(x, y, bitwise(x, y, |a, b| a & b)),
+            Ins::BitXor => binary!(x, y, bitwise(x, y, |a, b| a ^ b)),
+            Ins::BitOr => binary!(x, y, bitwise(x, y, |a, b| a | b)),
+            Ins::Mul => binary!(x, y, arithmetic(x, y, |a, b| a * b, i64::checked_mul, |a, b| Some(a * b))),
+            Ins::Div => binary!(x, y, if is_zero(y) {
+                Slot::Missing
+            } else {
+                arithmetic(x, y, |a, b| a / b, i64::checked_div, |a, b| Some(a / b))
+            }),
+            Ins::Rem => binary!(x, y, if is_zero(y) {
+                Slot::Missing
+            } else {
+                arithmetic(x, y, |a, b| a % b, |a, b| Some(a.wrapping_rem(b)), |_, _| None)
+            }),
+            Ins::Add => binary!(x, y, arithmetic(x, y, |a, b| a + b, i64::checked_add, |a, b| Some(a + b))),
+            Ins::Sub => binary!(x, y, arithmetic(x, y, |a, b| a - b, i64::checked_sub, |a, b| Some(a - b))),
+            Ins::Eq => binary!(x, y, Slot::Truth(equal(pool, notice, x, y))),
+            Ins::Ne => binary!(x, y, Slot::Truth(2 - equal(pool, notice, x, y))),
+            Ins::Lt => binary!(x, y, Slot::Truth(order(x, y, |a, b| a < b, |a, b| a < b))),
+            Ins::Le => binary!(x, y, Slot::Truth(order(x, y, |a, b| a <= b, |a, b| a <= b))),
+            Ins::Gt => binary!(x, y, Slot::Truth(order(x, y, |a, b| a > b, |a, b| a > b))),
+            Ins::Ge => binary!(x, y, Slot::Truth(order(x, y, |a, b| a >= b, |a, b| a >= b))),
+            Ins::Not => {
+                let t = truth(top.sub(1).read());
+                top.sub(1).write(Slot::Truth(2 - t));
+            }
+            Ins::And => truths!(x, y, x.min(y)),
+            Ins::Or => truths!(x, y, x.max(y)),
+            Ins::Xor => truths!(x, y, if x == BOTTOM || y == BOTTOM { BOTTOM } else { x ^ y }),
+            Ins::SkipFalse(to) => {
+                if truth(top.sub(1).read()) == FALSE {
+                    at = to as usize;
+                    continue;
+                }
+            }
+            Ins::SkipTrue(to) => {
+                if truth(top.sub(1).read()) == TRUE {
+                    at = to as usize;
+                    continue;
+                }
+            }
+            Ins::IsKind(k) => unary!(x, Slot::Truth(match x {
+                Slot::Missing => BOTTOM,
+                Slot::Int32(_) => of_bool(k == 1),
+                Slot::Int64(_) => of_bool(k == 2),
+                Slot::Real(_) => of_bool(k == 3),
+                Slot::Text(_) => of_bool(k == 4),
+                _ => of_bool(k == 5),
+            })),
+            Ins::Nan => unary!(x, Slot::Truth(match x {
+                Slot::Missing => BOTTOM,
+                Slot::Real(r) => of_bool(r.is_nan()),
+                _ => FALSE,
+            })),
+            Ins::Require => unary!(x, Slot::Truth(match x {
+                Slot::Missing => BOTTOM,
+                _ => TRUE,
+            })),
+            Ins::Begins(n) => many!(n, x, later, fit(pool, notice, 0, x, later)),
+            Ins::Contains(n) => many!(n, x, later, fit(pool, notice, 1, x, later)),
+            Ins::Ends(n) => many!(n, x, later, fit(pool, notice, 2, x, later)),
+            Ins::Equals(n) => many!(n, x, later, {
+                let mut t = FALSE;
+                for &y in later {
+                    t = t.max(equal(pool, notice, x, y));
+                    if t == TRUE {
+                        break;
+                    }
+                }
+                t
+            }),
+        }
+        at += 1;
+    }
+    (truth(base.read()), steps)
+}
+
+#[inline(always)]
+fn truth(s: Slot) -> u8 {
+    match s {
+        Slot::Truth(t) => t,
+        // the check has made it impossible
+        _ => unsafe { std::hint::unreachable_unchecked() },
+    }
+}
+
+#[inline(always)]
+unsafe fn fit(pool: &[u8], notice: &[u8], how: u8, x: Slot, later: &[Slot]) -> u8 {
+    let Slot::Text(p) = x else {
+        return BOTTOM;
+    };
+    let s = bytes(pool, notice, p);
+    let mut t = FALSE;
+    for &y in later {
+        let Slot::Text(q) = y else {
+            return BOTTOM;
+        };
+        if t == FALSE {
+            t = of_bool(fits(how, s, p.folded, bytes(pool, notice, q), q.folded));
+        }
+    }
+    t
+}
+
+/// The guarded run over bytes: number, place, verdict, steps.
+pub fn guarded(table: &[u8], notice: &[u8]) -> (u8, usize, u8, usize) {
+    let mut code = no_code();
+    let Some(p) = decode(table, &mut code) else {
+        return (12, 0, BOTTOM, 0);
+    };
+    if let Some(place) = check_notice(notice) {
+        return (11, place, BOTTOM, 0);
+    }
+    let (verdict, steps) = unsafe { run(&p, notice) };
+    (0, 0, verdict, steps)
+}

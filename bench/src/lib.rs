@@ -1,0 +1,5 @@
+//! The two sides of the benchmark: `ours`, the verified static library, and `expert` with `translate`, Rust written for speed.
+
+pub mod expert;
+pub mod ours;
+pub mod translate;

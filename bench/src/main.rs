@@ -1,0 +1,190 @@
+//! Ours beside the expert's Rust, one machine, one run. `bench` prints every table, `bench quick` the same in a tenth
+//! of the time, `bench agree` compares the answers of both sides on many random cases and times nothing.
+//! How it is built and run, with the flags: bench/run.
+
+mod agree;
+mod clock;
+mod load;
+mod program;
+
+use bench::{expert, ours, translate};
+use clock::{compare, Pace};
+use std::hint::black_box;
+
+fn table_of(text: &str) -> Vec<u8> {
+    let mut table = vec![0u8; 10250];
+    let (number, _, length) = ours::translate(text.as_bytes(), &mut table);
+    assert_eq!(number, 0, "{text}");
+    table.truncate(length);
+    table
+}
+
+fn entries_of(table: &[u8]) -> usize {
+    u16::from_le_bytes([table[6], table[7]]) as usize
+}
+
+pub fn head(title: &str, unit: &str) {
+    println!("\n{title:<46}{:>12}{:>12}{:>8}", format!("ours {unit}"), "expert", "ratio");
+}
+
+pub fn row(name: &str, ours: f64, expert: f64, ratio: f64) {
+    println!("{name:<46}{ours:>12.1}{expert:>12.1}{ratio:>8.2}");
+}
+
+/// The subscriptions that are run: name and table.
+fn tables() -> Vec<(String, Vec<u8>)> {
+    let mut all = Vec::new();
+    for n in [3, 10, 50, 500] {
+        let table = table_of(&load::subscription(n));
+        assert_eq!(entries_of(&table), n);
+        all.push((format!("{n} entries"), table));
+    }
+    let table = table_of(&load::whole_subscription(500));
+    assert_eq!(entries_of(&table), 500);
+    all.push(("500 entries, none passed over".to_string(), table));
+    all
+}
+
+fn inner(pace: Pace) {
+    head("inner run, per notice", "ns");
+    for (name, table) in tables() {
+        for fields in [1, 8, 64] {
+            let notice = load::notice(fields);
+            let mut code = expert::no_code();
+            let p = expert::decode(&table, &mut code).unwrap();
+            // SAFETY: the notice is one of ours, and `agree` has checked it
+            let (verdict, steps) = unsafe { expert::run(&p, &notice) };
+            assert_eq!(ours::repeat(&table, &notice, 1), 4 * steps as u64 + verdict as u64);
+            let (a, b) = compare(
+                &mut |times| {
+                    black_box(ours::repeat(black_box(&table), black_box(&notice), times));
+                },
+                &mut |times| {
+                    for _ in 0..times {
+                        // SAFETY: as above
+                        black_box(unsafe { expert::run(black_box(&p), black_box(&notice)) });
+                    }
+                },
+                pace,
+            );
+            row(&format!("{name}, {fields} fields ({steps} steps)"), a, b, a / b);
+        }
+    }
+}
+
+fn guarded(pace: Pace) {
+    head("guarded run, per notice", "ns");
+    for (name, table) in tables() {
+        for fields in [1, 8, 64] {
+            let notice = load::notice(fields);
+            assert_eq!(ours::guarded(&table, &notice), expert::guarded(&table, &notice));
+            let (a, b) = compare(
+                &mut |times| {
+                    for _ in 0..times {
+                        black_box(ours::guarded(black_box(&table), black_box(&notice)));
+                    }
+                },
+                &mut |times| {
+                    for _ in 0..times {
+                        black_box(expert::guarded(black_box(&table), black_box(&notice)));
+                    }
+                },
+                pace,
+            );
+            row(&format!("{name}, {fields} fields"), a, b, a / b);
+        }
+    }
+}
+
+fn checks(pace: Pace) {
+    head("table check, per entry", "ns");
+    for (name, table) in tables() {
+        assert!(ours::check(&table) && expert::check(&table));
+        let n = entries_of(&table) as f64;
+        let (a, b) = compare(
+            &mut |times| {
+                for _ in 0..times {
+                    black_box(ours::check(black_box(&table)));
+                }
+            },
+            &mut |times| {
+                for _ in 0..times {
+                    black_box(expert::check(black_box(&table)));
+                }
+            },
+            pace,
+        );
+        row(&name, a / n, b / n, a / b);
+    }
+    head("notice check, per field", "ns");
+    for fields in [1, 8, 64] {
+        let notice = load::notice(fields);
+        assert_eq!((ours::check_notice(&notice), expert::check_notice(&notice)), (None, None));
+        let (a, b) = compare(
+            &mut |times| {
+                for _ in 0..times {
+                    black_box(ours::check_notice(black_box(&notice)));
+                }
+            },
+            &mut |times| {
+                for _ in 0..times {
+                    black_box(expert::check_notice(black_box(&notice)));
+                }
+            },
+            pace,
+        );
+        row(&format!("{fields} fields"), a / fields as f64, b / fields as f64, a / b);
+    }
+}
+
+fn translation(pace: Pace) {
+    head("translation, per byte of text", "ns");
+    let mut texts: Vec<String> = [3, 10, 50, 500].map(load::subscription).to_vec();
+    // 4,096 bytes: strings of the length that fills the text
+    let long = format!("Subject == \"{}\" || ", "n".repeat(200));
+    let mut whole = long.repeat(4096 / long.len());
+    whole.push_str("Op == 42");
+    while whole.len() < 4096 {
+        whole.push(' ');
+    }
+    texts.push(whole);
+    for text in texts {
+        let text = text.as_bytes();
+        let (mut x, mut y) = (vec![0u8; 10250], vec![0u8; 10250]);
+        assert_eq!(ours::translate(text, &mut x), translate::translate(text, &mut y));
+        assert_eq!(x, y);
+        let entries = entries_of(&x);
+        let (a, b) = compare(
+            &mut |times| {
+                for _ in 0..times {
+                    black_box(ours::translate(black_box(text), black_box(&mut x)));
+                }
+            },
+            &mut |times| {
+                for _ in 0..times {
+                    black_box(translate::translate(black_box(text), black_box(&mut y)));
+                }
+            },
+            pace,
+        );
+        let n = text.len() as f64;
+        row(&format!("{} bytes, {entries} entries", text.len()), a / n, b / n, a / b);
+    }
+}
+
+fn main() {
+    let word = std::env::args().nth(1).unwrap_or_default();
+    let (pace, records) = match word.as_str() {
+        "" => (Pace { rounds: 15, round: 4e6 }, 1_000_000),
+        "quick" => (Pace { rounds: 7, round: 4e5 }, 100_000),
+        "agree" => return agree::agree(200_000),
+        _ => panic!("bench [quick | agree]"),
+    };
+    agree::agree(2_000);
+    println!("ratio: ours over expert; medians of {} rounds, the sides in turn", pace.rounds);
+    inner(pace);
+    guarded(pace);
+    checks(pace);
+    translation(pace);
+    program::rates(records);
+}

@@ -1,0 +1,75 @@
+//! The verified functions, as the static libraries export them.
+
+mod c {
+    extern "C" {
+        pub fn virentolex_translate(
+            text: *const u8,
+            text_len: usize,
+            buffer: *mut u8,
+            buffer_len: usize,
+            place: *mut usize,
+            length: *mut usize,
+        ) -> u8;
+        pub fn virentolex_check(table: *const u8, table_len: usize) -> u8;
+        pub fn virentolex_check_notice(notice: *const u8, notice_len: usize, place: *mut usize) -> u8;
+        pub fn virentolex_run(
+            table: *const u8,
+            table_len: usize,
+            notice: *const u8,
+            notice_len: usize,
+            place: *mut usize,
+            verdict: *mut u8,
+            steps: *mut usize,
+        ) -> u8;
+        pub fn repeat_run(table: *const u8, table_len: usize, notice: *const u8, notice_len: usize, times: u32) -> u64;
+    }
+}
+
+/// Number, place and table length.
+pub fn translate(text: &[u8], buffer: &mut [u8]) -> (u8, usize, usize) {
+    let (mut place, mut length) = (0, 0);
+    // SAFETY: each pointer is lent with its length for the call
+    let number = unsafe {
+        c::virentolex_translate(text.as_ptr(), text.len(), buffer.as_mut_ptr(), buffer.len(), &mut place, &mut length)
+    };
+    (number, place, length)
+}
+
+pub fn check(table: &[u8]) -> bool {
+    // SAFETY: as above
+    unsafe { c::virentolex_check(table.as_ptr(), table.len()) == 0 }
+}
+
+/// None if the notice is well formed, else the place of its first fault.
+pub fn check_notice(notice: &[u8]) -> Option<usize> {
+    let mut place = 0;
+    // SAFETY: as above
+    match unsafe { c::virentolex_check_notice(notice.as_ptr(), notice.len(), &mut place) } {
+        0 => None,
+        _ => Some(place),
+    }
+}
+
+/// The guarded run over bytes: number, place, verdict, steps.
+pub fn guarded(table: &[u8], notice: &[u8]) -> (u8, usize, u8, usize) {
+    let (mut place, mut verdict, mut steps) = (0, 0, 0);
+    // SAFETY: as above
+    let number = unsafe {
+        c::virentolex_run(
+            table.as_ptr(),
+            table.len(),
+            notice.as_ptr(),
+            notice.len(),
+            &mut place,
+            &mut verdict,
+            &mut steps,
+        )
+    };
+    (number, place, verdict, steps)
+}
+
+/// The inner run so many times: the sum of the runs' steps, each four times, and of their verdicts; 0 if the table fails the check.
+pub fn repeat(table: &[u8], notice: &[u8], times: u32) -> u64 {
+    // SAFETY: as above
+    unsafe { c::repeat_run(table.as_ptr(), table.len(), notice.as_ptr(), notice.len(), times) }
+}
