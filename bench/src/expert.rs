@@ -104,15 +104,38 @@ pub struct Program<'a> {
     pub pool: &'a [u8],
 }
 
+/// Whether a byte of the word is none of 32..126.
+#[inline(always)]
+fn odd_byte(x: u64) -> bool {
+    (x.wrapping_sub(0x2020_2020_2020_2020) | x.wrapping_add(0x0101_0101_0101_0101) | x) & 0x8080_8080_8080_8080 != 0
+}
+
+#[inline(always)]
 fn name_right(name: &[u8]) -> bool {
-    if name.is_empty() || name.len() > 64 {
+    let n = name.len();
+    if n == 0 || n > 64 {
         return false;
     }
-    let mut bad = 0u8;
-    for &b in name {
-        bad |= (b.wrapping_sub(32) > 94) as u8;
+    let p = name.as_ptr();
+    // SAFETY: each word lies in the name; the last ones may overlap
+    unsafe {
+        if n >= 8 {
+            let mut i = 0;
+            let mut bad = false;
+            while i + 8 <= n {
+                bad |= odd_byte((p.add(i) as *const u64).read_unaligned());
+                i += 8;
+            }
+            return !(bad | odd_byte((p.add(n - 8) as *const u64).read_unaligned()));
+        }
+        if n >= 4 {
+            let low = (p as *const u32).read_unaligned() as u64;
+            let high = (p.add(n - 4) as *const u32).read_unaligned() as u64;
+            return !odd_byte(low | high << 32);
+        }
+        let (a, b, c) = (*p, *p.add(n / 2), *p.add(n - 1));
+        a.wrapping_sub(32) <= 94 && b.wrapping_sub(32) <= 94 && c.wrapping_sub(32) <= 94
     }
-    bad == 0
 }
 
 /// The check in one pass over the entries, with decoding into `code` where asked for. The kinds on the stack are
@@ -336,6 +359,21 @@ pub unsafe fn decoded<'a>(table: &'a [u8], code: &'a Code) -> Option<Program<'a>
 
 // ---- notices
 
+/// Whether a name is before another, the empty one first: most differ in the first byte.
+#[inline(always)]
+fn before(a: &[u8], b: &[u8]) -> bool {
+    if a.is_empty() || a[0] != b[0] {
+        return a.is_empty() || a[0] < b[0];
+    }
+    let n = a.len().min(b.len());
+    for i in 1..n {
+        if a[i] != b[i] {
+            return a[i] < b[i];
+        }
+    }
+    a.len() < b.len()
+}
+
 /// None if the notice is well formed, else the place of its first fault.
 pub fn check_notice(notice: &[u8]) -> Option<usize> {
     let len = notice.len();
@@ -348,7 +386,7 @@ pub fn check_notice(notice: &[u8]) -> Option<usize> {
             return Some(0);
         }
         let mut at = 8;
-        let mut last: &[u8] = &[];
+        let mut last = notice.get_unchecked(8..8);
         for _ in 0..count {
             if len - at < 5 {
                 return Some(at);
@@ -366,7 +404,7 @@ pub fn check_notice(notice: &[u8]) -> Option<usize> {
                 4 | 5 => value_len <= 1024,
                 _ => false,
             };
-            if !right || !name_right(name) || last >= name {
+            if !right || !name_right(name) || !before(last, name) {
                 return Some(at);
             }
             last = name;

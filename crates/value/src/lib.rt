@@ -143,7 +143,7 @@ fn beside<'a>(pool: &'a [u8], notice: &'a [u8], op: Many, v: Typed, w: Typed) ->
 {
     match op {
         Many::Fit(f) => values::fit(pool, notice, f, v, w),
-        Many::Equals => values::equal(pool, notice, v, w),
+        Many::Equals => values::equals(pool, notice, v, w),
     }
 }
 

@@ -199,7 +199,17 @@ pub fn combine(op: Combine, v: Typed, w: Typed) -> Typed
 }
 
 // `==`: "string with string by bytes, number with number; otherwise bottom"
-pub fn equal<'a>(pool: &'a [u8], notice: &'a [u8], v: Typed, w: Typed) -> Truth
+fn equal<'a>(pool: &'a [u8], notice: &'a [u8], v: Typed, w: Typed) -> Truth
+    ensures { λ r. ⌜ r ≡ equalValues (typedOf (now (pool .entry)) (now (notice .entry)) v) (typedOf (now (pool .entry)) (now (notice .entry)) w) ⌝ }
+{
+    if is_text(v) & is_text(w) {
+        return truth::of_bool(texts::same_text(pool, notice, text_in(v), text_in(w)));
+    }
+    number::equal(number_of(v), number_of(w))
+}
+
+// The same for `equals`. `compare` calls `equal` at one place and nothing else does, so that the compiler lays it into the run's loop: operands that pass through memory take a quarter of a run.
+pub fn equals<'a>(pool: &'a [u8], notice: &'a [u8], v: Typed, w: Typed) -> Truth
     ensures { λ r. ⌜ r ≡ equalValues (typedOf (now (pool .entry)) (now (notice .entry)) v) (typedOf (now (pool .entry)) (now (notice .entry)) w) ⌝ }
 {
     if is_text(v) & is_text(w) {
@@ -212,11 +222,18 @@ pub fn equal<'a>(pool: &'a [u8], notice: &'a [u8], v: Typed, w: Typed) -> Truth
 pub fn compare<'a>(pool: &'a [u8], notice: &'a [u8], op: Compare, v: Typed, w: Typed) -> Truth
     ensures { λ r. ⌜ r ≡ compareOf op (typedOf (now (pool .entry)) (now (notice .entry)) v) (typedOf (now (pool .entry)) (now (notice .entry)) w) ⌝ }
 {
+    let mut negated = false;
     match op {
-        Compare::Equal => equal(pool, notice, v, w),
-        Compare::NotEqual => truth::not(equal(pool, notice, v, w)),
-        Compare::Order(o) => number::order(o, number_of(v), number_of(w)),
+        Compare::Equal => {}
+        Compare::NotEqual => {
+            negated = true;
+        }
+        Compare::Order(o) => {
+            return number::order(o, number_of(v), number_of(w));
+        }
     }
+    let t = equal(pool, notice, v, w);
+    if negated { truth::not(t) } else { t }
 }
 
 // Ops 56..58: what is known before any literal, and what one literal says.

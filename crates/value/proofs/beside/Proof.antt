@@ -11,15 +11,15 @@ fit-requires c κs = search needs
 enum-told : tie.Need-enum-told
 enum-told c = search needs
 
-equal-requires : tie.Need-equal-requires
-equal-requires c κs = search needs
+equals-requires : tie.Need-equals-requires
+equals-requires c κs = search needs
 
 returns : tie.Need-returns
 returns c = rw (c .before .before .op .given .1) (c .fit .ensures)
 
 returns-2 : tie.Need-returns-2
-returns-2 c = rw (c .before .enum-told .given .1) (c .equal .ensures)
+returns-2 c = rw (c .before .enum-told .given .1) (c .equals .ensures)
 
 pub beside-spec : {M : Type 1} → statement M
 beside-spec =
-    tie.close (tie.spec enum-known-op fit-requires enum-told equal-requires returns returns-2)
+    tie.close (tie.spec enum-known-op fit-requires enum-told equals-requires returns returns-2)

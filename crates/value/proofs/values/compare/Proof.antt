@@ -1,4 +1,7 @@
-use mathlib.Core.Path.{ap, ap₂, _∙_}
+-- `value::values::compare` meets its contract: after the `match` the operator is `==` or `!=`, as `negated` says. Assumes nothing.
+use mathlib.Core.Path.{_≡_, sym, ap, ap₂, _∙_}
+use mathlib.Core.Bool.{Bool, true, false}
+use mathlib.Core.Logic.{⊎-elim}
 use Rattle.truth.specs.Truth.{notOf}
 use Rattle.number.specs.Number.{orderOf}
 use borrow.Author.Needs.{needs}
@@ -8,17 +11,8 @@ use Rattle.value.proofs.values.compare.Tie as tie
 enum-told : tie.Need-enum-told
 enum-told c = search needs
 
-equal-requires : tie.Need-equal-requires
-equal-requires c κs = search needs
-
 enum-told-2 : tie.Need-enum-told-2
 enum-told-2 c = search needs
-
-equal-requires-2 : tie.Need-equal-requires-2
-equal-requires-2 c κs = search needs
-
-not-requires : tie.Need-not-requires
-not-requires c κs = search needs
 
 enum-known-op : tie.Need-enum-known-op
 enum-known-op c = search needs
@@ -33,29 +27,42 @@ order-requires : tie.Need-order-requires
 order-requires c κs = search needs
 
 returns : tie.Need-returns
-returns c = rw (c .before .enum-told .given .1) (c .equal .ensures)
+returns c =
+    let a = c .before .before .before .before .before .before .before .before .args in let p = a .pool .now in let q = a .notice .now in
+    rw (c .before .before .before .before .op .given .1) (c .order .ensures ∙ ap₂ (orderOf (c .before .before .before .before .op .given .0 .0)) (c .before .before .number-of .ensures p q) (c .before .number-of2 .ensures p q))
+
+equal-requires : tie.Need-equal-requires
+equal-requires c κs = search needs
+
+not-requires : tie.Need-not-requires
+not-requires c κs = search needs
 
 returns-2 : tie.Need-returns-2
-returns-2 c = rw (c .before .before .enum-told2 .given .1) (c .not .ensures ∙ ap notOf (c .before .equal2 .ensures))
+returns-2 c =
+    ⊎-elim
+    (λ w. let e : true ≡ false = sym (c .before .if1 .taken) ∙ w .2 in cc)
+    (λ w. rw (w .1 .given .1) (c .not .ensures ∙ ap notOf (c .before .before .equal .ensures)))
+    (c .before .before .before .match .came)
 
 returns-3 : tie.Need-returns-3
 returns-3 c =
-    let a = c .before .before .before .before .before .before .before .before .args in let p = a .pool .now in let q = a .notice .now in
-    rw (c .before .before .before .before .op .given .1) (c .order .ensures ∙ ap₂ (orderOf (c .before .before .before .before .op .given .0 .0)) (c .before .before .number-of .ensures p q) (c .before .number-of2 .ensures p q))
+    ⊎-elim
+    (λ w. rw (w .1 .given .1) (c .before .equal .ensures))
+    (λ w. let e : false ≡ true = sym (c .if1 .left) ∙ w .2 in cc)
+    (c .before .before .match .came)
 
 pub compare-spec : {M : Type 1} → statement M
 compare-spec =
     tie.close
     (tie.spec
     enum-told
-    equal-requires
     enum-told-2
-    equal-requires-2
-    not-requires
     enum-known-op
     number-of-requires
     number-of-requires-2
     order-requires
     returns
+    equal-requires
+    not-requires
     returns-2
     returns-3)
