@@ -1,6 +1,7 @@
 pub mod Tests
 pub mod Numbers
 pub mod Shapes
+pub mod Skips
 pub mod Reading
 pub mod Laid
 pub mod Passes

@@ -8,7 +8,7 @@ ghost use lib.Dec.{leb, eqb};
 ghost use lib.ListN.{length, getD};
 ghost use Rattle.opcode.specs.Opcode.{Kind, unaryTakes, unaryGives, binaryTakes, binaryGives};
 ghost use Rattle.table.specs.Table.{countOf, entriesOf, entryAt, poolOf, layoutOf};
-ghost use Rattle.table.specs.Check.{inRange, partRight, loadRight, entryRight, popOne, push, flowBy, after, isSkip, skipsRight, checkOf};
+ghost use Rattle.table.specs.Check.{inRange, partRight, loadRight, opRight, popOne, push, flowBy, isSkip, skipsRight, checkOf};
 ghost use Rattle.table.specs.Number.{bitOf, numberOf, Stored, Shaped};
 use opcode::Binary;
 use opcode::Load;
@@ -114,10 +114,10 @@ fn load_right(pool: &[u8], l: Load, e: Entry) -> bool
     }
 }
 
-fn entry_right(pool: &[u8], e: Entry) -> bool
-    ensures { λ r. ⌜ r ≡ entryRight (now (pool .entry)) e ⌝ }
+// An entry whose operator is `op`, which is decoded once for this and for `flow`.
+fn entry_right(pool: &[u8], op: Op, e: Entry) -> bool
+    ensures { λ r. ⌜ r ≡ opRight (now (pool .entry)) op e ⌝ }
 {
-    let op = opcode::op_of(e.op);
     match op {
         Op::Load(l) => load_right(pool, l, e),
         Op::Unary(_) => (e.a == 0) & (e.b == 0),
@@ -239,16 +239,15 @@ fn skip_flow(c: u64) -> u64
     push_one(pop_one(c, 0), 0)
 }
 
-// The kinds after an entry, of those before it. An unknown op, which is not right by itself, takes nothing.
-fn flow(e: Entry, c: u64) -> u64
-    ensures { λ r. ⌜ ((s : Option (List Kind)) → c ≡ numberOf s → r ≡ numberOf (after e s)) ⌝ }
+// The kinds after an operator with its a, of those before it. An unknown op, which is not right by itself, takes nothing.
+fn flow(op: Op, a: u16, c: u64) -> u64
+    ensures { λ r. ⌜ ((s : Option (List Kind)) → c ≡ numberOf s → r ≡ numberOf (flowBy op a s)) ⌝ }
 {
-    let op = opcode::op_of(e.op);
     match op {
         Op::Load(_) => load_flow(c),
         Op::Unary(u) => unary_flow(u, c),
         Op::Binary(b) => binary_flow(b, c),
-        Op::Many(_) => many_flow(e.a, c),
+        Op::Many(_) => many_flow(a, c),
         Op::Skip(_) => skip_flow(c),
         Op::Unknown => push_one(c, 0),
     }
@@ -265,10 +264,11 @@ fn shapes_right(table: &[u8], n: usize, shapes: &mut [u64; 513]) -> bool
     let mut i = 0;
     while i < n {
         let e = entry_at(table, i);
-        if !entry_right(strings, e) {
+        let op = opcode::op_of(e.op);
+        if !entry_right(strings, op, e) {
             return false;
         }
-        let c = flow(e, shapes[i]);
+        let c = flow(op, e.a, shapes[i]);
         if c == 0 {
             return false;
         }
@@ -280,18 +280,11 @@ fn shapes_right(table: &[u8], n: usize, shapes: &mut [u64; 513]) -> bool
 
 // ---- where skips land
 
+// "44 skip if false, 45 skip if true"
 fn is_skip(e: Entry) -> bool
     ensures { λ r. ⌜ r ≡ isSkip e ⌝ }
 {
-    let op = opcode::op_of(e.op);
-    match op {
-        Op::Load(_) => false,
-        Op::Unary(_) => false,
-        Op::Binary(_) => false,
-        Op::Many(_) => false,
-        Op::Skip(_) => true,
-        Op::Unknown => false,
-    }
+    (e.op == 44) | (e.op == 45)
 }
 
 // "a skip lands at or before N", at the kinds that it was reached with. It asks for an entry of a table of at most 512.

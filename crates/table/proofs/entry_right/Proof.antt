@@ -1,14 +1,10 @@
-use mathlib.Core.Path.{sym, _∙_}
+use mathlib.Core.Path.{_∙_}
 use borrow.Author.Needs.{needs}
 use Rattle.table.proofs.entry_right.Statement.{statement}
 use Rattle.table.proofs.entry_right.Tie as tie
 use Rattle.table.proofs.entry_right.Reads as reads
 use Rattle.table.proofs.entry_right.Lts as lts
-use Rattle.opcode.proofs.op_of.Reads as op-of-reads
 use Rattle.table.proofs.load_right.Reads as load-right-reads
-
-op-of-requires : tie.Need-op-of-requires
-op-of-requires c κs = search needs
 
 enum-known-op : tie.Need-enum-known-op
 enum-known-op c = search needs
@@ -33,20 +29,20 @@ enum-told-5 c = search needs
 
 returns : tie.Need-returns
 returns c =
-    c .load-right .ensures ∙ rw (sym (c .before .before .before .before .op-of .ensures) ∙ c .before .before .op .given .1)
+    c .load-right .ensures ∙ rw (c .before .before .op .given .1)
 
 returns-2 : tie.Need-returns-2
-returns-2 c = rw (sym (c .before .before .before .before .op-of .ensures) ∙ c .before .before .enum-told .given .1)
+returns-2 c = rw (c .before .before .enum-told .given .1)
 
 returns-3 : tie.Need-returns-3
-returns-3 c = rw (sym (c .before .before .before .before .op-of .ensures) ∙ c .before .before .enum-told2 .given .1)
+returns-3 c = rw (c .before .before .enum-told2 .given .1)
 
 returns-4 : tie.Need-returns-4
 returns-4 c =
-    rw (sym (c .before .before .before .before .before .op-of .ensures) ∙ c .before .before .before .enum-told3 .given .1)
+    rw (c .before .before .before .enum-told3 .given .1)
 
 returns-5 : tie.Need-returns-5
-returns-5 c = rw (sym (c .before .before .before .before .op-of .ensures) ∙ c .before .before .enum-told4 .given .1)
+returns-5 c = rw (c .before .before .enum-told4 .given .1)
 
 returns-6 : tie.Need-returns-6
 returns-6 c = search needs
@@ -55,7 +51,6 @@ pub entry-right-spec : {M : Type 1} → statement M
 entry-right-spec =
     tie.close
     (tie.spec
-    op-of-requires
     enum-known-op
     load-right-requires
     enum-told

@@ -1,20 +1,16 @@
-use mathlib.Core.Path.{sym, refl, _∙_}
+use mathlib.Core.Path.{refl}
 use Rattle.opcode.specs.Opcode.{logic}
 use borrow.Author.Needs.{needs}
 use Rattle.table.proofs.flow.Statement.{statement}
 use Rattle.table.proofs.flow.Tie as tie
 use Rattle.table.proofs.flow.Reads as reads
 use Rattle.table.proofs.flow.Lts as lts
-use Rattle.opcode.proofs.op_of.Reads as op-of-reads
 use Rattle.table.proofs.binary_flow.Reads as binary-flow-reads
 use Rattle.table.proofs.load_flow.Reads as load-flow-reads
 use Rattle.table.proofs.many_flow.Reads as many-flow-reads
 use Rattle.table.proofs.push_one.Reads as push-one-reads
 use Rattle.table.proofs.skip_flow.Reads as skip-flow-reads
 use Rattle.table.proofs.unary_flow.Reads as unary-flow-reads
-
-op-of-requires : tie.Need-op-of-requires
-op-of-requires c κs = search needs
 
 enum-told : tie.Need-enum-told
 enum-told c = search needs
@@ -54,33 +50,32 @@ push-one-requires c κs = search needs
 
 returns : tie.Need-returns
 returns c =
-    λ s e. rw (sym (c .before .before .before .op-of .ensures) ∙ c .before .enum-told .given .1) (c .load-flow .ensures (c .before .enum-told .given .0 .0) (c .before .before .before .before .args .e .a) s e)
+    λ s e. rw (c .before .enum-told .given .1) (c .load-flow .ensures (c .before .enum-told .given .0 .0) (c .before .before .before .args .a) s e)
 
 returns-2 : tie.Need-returns-2
 returns-2 c =
-    λ s e. rw (sym (c .before .before .before .before .op-of .ensures) ∙ c .before .before .op .given .1) (c .unary-flow .ensures (c .before .before .before .before .before .args .e .a) s e)
+    λ s e. rw (c .before .before .op .given .1) (c .unary-flow .ensures (c .before .before .before .before .args .a) s e)
 
 returns-3 : tie.Need-returns-3
 returns-3 c =
-    λ s e. rw (sym (c .before .before .before .before .op-of .ensures) ∙ c .before .before .op2 .given .1) (c .binary-flow .ensures (c .before .before .before .before .before .args .e .a) s e)
+    λ s e. rw (c .before .before .op2 .given .1) (c .binary-flow .ensures (c .before .before .before .before .args .a) s e)
 
 returns-4 : tie.Need-returns-4
 returns-4 c =
-    λ s e. rw (sym (c .before .before .before .op-of .ensures) ∙ c .before .enum-told2 .given .1) (c .many-flow .ensures (c .before .enum-told2 .given .0 .0) s e)
+    λ s e. rw (c .before .enum-told2 .given .1) (c .many-flow .ensures (c .before .enum-told2 .given .0 .0) s e)
 
 returns-5 : tie.Need-returns-5
 returns-5 c =
-    λ s e. rw (sym (c .before .before .before .op-of .ensures) ∙ c .before .enum-told3 .given .1) (c .skip-flow .ensures (c .before .enum-told3 .given .0 .0) (c .before .before .before .before .args .e .a) s e)
+    λ s e. rw (c .before .enum-told3 .given .1) (c .skip-flow .ensures (c .before .enum-told3 .given .0 .0) (c .before .before .before .args .a) s e)
 
 returns-6 : tie.Need-returns-6
 returns-6 c =
-    λ s e. rw (sym (c .before .before .before .op-of .ensures) ∙ c .before .enum-told4 .given .1) (c .push-one .ensures logic s refl e)
+    λ s e. rw (c .before .enum-told4 .given .1) (c .push-one .ensures logic s refl e)
 
 pub flow-spec : {M : Type 1} → statement M
 flow-spec =
     tie.close
     (tie.spec
-    op-of-requires
     enum-told
     load-flow-requires
     enum-known-op

@@ -2,7 +2,7 @@ use Prim.Native.Nat.{_-_}
 use native.Mathlib.Omega.{arith}
 use borrow.Author.Tests.{not-true, not-false}
 use Rattle.table.proofs.Laid.{laid, inside}
-use Rattle.table.proofs.Passing.{Passed, pass-start, pass-more, pass-end, pass-wrong, pass-stuck}
+use Rattle.table.proofs.Passing.{Passed, pass-start, pass-more, pass-end, pass-wrong, pass-stuck, right-by, flow-by}
 use borrow.Author.Needs.{needs}
 use Rattle.table.proofs.shapes_right.Statement.{statement}
 use Rattle.table.proofs.shapes_right.Tie as tie
@@ -34,15 +34,18 @@ entry-at-requires : tie.Need-entry-at-requires Inv-loop μ-loop
 entry-at-requires c κs =
     inside (c .before .before .before .before .args .table .now) (c .before .before .before .before .pre .0) (c .before .loop .i) (omega (arith, c .before .before .before .before .pre .1))
 
+op-of-requires : tie.Need-op-of-requires Inv-loop μ-loop
+op-of-requires c κs = search needs
+
 entry-right-requires : tie.Need-entry-right-requires Inv-loop μ-loop
 entry-right-requires c κs = search needs
 
 returns : tie.Need-returns Inv-loop μ-loop
 returns c =
-    let l = c .before .before .before .before .loop in
-    let e = c .before .before .entry-at in
-    pass-wrong (c .before .before .before .before .before .before .before .args .table .now) (l .shapes) (l .i) (l .inv) (omega (arith, c .before .before .before .before .before .before .before .pre .1)) (e .result) (e .ensures)
-    _ _ (c .before .before .before .before .before .pool .ensures) (c .before .entry-right .ensures) (not-true _ (c .if1 .taken))
+    let l = c .before .before .before .before .before .loop in
+    let e = c .before .before .before .entry-at in
+    pass-wrong (c .before .before .before .before .before .before .before .before .args .table .now) (l .shapes) (l .i) (l .inv) (omega (arith, c .before .before .before .before .before .before .before .before .pre .1)) (e .result) (e .ensures)
+    _ _ (c .before .before .before .before .before .before .pool .ensures) (right-by _ _ (e .result) _ (c .before .before .op-of .ensures) (c .before .entry-right .ensures)) (not-true _ (c .if1 .taken))
 
 mul-flow : tie.Need-mul-flow Inv-loop μ-loop
 mul-flow c = search needs
@@ -55,10 +58,10 @@ flow-requires c κs = search needs
 
 returns-2 : tie.Need-returns-2 Inv-loop μ-loop
 returns-2 c =
-    let l = c .before .before .before .before .before .before .before .loop in
-    let e = c .before .before .before .before .before .entry-at in
+    let l = c .before .before .before .before .before .before .before .before .loop in
+    let e = c .before .before .before .before .before .before .entry-at in
     let f = c .before .flow in
-    pass-stuck (c .before .before .before .before .before .before .before .before .before .before .args .table .now) (l .shapes) (l .i) (l .inv) (omega (arith, c .before .before .before .before .before .before .before .before .before .before .pre .1)) (e .result) (e .ensures) (f .result) (f .ensures) (c .if2 .taken)
+    pass-stuck (c .before .before .before .before .before .before .before .before .before .before .before .args .table .now) (l .shapes) (l .i) (l .inv) (omega (arith, c .before .before .before .before .before .before .before .before .before .before .before .pre .1)) (e .result) (e .ensures) (f .result) (flow-by _ (e .result) _ _ (c .before .before .before .before .before .op-of .ensures) (f .ensures)) (c .if2 .taken)
 
 add-i : tie.Need-add-i Inv-loop μ-loop
 add-i c = search needs
@@ -74,11 +77,11 @@ loop-less c = search needs
 
 loop-again : tie.Need-loop-again Inv-loop μ-loop
 loop-again c =
-    let l = c .before .before .before .before .before .before .before .loop in
-    let e = c .before .before .before .before .before .entry-at in
+    let l = c .before .before .before .before .before .before .before .before .loop in
+    let e = c .before .before .before .before .before .before .entry-at in
     let f = c .before .flow in
-    pass-more (c .before .before .before .before .before .before .before .before .before .before .args .table .now) (l .shapes) (l .i) (l .inv) (omega (arith, c .before .before .before .before .before .before .before .before .before .before .pre .1)) (e .result) (e .ensures) (f .result) (f .ensures)
-    _ _ (c .before .before .before .before .before .before .before .before .pool .ensures) (c .before .before .before .before .entry-right .ensures) (not-false _ (c .before .before .before .if1 .left)) (c .if2 .left)
+    pass-more (c .before .before .before .before .before .before .before .before .before .before .before .args .table .now) (l .shapes) (l .i) (l .inv) (omega (arith, c .before .before .before .before .before .before .before .before .before .before .before .pre .1)) (e .result) (e .ensures) (f .result) (flow-by _ (e .result) _ _ (c .before .before .before .before .before .op-of .ensures) (f .ensures))
+    _ _ (c .before .before .before .before .before .before .before .before .before .pool .ensures) (right-by _ _ (e .result) _ (c .before .before .before .before .before .op-of .ensures) (c .before .before .before .before .entry-right .ensures)) (not-false _ (c .before .before .before .if1 .left)) (c .if2 .left)
 
 returns-3 : tie.Need-returns-3 Inv-loop μ-loop
 returns-3 c =
@@ -94,6 +97,7 @@ shapes-right-spec =
     element-write-shapes
     loop-holds
     entry-at-requires
+    op-of-requires
     entry-right-requires
     returns
     mul-flow
