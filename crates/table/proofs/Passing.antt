@@ -36,19 +36,17 @@ there (some ks) h = refl
 module _ (s : List ℕ) where
   -- what the pass has shown before it looks at the entry i
   pub record Passed (shapes : List ℕ) (i : ℕ) : Type 0 where
-    pub long : length shapes ≡ 513
-    pub few : countOf s ≤ 512
+    pub long : countOf s < length shapes
     pub within : i ≤ countOf s
     pub kept : (k : ℕ) → k ≤ i → getD shapes k 0 ≡ numberOf (shapeAt (entriesOf s) k)
     pub right : (k : ℕ) → k < i → entryRight (poolOf s) (entryAt s k) ≡ true
     pub here : exists (shapeAt (entriesOf s) i) ≡ true
 
-  pub pass-start : (shapes : List ℕ) → length shapes ≡ 513 → countOf s ≤ 512 → Passed (set shapes 0 1) 0
+  pub pass-start : (shapes : List ℕ) → countOf s < length shapes → Passed (set shapes 0 1) 0
   unfolding shapeFrom
-  pass-start shapes h few =
+  pass-start shapes h =
       record {
         long = simp length-set h;
-        few = few;
         within = omega arith;
         kept = λ k l. let z : k ≡ 0 = omega arith in rw z (getD-set-same shapes 0 1 0 (omega arith));
         right = λ k l. absurd (omega arith);
@@ -93,7 +91,6 @@ module _ (s : List ℕ) where
       pass-more names r e g t z =
           record {
             long = simp length-set (p .long);
-            few = p .few;
             within = omega arith;
             kept = λ k l. kept k l (decLt k (i + 1));
             right = below-more _ _ (p .right) (right-is names r true e g t);
@@ -105,5 +102,4 @@ module _ (s : List ℕ) where
           kept k l (no b) =
               let n : k ≡ i + 1 = omega arith in
               let len = p .long in
-              let few = p .few in
               rw n (getD-set-same shapes (i + 1) c 0 (omega arith) ∙ rw (add-one i) number-is)

@@ -254,9 +254,9 @@ fn flow(op: Op, a: u16, c: u64) -> u64
 }
 
 // Keeps the kinds before each entry and at the end, as numbers. Answers whether each entry is right by itself and finds its operands.
-// It asks for the layout, which its caller has tested, and for room for the most entries and the end.
-fn shapes_right(table: &[u8], n: usize, shapes: &mut [u64; 513]) -> bool
-    requires { ⌜ (layoutOf (now table) ≡ true) × (n ≡ countOf (now table)) × (length (now shapes) ≡ 513) ⌝ }
+// It asks for the layout, which its caller has tested, and for room for the entries and the end.
+fn shapes_right(table: &[u8], n: usize, shapes: &mut [u64]) -> bool
+    requires { ⌜ (layoutOf (now table) ≡ true) × (n ≡ countOf (now table)) × (n < length (now shapes)) ⌝ }
     ensures { λ r. ⌜ Shaped (now (table .entry)) (now (shapes .exit)) r ⌝ }
 {
     let strings = pool(table);
@@ -287,9 +287,9 @@ fn is_skip(e: Entry) -> bool
     (e.op == 44) | (e.op == 45)
 }
 
-// "a skip lands at or before N", at the kinds that it was reached with. It asks for an entry of a table of at most 512.
-fn lands_right(shapes: &[u64; 513], n: usize, i: usize, a: u16) -> bool
-    requires { ⌜ (i < n) × (n ≤ 512) ⌝ }
+// "a skip lands at or before N", at the kinds that it was reached with. It asks for an entry, and for the kept numbers.
+fn lands_right(shapes: &[u64], n: usize, i: usize, a: u16) -> bool
+    requires { ⌜ (i < n) × (n ≤ 512) × (n < length (now shapes)) ⌝ }
     ensures { λ r. ⌜ r ≡ (leb (i + a + 1) n && eqb (getD (now (shapes .entry)) (i + a + 1) 0) (getD (now (shapes .entry)) i 0)) ⌝ }
 {
     let to = i + (a as usize) + 1;
@@ -300,8 +300,8 @@ fn lands_right(shapes: &[u64; 513], n: usize, i: usize, a: u16) -> bool
 }
 
 // Each skip, in one pass over the kept numbers: it asks for the layout and for those.
-fn skips_right(table: &[u8], n: usize, shapes: &[u64; 513]) -> bool
-    requires { ⌜ (layoutOf (now table) ≡ true) × (n ≡ countOf (now table)) × Stored (now table) (now shapes) ⌝ }
+fn skips_right(table: &[u8], n: usize, shapes: &[u64]) -> bool
+    requires { ⌜ (layoutOf (now table) ≡ true) × (n ≡ countOf (now table)) × (n < length (now shapes)) × Stored (now table) (now shapes) ⌝ }
     ensures { λ r. ⌜ r ≡ skipsRight (entriesOf (now (table .entry))) n ⌝ }
 {
     let mut i = 0;
@@ -317,7 +317,22 @@ fn skips_right(table: &[u8], n: usize, shapes: &[u64; 513]) -> bool
 
 // ---- the check
 
-// Whether the table passes; refusal 12 if not.
+// The check of what the layout holds, with room for the numbers lent.
+fn kinds_right(table: &[u8], n: usize, shapes: &mut [u64]) -> bool
+    requires { ⌜ (layoutOf (now table) ≡ true) × (n ≡ countOf (now table)) × (n < length (now shapes)) ⌝ }
+    ensures { λ r. ⌜ r ≡ checkOf (now (table .entry)) ⌝ }
+{
+    if !shapes_right(table, n, shapes) {
+        return false;
+    }
+    // one logic slot
+    if shapes[n] != 2 {
+        return false;
+    }
+    skips_right(table, n, shapes)
+}
+
+// Whether the table passes; refusal 12 if not. A small table has a small array, since every element of an array is set before it is used.
 pub fn check(table: &[u8]) -> bool
     ensures { λ r. ⌜ r ≡ checkOf (now (table .entry)) ⌝ }
 {
@@ -325,13 +340,10 @@ pub fn check(table: &[u8]) -> bool
         return false;
     }
     let n = count(table);
+    if n < 64 {
+        let mut few = [0u64; 64];
+        return kinds_right(table, n, &mut few);
+    }
     let mut shapes = [0u64; 513];
-    if !shapes_right(table, n, &mut shapes) {
-        return false;
-    }
-    // one logic slot
-    if shapes[n] != 2 {
-        return false;
-    }
-    skips_right(table, n, &shapes)
+    kinds_right(table, n, &mut shapes)
 }

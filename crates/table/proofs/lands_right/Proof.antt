@@ -17,14 +17,14 @@ returns c = rw (lt-leb _ _ (c .if1 .taken))
 mul-result : tie.Need-mul-result
 mul-result c = search needs
 
-element-copy-out-result : tie.Need-element-copy-out-result
-element-copy-out-result c = search needs
+shared-slice-read-result : tie.Need-shared-slice-read-result
+shared-slice-read-result c = search needs
 
 mul-result-2 : tie.Need-mul-result-2
 mul-result-2 c = search needs
 
-element-copy-out-result-2 : tie.Need-element-copy-out-result-2
-element-copy-out-result-2 c = search needs
+shared-slice-read-result-2 : tie.Need-shared-slice-read-result-2
+shared-slice-read-result-2 c = search needs
 
 returns-2 : tie.Need-returns-2
 returns-2 c = rw (le-leb _ _ (c .before .before .if1 .left))
@@ -37,7 +37,7 @@ lands-right-spec =
     add-to-2
     returns
     mul-result
-    element-copy-out-result
+    shared-slice-read-result
     mul-result-2
-    element-copy-out-result-2
+    shared-slice-read-result-2
     returns-2)

@@ -1,4 +1,6 @@
+use mathlib.Core.Path.{_≡_, refl}
 use Prim.Native.Nat.{_-_}
+use lib.ListN.{length, length-set}
 use native.Mathlib.Omega.{arith}
 use borrow.Author.Tests.{not-true, not-false}
 use Rattle.table.proofs.Laid.{laid, inside}
@@ -14,25 +16,25 @@ use Rattle.table.proofs.flow.Reads as flow-reads
 use Rattle.table.proofs.pool.Reads as pool-reads
 
 abbrev Inv-loop : tie.InvT-loop
-Inv-loop table n shapes₀ strings i₀ shapes i = Passed table shapes i
+Inv-loop table n shapes₀ strings i₀ shapes i = Passed table shapes i × (length shapes ≡ length shapes₀)
 
 abbrev μ-loop : tie.MeasureT-loop
 μ-loop table n shapes₀ strings i₀ shapes i = n - i
 
 pool-requires : tie.Need-pool-requires Inv-loop μ-loop
-pool-requires c κs = let l = laid (c .before .args .table .now) (c .before .pre .0) in (l .head, omega arith)
+pool-requires c κs = let l = laid (c .before .before .args .table .now) (c .before .before .pre .0) in (l .head, omega arith)
 
-element-write-shapes : tie.Need-element-write-shapes Inv-loop μ-loop
-element-write-shapes c = search needs
+slice-write-shapes : tie.Need-slice-write-shapes Inv-loop μ-loop
+slice-write-shapes c = search needs
 
 loop-holds : tie.Need-loop-holds Inv-loop μ-loop
 loop-holds c =
-    let s = c .before .before .args .table .now in
-    pass-start s (c .before .before .args .shapes .now) (c .before .before .pre .2) (laid s (c .before .before .pre .0) .few)
+    let s = c .before .before .before .args .table .now in
+    (pass-start s (c .before .before .before .args .shapes .now) (omega (arith, c .before .before .before .pre .1)), refl)
 
 entry-at-requires : tie.Need-entry-at-requires Inv-loop μ-loop
 entry-at-requires c κs =
-    inside (c .before .before .before .before .args .table .now) (c .before .before .before .before .pre .0) (c .before .loop .i) (omega (arith, c .before .before .before .before .pre .1))
+    inside (c .before .before .before .before .before .args .table .now) (c .before .before .before .before .before .pre .0) (c .before .loop .i) (omega (arith, c .before .before .before .before .before .pre .1))
 
 op-of-requires : tie.Need-op-of-requires Inv-loop μ-loop
 op-of-requires c κs = search needs
@@ -40,28 +42,34 @@ op-of-requires c κs = search needs
 entry-right-requires : tie.Need-entry-right-requires Inv-loop μ-loop
 entry-right-requires c κs = search needs
 
+same-length : tie.Need-same-length Inv-loop μ-loop
+same-length c = simp length-set at (c .before .before .before .before .before .loop .inv .1)
+
 returns : tie.Need-returns Inv-loop μ-loop
 returns c =
     let l = c .before .before .before .before .before .loop in
     let e = c .before .before .before .entry-at in
-    pass-wrong (c .before .before .before .before .before .before .before .before .args .table .now) (l .shapes) (l .i) (l .inv) (omega (arith, c .before .before .before .before .before .before .before .before .pre .1)) (e .result) (e .ensures)
+    pass-wrong (c .before .before .before .before .before .before .before .before .before .args .table .now) (l .shapes) (l .i) (l .inv .0) (omega (arith, c .before .before .before .before .before .before .before .before .before .pre .1)) (e .result) (e .ensures)
     _ _ (c .before .before .before .before .before .before .pool .ensures) (right-by _ _ (e .result) _ (c .before .before .op-of .ensures) (c .before .entry-right .ensures)) (not-true _ (c .if1 .taken))
 
 mul-flow : tie.Need-mul-flow Inv-loop μ-loop
 mul-flow c = search needs
 
-element-copy-out-flow : tie.Need-element-copy-out-flow Inv-loop μ-loop
-element-copy-out-flow c = search needs
+slice-read-flow : tie.Need-slice-read-flow Inv-loop μ-loop
+slice-read-flow c = search needs
 
 flow-requires : tie.Need-flow-requires Inv-loop μ-loop
 flow-requires c κs = search needs
+
+same-length-2 : tie.Need-same-length-2 Inv-loop μ-loop
+same-length-2 c = simp length-set at (c .before .before .before .before .before .before .before .before .loop .inv .1)
 
 returns-2 : tie.Need-returns-2 Inv-loop μ-loop
 returns-2 c =
     let l = c .before .before .before .before .before .before .before .before .loop in
     let e = c .before .before .before .before .before .before .entry-at in
     let f = c .before .flow in
-    pass-stuck (c .before .before .before .before .before .before .before .before .before .before .before .args .table .now) (l .shapes) (l .i) (l .inv) (omega (arith, c .before .before .before .before .before .before .before .before .before .before .before .pre .1)) (e .result) (e .ensures) (f .result) (flow-by _ (e .result) _ _ (c .before .before .before .before .before .op-of .ensures) (f .ensures)) (c .if2 .taken)
+    pass-stuck (c .before .before .before .before .before .before .before .before .before .before .before .before .args .table .now) (l .shapes) (l .i) (l .inv .0) (omega (arith, c .before .before .before .before .before .before .before .before .before .before .before .before .pre .1)) (e .result) (e .ensures) (f .result) (flow-by _ (e .result) _ _ (c .before .before .before .before .before .op-of .ensures) (f .ensures)) (c .if2 .taken)
 
 add-i : tie.Need-add-i Inv-loop μ-loop
 add-i c = search needs
@@ -69,8 +77,8 @@ add-i c = search needs
 mul-shapes : tie.Need-mul-shapes Inv-loop μ-loop
 mul-shapes c = search needs
 
-element-write-shapes-2 : tie.Need-element-write-shapes-2 Inv-loop μ-loop
-element-write-shapes-2 c = search needs
+slice-write-shapes-2 : tie.Need-slice-write-shapes-2 Inv-loop μ-loop
+slice-write-shapes-2 c = search needs
 
 loop-less : tie.Need-loop-less Inv-loop μ-loop
 loop-less c = search needs
@@ -79,13 +87,18 @@ loop-again : tie.Need-loop-again Inv-loop μ-loop
 loop-again c =
     let l = c .before .before .before .before .before .before .before .before .loop in
     let e = c .before .before .before .before .before .before .entry-at in
-    let f = c .before .flow in
-    pass-more (c .before .before .before .before .before .before .before .before .before .before .before .args .table .now) (l .shapes) (l .i) (l .inv) (omega (arith, c .before .before .before .before .before .before .before .before .before .before .before .pre .1)) (e .result) (e .ensures) (f .result) (flow-by _ (e .result) _ _ (c .before .before .before .before .before .op-of .ensures) (f .ensures))
-    _ _ (c .before .before .before .before .before .before .before .before .before .pool .ensures) (right-by _ _ (e .result) _ (c .before .before .before .before .before .op-of .ensures) (c .before .before .before .before .entry-right .ensures)) (not-false _ (c .before .before .before .if1 .left)) (c .if2 .left)
+    let f = c .before .flow in (
+      pass-more (c .before .before .before .before .before .before .before .before .before .before .before .before .args .table .now) (l .shapes) (l .i) (l .inv .0) (omega (arith, c .before .before .before .before .before .before .before .before .before .before .before .before .pre .1)) (e .result) (e .ensures) (f .result) (flow-by _ (e .result) _ _ (c .before .before .before .before .before .op-of .ensures) (f .ensures))
+          _ _ (c .before .before .before .before .before .before .before .before .before .pool .ensures) (right-by _ _ (e .result) _ (c .before .before .before .before .before .op-of .ensures) (c .before .before .before .before .entry-right .ensures)) (not-false _ (c .before .before .before .if1 .left)) (c .if2 .left),
+      simp length-set (simp length-set at (l .inv .1)),
+    )
+
+same-length-3 : tie.Need-same-length-3 Inv-loop μ-loop
+same-length-3 c = simp length-set at (c .before .loop .inv .1)
 
 returns-3 : tie.Need-returns-3 Inv-loop μ-loop
 returns-3 c =
-    pass-end (c .before .before .before .before .args .table .now) (c .before .loop .shapes) (c .before .loop .i) (c .before .loop .inv) (omega (arith, c .before .before .before .before .pre .1))
+    pass-end (c .before .before .before .before .before .args .table .now) (c .before .loop .shapes) (c .before .loop .i) (c .before .loop .inv .0) (omega (arith, c .before .before .before .before .before .pre .1))
 
 pub shapes-right-spec : {M : Type 1} → statement M
 shapes-right-spec =
@@ -94,19 +107,22 @@ shapes-right-spec =
     Inv-loop
     μ-loop
     pool-requires
-    element-write-shapes
+    slice-write-shapes
     loop-holds
     entry-at-requires
     op-of-requires
     entry-right-requires
+    same-length
     returns
     mul-flow
-    element-copy-out-flow
+    slice-read-flow
     flow-requires
+    same-length-2
     returns-2
     add-i
     mul-shapes
-    element-write-shapes-2
+    slice-write-shapes-2
     loop-less
     loop-again
+    same-length-3
     returns-3)

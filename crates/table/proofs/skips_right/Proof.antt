@@ -27,21 +27,21 @@ loop-holds c = (omega arith, below-none _)
 
 entry-at-requires : tie.Need-entry-at-requires Inv-loop μ-loop
 entry-at-requires c κs =
-    inside (c .before .before .before .args .table .now) (c .before .before .before .pre .0) (c .before .loop .i) (omega (arith, c .before .before .before .pre .1))
+    inside (c .before .before .before .before .args .table .now) (c .before .before .before .before .pre .0) (c .before .loop .i) (omega (arith, c .before .before .before .before .pre .1))
 
 is-skip-requires : tie.Need-is-skip-requires Inv-loop μ-loop
 is-skip-requires c κs = search needs
 
 lands-right-requires : tie.Need-lands-right-requires Inv-loop μ-loop
 lands-right-requires c κs =
-    (omega arith, let l = laid (c .before .before .before .before .before .args .table .now) (c .before .before .before .before .before .pre .0) in omega (arith, c .before .before .before .before .before .pre .1))
+    (omega arith, let l = laid (c .before .before .before .before .before .before .args .table .now) (c .before .before .before .before .before .before .pre .0) in omega (arith, c .before .before .before .before .before .before .pre .1), c .before .before .before .before .before .before .pre .2)
 
 returns : tie.Need-returns Inv-loop μ-loop
 returns c =
-    let t = c .before .before .before .before .before .before .before .args .table .now in
-    let h : c .before .before .before .before .before .loop .i < countOf t = omega (arith, c .before .before .before .before .before .before .before .pre .1) in
-    let lost = skip-number t (c .before .before .before .before .before .before .before .args .shapes .now) (c .before .before .before .before .before .before .before .pre .2) (c .before .before .before .before .before .loop .i) h _ _ _ (c .before .before .before .entry-at .ensures) (c .before .before .is-skip .ensures) (rw (c .before .before .before .before .before .before .before .pre .1) at (c .before .lands-right .ensures)) true (c .if1 .taken) in
-    sym (one-lost (entriesOf t) (c .before .before .before .before .before .before .before .args .n) (c .before .before .before .before .before .loop .i) (omega arith) lost)
+    let t = c .before .before .before .before .before .before .before .before .args .table .now in
+    let h : c .before .before .before .before .before .loop .i < countOf t = omega (arith, c .before .before .before .before .before .before .before .before .pre .1) in
+    let lost = skip-number t (c .before .before .before .before .before .before .before .before .args .shapes .now) (c .before .before .before .before .before .before .before .before .pre .3) (c .before .before .before .before .before .loop .i) h _ _ _ (c .before .before .before .entry-at .ensures) (c .before .before .is-skip .ensures) (rw (c .before .before .before .before .before .before .before .before .pre .1) at (c .before .lands-right .ensures)) true (c .if1 .taken) in
+    sym (one-lost (entriesOf t) (c .before .before .before .before .before .before .before .before .args .n) (c .before .before .before .before .before .loop .i) (omega arith) lost)
 
 add-i : tie.Need-add-i Inv-loop μ-loop
 add-i c = search needs
@@ -51,14 +51,14 @@ loop-less c = search needs
 
 loop-again : tie.Need-loop-again Inv-loop μ-loop
 loop-again c =
-    let t = c .before .before .before .before .before .before .before .args .table .now in
-    let h : c .before .before .before .before .before .loop .i < countOf t = omega (arith, c .before .before .before .before .before .before .before .pre .1) in
-    let lands = skip-number t (c .before .before .before .before .before .before .before .args .shapes .now) (c .before .before .before .before .before .before .before .pre .2) (c .before .before .before .before .before .loop .i) h _ _ _ (c .before .before .before .entry-at .ensures) (c .before .before .is-skip .ensures) (rw (c .before .before .before .before .before .before .before .pre .1) at (c .before .lands-right .ensures)) false (c .if1 .left) in
+    let t = c .before .before .before .before .before .before .before .before .args .table .now in
+    let h : c .before .before .before .before .before .loop .i < countOf t = omega (arith, c .before .before .before .before .before .before .before .before .pre .1) in
+    let lands = skip-number t (c .before .before .before .before .before .before .before .before .args .shapes .now) (c .before .before .before .before .before .before .before .before .pre .3) (c .before .before .before .before .before .loop .i) h _ _ _ (c .before .before .before .entry-at .ensures) (c .before .before .is-skip .ensures) (rw (c .before .before .before .before .before .before .before .before .pre .1) at (c .before .lands-right .ensures)) false (c .if1 .left) in
     (omega arith, below-more _ _ (c .before .before .before .before .before .loop .inv .1) lands)
 
 returns-2 : tie.Need-returns-2 Inv-loop μ-loop
 returns-2 c =
-    sym (all-land (entriesOf (c .before .before .before .args .table .now)) (c .before .before .before .args .n) (λ k h. c .before .loop .inv .1 k (omega arith)))
+    sym (all-land (entriesOf (c .before .before .before .before .args .table .now)) (c .before .before .before .before .args .n) (λ k h. c .before .loop .inv .1 k (omega arith)))
 
 pub skips-right-spec : {M : Type 1} → statement M
 skips-right-spec =
