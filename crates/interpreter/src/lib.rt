@@ -17,12 +17,12 @@ use truth::Truth;
 use value::Held;
 use value::Slot;
 
-// The next entry, the stack's slots and how many of them are taken, the topmost last, and the entries visited.
+// The next entry, how many of the stack's slots are taken, the entries visited, and the slots, the topmost last. The numbers stand first: a fresh machine is then made in place, where behind the array they were copied once more.
 pub struct Machine {
-    pub stack: [Slot; 32],
-    pub depth: usize,
     pub next: usize,
+    pub depth: usize,
     pub steps: usize,
+    pub stack: [Slot; 32],
 }
 
 // "The run starts at entry 0 with an empty stack."
@@ -30,12 +30,12 @@ fn fresh() -> Machine
     ensures { λ r. ⌜ r ≡ freshMachine ⌝ }
 {
     Machine {
+        next: 0,
+        depth: 0,
+        steps: 0,
         stack: [Slot {
             held: Held::Logic(Truth::False),
         }; 32],
-        depth: 0,
-        next: 0,
-        steps: 0,
     }
 }
 
