@@ -1,16 +1,18 @@
 -- Steps and ends of the loops over runs: what the rest gives from a place on is what the whole gives. Assumes nothing.
 use mathlib.Core.Path.{_≡_, refl, sym, ap, _∙_}
-use mathlib.Core.Bool.{Bool, true, false, not, _&&_}
+use mathlib.Core.Bool.{Bool, true, false, not, _&&_, and-false}
 use mathlib.Core.List.{List, [], _∷_, _++_}
 use Prim.Native.Nat.{ℕ, zero, suc, _+_, _-_, _≤_, _<_}
+use native.Mathlib.Nat.{add-zero}
 use native.Mathlib.Numerals.{add-one}
 use native.Mathlib.Omega.{arith}
-use lib.Dec.{eqb}
+use lib.Dec.{eqb, ltb}
 use lib.ListN.{length, getD, take, drop, set, drop-of-length-le, length-drop, length-append, List·getD-eq-default}
-use lib.Seq.{drop-cons, sets, take-all, take-append-seam, drop-length}
-use borrow.Author.Tests.{eq-eqb, ne-eqb}
+use lib.Seq.{drop-cons, getD-drop, sets, take-all, take-append-seam, drop-length}
+use borrow.Author.Tests.{eq-eqb, ne-eqb, ltb-true, eqb-false}
 use Rattle.octets.specs.Octets.{folded, sameOf}
 use Rattle.octets.proofs.Theorems.{true-false, not-folded}
+use Rattle.lexer.specs.Byte.{is}
 use Rattle.lexer.specs.Run.{takes, ends, runFrom, unescaped, hasEscape, legalByte, legalName}
 
 -- a place past the end
@@ -119,3 +121,30 @@ word-same run word e =
     let a = not-folded run in
     let b = not-folded word in
     rw (e, u, a, b)
+
+-- a word whose first byte is not the one that stands first
+first-other : (s word : List ℕ) → 0 < length word → (getD s 0 0 ≡ getD word 0 0 → ⊥)
+    → false ≡ (not (hasEscape (runFrom 0 false s)) && sameOf (unescaped false (runFrom 0 false s)) word)
+first-other s [] h n = absurd (omega arith)
+first-other [] (w ∷ ws) h n = refl
+first-other (b ∷ s) (w ∷ ws) h n = go (ends 0 b) (is "\\" b) refl refl
+  where
+    go : (d e : Bool) → ends 0 b ≡ d → is "\\" b ≡ e → false ≡ (not (hasEscape (runFrom 0 false (b ∷ s))) && sameOf (unescaped false (runFrom 0 false (b ∷ s))) (w ∷ ws))
+    go true e f g = rw f
+    go false true f g = rw (f, g)
+    go false false f g = rw (f, g, ne-eqb b w n) (sym (and-false (not (hasEscape (runFrom 0 false s)))))
+
+-- the test for it, as the code makes it
+told : (n a b : ℕ) → (ltb 0 n && not (eqb a b)) ≡ true → (0 < n) × (a ≡ b → ⊥)
+told n a b t = go (ltb 0 n) (eqb a b) refl refl t
+  where
+    go : (p q : Bool) → ltb 0 n ≡ p → eqb a b ≡ q → (p && not q) ≡ true → (0 < n) × (a ≡ b → ⊥)
+    go true true e f g = true-false (sym g)
+    go true false e f g = (ltb-true 0 n e, eqb-false a b f)
+    go false q e f g = true-false (sym g)
+
+pub word-other : (s word : List ℕ) (at a b : ℕ) → (ltb 0 (length word) && not (eqb a b)) ≡ true → a ≡ getD s at 0 → b ≡ getD word 0 0
+    → false ≡ (not (hasEscape (runFrom 0 false (drop at s))) && sameOf (unescaped false (runFrom 0 false (drop at s))) word)
+word-other s word at a b t e f =
+    let n = told (length word) a b t in
+    first-other (drop at s) word (n .0) (λ g. n .1 (e ∙ sym (getD-drop at s 0 0 ∙ ap (λ (k : ℕ). getD s k 0) (add-zero at)) ∙ g ∙ sym f))

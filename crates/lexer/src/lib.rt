@@ -171,10 +171,13 @@ pub fn copy_name(text: &[u8], at: usize, part: &mut [u8])
     unescape(run(text, at, 0), part);
 }
 
-// Whether the name is the word, with no escape.
+// Whether the name is the word, with no escape. Most words differ from a name in the first byte, which is told before the name's end is looked for.
 pub fn name_is(text: &[u8], at: usize, word: &[u8]) -> bool
     ensures { λ r. ⌜ r ≡ nameIs (now (text .entry)) at (now (word .entry)) ⌝ }
 {
+    if (0 < word.len()) & (byte_at(text, at) != byte_at(word, 0)) {
+        return false;
+    }
     let bytes = run(text, at, 0);
     if has_escape(bytes) {
         return false;

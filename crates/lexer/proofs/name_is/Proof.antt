@@ -1,7 +1,7 @@
 use mathlib.Core.Path.{_∙_, sym}
 use lib.ListN.{drop}
 use Rattle.lexer.specs.Run.{runOf}
-use Rattle.lexer.proofs.Runs.{word-escaped, word-same}
+use Rattle.lexer.proofs.Runs.{word-escaped, word-same, word-other}
 use borrow.Author.Needs.{needs}
 use Rattle.lexer.proofs.name_is.Statement.{statement}
 use Rattle.lexer.proofs.name_is.Tie as tie
@@ -11,28 +11,40 @@ use Rattle.lexer.proofs.run.has_escape.Reads as has-escape-reads
 use Rattle.lexer.proofs.run.run.Reads as run-reads
 use Rattle.octets.proofs.same.Reads as same-reads
 
+byte-at-requires : tie.Need-byte-at-requires
+byte-at-requires c κs = search needs
+
+byte-at-requires-2 : tie.Need-byte-at-requires-2
+byte-at-requires-2 c κs = search needs
+
+returns : tie.Need-returns
+returns c =
+    let a = c .before .before .before .before .before .args in
+    word-other (a .text .now) (a .word .now) (a .at) _ _ (c .if1 .taken) (c .before .before .byte-at .ensures) (c .before .byte-at2 .ensures)
+
 run-requires : tie.Need-run-requires
 run-requires c κs = search needs
 
 has-escape-requires : tie.Need-has-escape-requires
 has-escape-requires c κs = search needs
 
-returns : tie.Need-returns
-returns c =
-    let a = c .before .before .before .before .before .args in
+returns-2 : tie.Need-returns-2
+returns-2 c =
+    let a = c .before .before .before .before .before .before .before .before .args in
     let e = rw (c .before .before .run .ensures) at (c .before .has-escape .ensures) in
-    word-escaped (runOf 0 (drop (a .at) (a .text .now))) (a .word .now) (sym e ∙ c .if1 .taken)
+    word-escaped (runOf 0 (drop (a .at) (a .text .now))) (a .word .now) (sym e ∙ c .if2 .taken)
 
 same-requires : tie.Need-same-requires
 same-requires c κs = search needs
 
-returns-2 : tie.Need-returns-2
-returns-2 c =
-    let a = c .before .before .before .before .before .before .args in
+returns-3 : tie.Need-returns-3
+returns-3 c =
+    let a = c .before .before .before .before .before .before .before .before .before .args in
     let e = rw (c .before .before .before .run .ensures) at (c .before .before .has-escape .ensures) in
     let f = rw (c .before .before .before .run .ensures) at (c .same .ensures) in
-    f ∙ word-same (runOf 0 (drop (a .at) (a .text .now))) (a .word .now) (sym e ∙ c .before .if1 .left)
+    f ∙ word-same (runOf 0 (drop (a .at) (a .text .now))) (a .word .now) (sym e ∙ c .before .if2 .left)
 
 pub name-is-spec : {M : Type 1} → statement M
 name-is-spec =
-    tie.close (tie.spec run-requires has-escape-requires returns same-requires returns-2)
+    tie.close
+    (tie.spec byte-at-requires byte-at-requires-2 returns run-requires has-escape-requires returns-2 same-requires returns-3)
