@@ -24,11 +24,15 @@ fn entries_of(table: &[u8]) -> usize {
 }
 
 pub fn head(title: &str, unit: &str) {
-    println!("\n{title:<46}{:>12}{:>12}{:>8}", format!("ours {unit}"), "expert", "ratio");
+    println!("\n{title:<56}{:>12}{:>12}{:>8}", format!("ours {unit}"), "expert", "ratio");
 }
 
 pub fn row(name: &str, ours: f64, expert: f64, ratio: f64) {
-    println!("{name:<46}{ours:>12.1}{expert:>12.1}{ratio:>8.2}");
+    println!("{name:<56}{ours:>12.1}{expert:>12.1}{ratio:>8.2}");
+}
+
+fn fields_of(n: usize) -> String {
+    if n == 1 { "1 field".to_string() } else { format!("{n} fields") }
 }
 
 /// The subscriptions that are run: name and table.
@@ -43,6 +47,22 @@ fn tables() -> Vec<(String, Vec<u8>)> {
     assert_eq!(entries_of(&table), 500);
     all.push(("500 entries, none passed over".to_string(), table));
     all
+}
+
+/// Four times as many runs must take about four times as long: no run is left out of the loop.
+fn linear() {
+    let (table, notice) = (table_of(&load::subscription(50)), load::notice(8));
+    let least = |times: u32| {
+        let rounds = (0..15).map(|_| {
+            let start = std::time::Instant::now();
+            black_box(ours::repeat(black_box(&table), black_box(&notice), times));
+            start.elapsed().as_nanos() as f64
+        });
+        rounds.fold(f64::INFINITY, f64::min)
+    };
+    let ratio = least(8_000) / least(2_000);
+    assert!((3.0..5.5).contains(&ratio), "{ratio}");
+    println!("the inner run 8,000 times takes {ratio:.2} times as long as 2,000 times");
 }
 
 fn inner(pace: Pace) {
@@ -67,7 +87,7 @@ fn inner(pace: Pace) {
                 },
                 pace,
             );
-            row(&format!("{name}, {fields} fields ({steps} steps)"), a, b, a / b);
+            row(&format!("{name}, {} ({steps} steps)", fields_of(fields)), a, b, a / b);
         }
     }
 }
@@ -91,7 +111,7 @@ fn guarded(pace: Pace) {
                 },
                 pace,
             );
-            row(&format!("{name}, {fields} fields"), a, b, a / b);
+            row(&format!("{name}, {}", fields_of(fields)), a, b, a / b);
         }
     }
 }
@@ -133,7 +153,7 @@ fn checks(pace: Pace) {
             },
             pace,
         );
-        row(&format!("{fields} fields"), a / fields as f64, b / fields as f64, a / b);
+        row(&fields_of(fields), a / fields as f64, b / fields as f64, a / b);
     }
 }
 
@@ -181,6 +201,7 @@ fn main() {
         _ => panic!("bench [quick | agree]"),
     };
     agree::agree(2_000);
+    linear();
     println!("ratio: ours over expert; medians of {} rounds, the sides in turn", pace.rounds);
     inner(pace);
     guarded(pace);
