@@ -1,1 +1,2 @@
-// Translation, check and run together: definitions and theorems, in specs/ and proofs/.
+// Translation, check and run together. Demand 3 is stated in specs/Demand.antt and proved in proofs/Demand.antt.
+pub mod matching;
