@@ -19,7 +19,10 @@ use Rattle.word.specs.Word.{Bytes}
 use Rattle.truth.specs.declared.Truth.{Truth}
 use Rattle.truth.specs.declared.Truth.the-variants.{Bottom}
 use Rattle.notice.specs.Layout.{checkOf as noticeCheck}
-use Rattle.notice.specs.declared.Layout.the-variants.{WellFormed}
+use Rattle.notice.specs.declared.Layout.the-variants.{WellFormed, Fault}
+use Rattle.notice.specs.declared.Layout.{Layout}
+use Rattle.notice.specs.Field.{Field}
+use Rattle.notice.specs.Write.{writtenOf, writtenBytes}
 use Rattle.grammar.specs.Tree.{Tree}
 use Rattle.lexer.specs.Token.{pick}
 use Rattle.table.specs.Table.{encode, decode, poolOf}
@@ -31,7 +34,7 @@ use Rattle.interpreter.specs.declared.Machine.{Machine}
 use Rattle.interpreter.specs.declared.Ran.{Ran}
 use Rattle.meaning.specs.Meaning.{textMeaning}
 use Rattle.translator.specs.Compile.{compile}
-use Rattle.translator.specs.Translation.{Outcome, translationOf, Answers}
+use Rattle.translator.specs.Translation.{Outcome, refusal, translationOf, Answers}
 use Rattle.translator.specs.Theorems.{Accepted}
 use Rattle.translator.specs.declared.Translated.{Translated}
 use Rattle.router.specs.declared.matching.Matched.{Matched}
@@ -77,7 +80,21 @@ DemandThree =
 abbrev pub AcceptedText : Type 0
 AcceptedText = (text : List ℕ) → ((tree : Tree) × Accepted text tree) ↔ ((room : ℕ) × (translationOf text room .number ≡ 0))
 
+-- Demand 1: "A refusal changes no byte that we lent." Translation and writing are the two that are lent bytes to change.
+abbrev pub RefusalKeeps : Type 0
+RefusalKeeps =
+    ((text buffer written : List ℕ) (r : Translated) → Answers (translationOf text (length buffer)) buffer written r → (r .number ≡ 0 → ⊥) → written ≡ buffer)
+    × ((buffer : List ℕ) (len : ℕ) (f : Field) → (writtenOf buffer len f .number ≡ 0 → ⊥) → writtenBytes buffer len f ≡ buffer)
+
 -- ---- one function that translates and runs
+
+-- the refusal of the notice, or translation's answer
+abbrev pub outcomeBy : Layout → Outcome → Outcome
+outcomeBy WellFormed o = o
+outcomeBy (Fault place) o = refusal 11 place
+
+abbrev pub outcomeOf : List ℕ → ℕ → List ℕ → Outcome
+outcomeOf text room notice = outcomeBy (noticeCheck notice) (translationOf text room)
 
 -- a refusal: no table, bottom, no steps
 abbrev pub refused : ℕ → ℕ → Matched
@@ -90,12 +107,12 @@ ranOf long r = record { number = r .number; place = r .place; length = long; ver
 abbrev pub matchBy : Outcome → List ℕ → Matched
 matchBy o notice = pick (eqb (o .number) 0) (λ _. ranOf (length (o .table)) (runningOf (o .table) notice)) (λ _. refused (o .number) (o .place))
 
--- for every text, room and notice: translation's refusal, or what the table's run on the notice answers
-abbrev pub matchOf : List ℕ → ℕ → List ℕ → Matched
-matchOf text room notice = matchBy (translationOf text room) notice
+-- What is answered and left in the buffer: the refusal and no byte changed, or the table and what its run on the notice answers.
+pub record RunsTable (o : Outcome) (buffer notice written : List ℕ) (r : Matched) : Type 0 where
+  pub answer : r ≡ matchBy o notice
+  pub bytes : written ≡ sets buffer 0 (o .table)
 
 -- The promise of `match_text`: its answer and every byte of the buffer for all inputs, and demand 3.
 pub record Matches (text buffer notice written : List ℕ) (r : Matched) : Type 0 where
-  pub answer : r ≡ matchOf text (length buffer) notice
-  pub bytes : written ≡ sets buffer 0 (translationOf text (length buffer) .table)
+  pub determined : RunsTable (outcomeOf text (length buffer) notice) buffer notice written r
   pub demand : (tree : Tree) → Accepted text tree → length (encode (compile tree)) ≤ length buffer → noticeCheck notice ≡ WellFormed → Met text notice (take (r .length) written) (r .number) (r .verdict) (r .steps)

@@ -1,71 +1,60 @@
-use Prim.Native.Nat.{_-_}
-use native.Mathlib.Nat.{sub-zero}
 use native.Mathlib.Omega.{arith}
-use Rattle.truth.specs.declared.Truth.the-variants.{Bottom}
-use Rattle.router.proofs.Demand.{fits, refused-matches, ran-matches}
+use mathlib.Core.Path.{refl}
+use Rattle.router.proofs.Demand.{fault-matches, run-matches}
 use borrow.Author.Needs.{needs}
 use Rattle.router.proofs.matching.match_text.Statement.{statement}
 use Rattle.router.proofs.matching.match_text.Tie as tie
 use Rattle.router.proofs.matching.match_text.Reads as reads
 use Rattle.router.proofs.matching.match_text.Lts as lts
+use Rattle.notice.proofs.check.Reads as check-reads
 use Rattle.router.proofs.matching.refused.Reads as refused-reads
-use Rattle.router.proofs.matching.run_table.Reads as run-table-reads
-use Rattle.translator.proofs.translate.Reads as translate-reads
+use Rattle.router.proofs.matching.translate_and_run.Reads as translate-and-run-reads
 
--- src/matching.rt:48:9
-translate-requires : tie.Need-translate-requires
-translate-requires c κs = search needs
+-- src/matching.rt:62:9
+check-requires : tie.Need-check-requires
+check-requires c κs = search needs
 
--- src/matching.rt:50:9
+-- src/matching.rt:64:55
+enum-told : tie.Need-enum-told
+enum-told c = search needs
+
+-- src/matching.rt:64:31
+translate-and-run-requires : tie.Need-translate-and-run-requires
+translate-and-run-requires c κs = search needs
+
+-- src/matching.rt:65:23
+enum-known-layout : tie.Need-enum-known-layout
+enum-known-layout c = search needs
+
+-- src/matching.rt:65:33
 refused-requires : tie.Need-refused-requires
 refused-requires c κs = search needs
 
--- src/matching.rt:50:9
+-- src/matching.rt:59:1
 same-length : tie.Need-same-length
 same-length c = search needs
 
--- src/matching.rt:50:9
+-- src/matching.rt:59:1
 returns : tie.Need-returns
 returns c =
-    refused-matches (c .before .before .before .before .before .before .before .before .before .before .args .text .now) (c .before .before .before .before .before .before .before .before .before .before .args .buffer .now) (c .before .before .before .before .before .before .before .before .before .before .args .notice .now) _ (c .before .before .before .before .before .translate .result) (c .refused .result) (λ i. omega (arith, c .before .before .before .before .before .before .before .before .before .shared-slice-known .given i)) (c .before .before .before .before .before .translate .ensures) (c .before .if1 .taken) (c .refused .ensures)
+    run-matches (c .before .before .before .before .before .before .before .before .before .before .args .text .now) (c .before .before .before .before .before .before .before .before .before .before .args .buffer .now) (c .before .before .before .before .before .before .before .before .before .before .args .notice .now) _ (c .before .before .translate-and-run .result)
+    (c .before .before .before .before .before .before .check .result) (c .before .before .before .before .before .before .check .ensures) (c .before .before .before .before .enum-told .given .1) (λ i. omega (arith, c .before .before .before .before .before .before .before .before .before .shared-slice-known .given i)) (c .before .before .translate-and-run .ensures)
 
--- src/matching.rt:53:15
-sub-run-table : tie.Need-sub-run-table
-sub-run-table c = search needs
-
--- src/matching.rt:53:15
-part-run-table-start : tie.Need-part-run-table-start
-part-run-table-start c = search needs
-
--- src/matching.rt:53:15
-part-run-table-end : tie.Need-part-run-table-end
-part-run-table-end c =
-    fits (c .before .before .before .before .before .before .before .before .before .before .args .text .now) (c .before .before .before .before .before .before .before .before .before .before .args .buffer .now) (c .before .before .before .before .before .before .before .before .before .before .args .notice .now) _ (c .before .before .before .before .before .translate .result) (record { number = 0; place = 0; length = 0; verdict = Bottom; steps = 0 }) (λ i. omega (arith, c .before .before .before .before .before .before .before .before .before .shared-slice-known .given i)) (c .before .before .before .before .before .translate .ensures)
-
--- src/matching.rt:53:5
-run-table-requires : tie.Need-run-table-requires
-run-table-requires c κs = search needs
-
--- src/matching.rt:45:1
-same-length-2 : tie.Need-same-length-2
-same-length-2 c = search needs
-
--- src/matching.rt:45:1
+-- src/matching.rt:59:1
 returns-2 : tie.Need-returns-2
 returns-2 c =
-    ran-matches (c .before .before .before .before .before .before .before .before .before .before .before .before .args .text .now) (c .before .before .before .before .before .before .before .before .before .before .before .before .args .buffer .now) (c .before .before .before .before .before .before .before .before .before .before .before .before .args .notice .now) _ (c .before .before .before .before .before .before .before .translate .result) (c .run-table .result) (λ i. omega (arith, c .before .before .before .before .before .before .before .before .before .before .before .shared-slice-known .given i)) (c .before .before .before .before .before .before .before .translate .ensures) (c .before .before .before .before .before .before .before .translate .result .length - 0) (sub-zero _) (c .before .before .before .if1 .left) (c .run-table .ensures)
+    fault-matches (c .before .before .before .before .before .before .before .before .args .text .now) (c .before .before .before .before .before .before .before .before .args .buffer .now) (c .before .before .before .before .before .before .before .before .args .notice .now) _ (c .refused .result)
+    (c .before .before .before .before .check .result) _ (c .before .before .before .before .check .ensures) (c .before .before .layout .given .1) refl (c .refused .ensures)
 
 pub match-text-spec : {M : Type 1} → statement M
 match-text-spec =
     tie.close
     (tie.spec
-    translate-requires
+    check-requires
+    enum-told
+    translate-and-run-requires
+    enum-known-layout
     refused-requires
     same-length
     returns
-    sub-run-table
-    part-run-table-start
-    part-run-table-end
-    run-table-requires
-    same-length-2
     returns-2)
