@@ -181,7 +181,7 @@ fn put_header(out: &mut [u8], entries: usize, names: usize)
     word::write_u16(out, 8, names as u16);
 }
 
-// The whole table, once all is judged.
+// The whole table: header, entries, pool.
 fn put_table(
     text: &[u8],
     kinds: &[u8],
@@ -249,7 +249,7 @@ fn place_of(text: &[u8], starts: &[u16], p: usize) -> usize
     }
 }
 
-// The answer, and the table over the start of the buffer.
+// Writes the table over the start of the buffer, once all is judged, and answers its length.
 fn accepted(
     text: &[u8],
     kinds: &[u8],
