@@ -1,1 +1,131 @@
-// Translation, check and run together: definitions and theorems, in specs/ and proofs/.
+// Translation, check and run together: theorems in specs/ and proofs/, and here the functions of the static library, which C and Rust call (include/virentolex.h).
+// Each calls one function of the crates below, answers document 01's number, 0 if nothing is refused, and stores what else there is to say through the references that it is lent.
+ghost use mathlib.Core.Path.{_≡_};
+ghost use lib.ListN.{length};
+ghost use Rattle.truth.specs.Truth.{rank};
+ghost use Rattle.translator.specs.Translation.{translationOf, Answers};
+ghost use Rattle.table.specs.Check.{checkOf as tableCheck, refusalOf};
+ghost use Rattle.notice.specs.Layout.{checkOf as noticeCheck, numberOf, placeOf};
+ghost use Rattle.notice.specs.Read.{Located};
+ghost use Rattle.notice.specs.Write.{field, writtenOf, writtenBytes};
+ghost use Rattle.interpreter.specs.Running.{runningOf};
+use notice::Layout;
+use truth::Truth;
+
+// "Translation answers number, place and table length, 0 if refused." A table stands at the buffer's start; a refusal changes no byte.
+#[no_mangle]
+pub extern "C" fn virentolex_translate(
+    text: &[u8],
+    buffer: &mut [u8],
+    place: &mut usize,
+    len: &mut usize,
+) -> u8
+    ensures { λ r. ⌜ Answers (translationOf (now (text .entry)) (length (now (buffer .entry)))) (now (buffer .entry)) (now (buffer .exit)) (record { number = r; place = now (place .exit); length = now (len .exit) }) ⌝ }
+{
+    let t = translator::translate(text, buffer);
+    *place = t.place;
+    *len = t.length;
+    t.number
+}
+
+// "12 | table fails layout or check"
+#[no_mangle]
+pub extern "C" fn virentolex_check(table: &[u8]) -> u8
+    ensures { λ r. ⌜ r ≡ refusalOf (tableCheck (now (table .entry))) ⌝ }
+{
+    if table::check(table) { 0 } else { 12 }
+}
+
+// "11 | notice fails layout", with its place.
+#[no_mangle]
+pub extern "C" fn virentolex_check_notice(notice: &[u8], place: &mut usize) -> u8
+    ensures { λ r. ⌜ r ≡ numberOf (noticeCheck (now (notice .entry))) ⌝ }
+    ensures { λ _. ⌜ now (place .exit) ≡ placeOf (noticeCheck (now (notice .entry))) ⌝ }
+{
+    let layout = notice::check(notice);
+    match layout {
+        Layout::WellFormed => {
+            *place = 0;
+            0
+        }
+        Layout::Fault(at) => {
+            *place = at;
+            11
+        }
+    }
+}
+
+// A verdict by its rank: false 0, bottom 1, true 2.
+fn verdict_number(t: Truth) -> u8
+    ensures { λ r. ⌜ r ≡ rank t ⌝ }
+{
+    match t {
+        Truth::False => 0,
+        Truth::Bottom => 1,
+        Truth::True => 2,
+    }
+}
+
+// "Running answers number, place, verdict (bottom if refused) and steps (0 if refused)."
+#[no_mangle]
+pub extern "C" fn virentolex_run<'a>(
+    table: &'a [u8],
+    notice: &'a [u8],
+    place: &mut usize,
+    verdict: &mut u8,
+    steps: &mut usize,
+) -> u8
+    ensures { λ r. ⌜ r ≡ runningOf (now (table .entry)) (now (notice .entry)) .number ⌝ }
+    ensures { λ _. ⌜ now (place .exit) ≡ runningOf (now (table .entry)) (now (notice .entry)) .place ⌝ }
+    ensures { λ _. ⌜ now (verdict .exit) ≡ rank (runningOf (now (table .entry)) (now (notice .entry)) .verdict) ⌝ }
+    ensures { λ _. ⌜ now (steps .exit) ≡ runningOf (now (table .entry)) (now (notice .entry)) .steps ⌝ }
+{
+    let a = interpreter::run(table, notice);
+    let t = a.verdict;
+    *place = a.place;
+    *verdict = verdict_number(t);
+    *steps = a.steps;
+    a.number
+}
+
+// "Reading field k gives its kind and its name and value as parts of the lent notice": the name from `name` to `value`, the value from there to `end`.
+#[no_mangle]
+pub extern "C" fn virentolex_read(
+    notice: &[u8],
+    k: usize,
+    place: &mut usize,
+    kind: &mut u16,
+    name: &mut usize,
+    value: &mut usize,
+    end: &mut usize,
+) -> u8
+    ensures { λ r. ⌜ Located (now (notice .entry)) k (record { number = r; place = now (place .exit); kind = now (kind .exit); name = now (name .exit); value = now (value .exit); end = now (end .exit) }) ⌝ }
+{
+    let p = notice::locate(notice, k);
+    *place = p.place;
+    *kind = p.kind;
+    *name = p.name;
+    *value = p.value;
+    *end = p.end;
+    p.number
+}
+
+// "writing answers number, place and the new length, or the old one if refused": `len` is the length that the caller names, `total` the answered one. A refusal changes no byte.
+#[no_mangle]
+pub extern "C" fn virentolex_write(
+    buffer: &mut [u8],
+    len: usize,
+    name: &[u8],
+    kind: u16,
+    value: &[u8],
+    place: &mut usize,
+    total: &mut usize,
+) -> u8
+    ensures { λ r. ⌜ record { number = r; place = now (place .exit); len = now (total .exit) } ≡ writtenOf (now (buffer .entry)) len (field kind (now (name .entry)) (now (value .entry))) ⌝ }
+    ensures { λ _. ⌜ now (buffer .exit) ≡ writtenBytes (now (buffer .entry)) len (field kind (now (name .entry)) (now (value .entry))) ⌝ }
+{
+    let w = notice::write(buffer, len, name, kind, value);
+    *place = w.place;
+    *total = w.len;
+    w.number
+}
