@@ -251,14 +251,13 @@ fn quoted(random: &mut Random, text: &[u8]) -> Vec<u8> {
 
 /// A number's spelling, most often within its limits.
 fn number(random: &mut Random) -> String {
+    let long = words::whole(random);
+    let short = words::short_whole(random);
     match random.below(8) {
         0 | 1 => real(random),
-        2 | 3 => integer(random, i128::from(words::whole(random))) + random.pick(&["l", "L"]),
-        4 if random.once_in(4) => {
-            let over = i128::from(words::whole(random)) * random.pick(&[1, 2, -1]);
-            integer(random, over) + random.pick(&["", "L"])
-        }
-        _ => integer(random, i128::from(words::short_whole(random))),
+        2 | 3 => integer(random, i128::from(long)) + random.pick(&["l", "L"]),
+        4 if random.once_in(4) => integer(random, i128::from(long) * 2) + random.pick(&["", "L"]),
+        _ => integer(random, i128::from(short)),
     }
 }
 
