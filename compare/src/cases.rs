@@ -3,7 +3,7 @@
 
 use crate::random::Random;
 use crate::tally::Tally;
-use crate::{inputs, notices, program, tables, texts, words};
+use crate::{edges, inputs, notices, program, tables, texts, words};
 use reference::Truth;
 use std::fmt::{Debug, Formatter};
 
@@ -31,13 +31,23 @@ pub struct Case<'a> {
 type Outcome = Result<(), String>;
 
 /// The inputs and both answers, if these differ.
-fn same<T: PartialEq + Debug>(call: &str, inputs: &[(&str, &[u8])], library: T, reference: T) -> Outcome {
+fn same<T: PartialEq + Debug>(
+    call: &str,
+    inputs: &[(&str, &[u8])],
+    library: T,
+    reference: T,
+) -> Outcome {
     if library == reference {
         return Ok(());
     }
-    let inputs: Vec<String> =
-        inputs.iter().map(|(name, bytes)| format!("  {name}: {:?}\n", Hex(bytes.to_vec()))).collect();
-    Err(format!("{call}\n{}  library:   {library:?}\n  reference: {reference:?}", inputs.concat()))
+    let inputs: Vec<String> = inputs
+        .iter()
+        .map(|(name, bytes)| format!("  {name}: {:?}\n", Hex(bytes.to_vec())))
+        .collect();
+    Err(format!(
+        "{call}\n{}  library:   {library:?}\n  reference: {reference:?}",
+        inputs.concat()
+    ))
 }
 
 /// Bytes kept before and after each lent buffer, which must stay.
@@ -45,7 +55,9 @@ const GUARD: usize = 16;
 
 /// A buffer of that length with a pattern, between guards.
 fn patterned(length: usize, salt: usize) -> Vec<u8> {
-    (0..length + 2 * GUARD).map(|at| (at * 7 + salt) as u8).collect()
+    (0..length + 2 * GUARD)
+        .map(|at| (at * 7 + salt) as u8)
+        .collect()
 }
 
 fn truth(verdict: virentolex::Verdict) -> Truth {
@@ -58,8 +70,8 @@ fn truth(verdict: virentolex::Verdict) -> Truth {
 
 /// The kinds in turn, by the case's number.
 const KINDS: [&str; 20] = [
-    "text", "table", "notice", "write", "text", "table", "text", "notice", "text", "table", "text", "write", "text",
-    "table", "notice", "text", "write", "text", "table", "text",
+    "text", "table", "notice", "write", "text", "table", "text", "notice", "text", "table", "text",
+    "write", "text", "table", "notice", "text", "write", "text", "table", "text",
 ];
 /// One case of so many is a whole input of the program.
 const PROGRAM_EACH: u64 = 100;
@@ -84,9 +96,18 @@ impl Case<'_> {
         }
     }
 
+    /// A well-formed notice, most often one with the names that texts use.
+    fn well_formed(&mut self) -> Vec<u8> {
+        match self.random.below(4) {
+            0 => notices::valid(&mut self.random),
+            _ => notices::rich(&mut self.random),
+        }
+    }
+
     /// A text with buffers of each size, and demand 3 if it is accepted.
     fn text(&mut self) -> Outcome {
         let text = texts::text(&mut self.random);
+        self.count_edges(edges::of_text(&text));
         let table = reference::compile::table_of(&text);
         let length = table.as_ref().map_or(64, Vec::len);
         let larger = length + self.random.between(1, 300);
@@ -117,9 +138,14 @@ impl Case<'_> {
     /// The letter, number 3, of an accepted text and a well-formed notice. The table is the library's
     /// own, since the translations have agreed.
     fn demand_3(&mut self, text: &[u8], table: &[u8]) -> Outcome {
-        let notice = notices::valid(&mut self.random);
+        let notice = self.well_formed();
         let inputs = [("text", text), ("table", table), ("notice", &notice)];
-        same("check of the text's table", &inputs, virentolex::check(table), 0)?;
+        same(
+            "check of the text's table",
+            &inputs,
+            virentolex::check(table),
+            0,
+        )?;
         let library = virentolex::run(table, &notice);
         let meaning = reference::meaning(text, &notice);
         same(
@@ -129,10 +155,9 @@ impl Case<'_> {
             (0, 0, meaning),
         )?;
         let steps = self.running(table, &notice)?;
-        self.tally.count("demand 3", format!("{:?}", truth(library.verdict)));
-        if steps < usize::from(table[6]) + 256 * usize::from(table[7]) {
-            self.tally.count("demand 3", "skipped");
-        }
+        self.tally
+            .count("demand 3", format!("{:?}", truth(library.verdict)));
+        self.count_skips("text runs", table, steps);
         Ok(())
     }
 
@@ -144,32 +169,60 @@ impl Case<'_> {
         same(
             "run: number, place, verdict, steps",
             &[("table", table), ("notice", notice)],
-            (library.number, library.place, truth(library.verdict), library.steps),
-            (reference.number, reference.place, reference.verdict, reference.steps),
+            (
+                library.number,
+                library.place,
+                truth(library.verdict),
+                library.steps,
+            ),
+            (
+                reference.number,
+                reference.place,
+                reference.verdict,
+                reference.steps,
+            ),
         )?;
         if reference.number == 0 {
-            self.tally.count("verdict", format!("{:?}", reference.verdict));
+            self.tally
+                .count("verdict", format!("{:?}", reference.verdict));
             self.count_ops(table);
         }
         Ok(reference.steps)
+    }
+
+    /// Counts whether a run that was not refused passed over entries.
+    fn count_skips(&mut self, of: &'static str, table: &[u8], steps: usize) {
+        let count = usize::from(u16::from_le_bytes([table[6], table[7]]));
+        self.tally
+            .count(of, if steps < count { "skipped" } else { "whole" });
     }
 
     /// Counts the ops of a table that has run.
     fn count_ops(&mut self, table: &[u8]) {
         let count = usize::from(u16::from_le_bytes([table[6], table[7]]));
         for entry in table[10..].chunks(12).take(count) {
-            self.tally.count("op", u16::from_le_bytes([entry[0], entry[1]]));
+            self.tally
+                .count("op", u16::from_le_bytes([entry[0], entry[1]]));
         }
     }
 
     /// A table, its check, and its run on notices of each sort.
     fn table(&mut self) -> Outcome {
         let table = tables::table(&mut self.random);
+        self.count_edges(edges::of_table(&table));
         let reference = reference::check(&table);
         self.tally.count("check", reference);
-        same("check", &[("table", &table)], virentolex::check(&table), reference)?;
-        let notice = notices::valid(&mut self.random);
-        self.running(&table, &notice)?;
+        same(
+            "check",
+            &[("table", &table)],
+            virentolex::check(&table),
+            reference,
+        )?;
+        let notice = self.well_formed();
+        let steps = self.running(&table, &notice)?;
+        if reference == 0 {
+            self.count_skips("table runs", &table, steps);
+        }
         let notice = notices::notice(&mut self.random);
         self.running(&table, &notice).map(|_| ())
     }
@@ -177,11 +230,17 @@ impl Case<'_> {
     /// A notice, its check, all its fields and two more, and a run on it.
     fn notice(&mut self) -> Outcome {
         let notice = notices::notice(&mut self.random);
+        self.count_edges(edges::of_notice(&notice));
         let (number, place) = reference::check_notice(&notice);
         self.tally.count("check_notice", number);
         let library = virentolex::check_notice(&notice);
         let answers = ((library.number, library.place), (number, place));
-        same("check_notice: number, place", &[("notice", &notice)], answers.0, answers.1)?;
+        same(
+            "check_notice: number, place",
+            &[("notice", &notice)],
+            answers.0,
+            answers.1,
+        )?;
         let count = reference::notice::fields(&notice).map_or(1, |fields| fields.len());
         for k in (0..=count + 1).chain([usize::MAX]) {
             self.reading(&notice, k)?;
@@ -201,45 +260,85 @@ impl Case<'_> {
         same(
             &format!("read field {k}: number, place, kind, where name and value lie"),
             &[("notice", notice)],
-            (library.number, library.place, library.kind, part(library.name), part(library.value)),
-            (reference.number, reference.place, reference.kind, reference.name, reference.value),
+            (
+                library.number,
+                library.place,
+                library.kind,
+                part(library.name),
+                part(library.value),
+            ),
+            (
+                reference.number,
+                reference.place,
+                reference.kind,
+                reference.name,
+                reference.value,
+            ),
         )
+    }
+
+    fn count_edges(&mut self, edges: Vec<String>) {
+        edges
+            .into_iter()
+            .for_each(|edge| self.tally.count("edge", edge));
     }
 
     /// Fields written, one after another, to a notice in a buffer.
     fn write(&mut self) -> Outcome {
-        let notice = notices::notice(&mut self.random);
+        let notice = match self.random.below(8) {
+            0 => notices::full(&mut self.random),
+            1 => notices::heavy(&mut self.random),
+            _ => notices::notice(&mut self.random),
+        };
         if self.random.once_in(4) {
             return self.written_again(&notice);
         }
-        let room = self.random.pick(&[0, 1, 9, 12, 20, 100, 100, 1100, 17000]);
+        let field = self.field_to_write(notice.len());
+        let size = 5 + field.name.len() + field.value.len();
+        let room = self
+            .random
+            .pick(&[0, size - 1, size, size + 1, 100, 1100, 1100, 17000]);
         let mut lent = patterned(notice.len() + room, self.random.below(256));
         lent[GUARD..GUARD + notice.len()].copy_from_slice(&notice);
-        let mut length = match self.random.below(16) {
+        let length = match self.random.below(16) {
             0 => notice.len() + self.random.between(1, room + 2),
             1 => self.random.below(notice.len() + 1),
             _ => notice.len(),
         };
-        for _ in 0..self.random.between(1, 6) {
-            length = self.writing(&mut lent, length)?;
+        let mut length = self.write_field(&mut lent, length, &field)?;
+        for _ in 0..self.random.below(5) {
+            let field = self.field_to_write(length);
+            length = self.write_field(&mut lent, length, &field)?;
         }
         Ok(())
     }
 
-    /// One write of a field of any sort; the new length.
-    fn writing(&mut self, lent: &mut Vec<u8>, length: usize) -> Result<usize, String> {
+    /// A field of any sort, right or wrong, for a notice of that length.
+    fn field_to_write(&mut self, length: usize) -> notices::Field {
         let mut field = notices::field(&mut self.random);
-        match self.random.below(12) {
-            0 => field.kind = self.random.pick(&[0, 6, 256, 65535]),
-            1 => field.value = vec![b'v'; self.random.pick(&[0, 3, 4, 5, 7, 8, 9, 1024, 1025])],
-            2 => field.name = words::other_name(&mut self.random),
+        let random = &mut self.random;
+        match random.below(12) {
+            0 => field.kind = random.pick(&[0, 6, 256, 65535]),
+            1 => field.value = vec![b'v'; random.pick(&[0, 3, 4, 5, 7, 8, 9, 1024, 1025])],
+            2 => field.name = words::other_name(random),
+            3 => field.name = vec![random.pick(b"Z_n~"); random.pick(&[63, 64, 65])],
+            4 | 5 if length > 15_000 && length < 16_380 => {
+                let whole = random.pick(&[16383, 16384, 16385]);
+                let size = whole - (length + 5 + field.name.len()).min(whole);
+                (field.kind, field.value) = (random.pick(&[4, 5]), vec![b'v'; size]);
+            }
             _ => (),
         }
-        self.write_field(lent, length, &field)
+        field
     }
 
     /// One write; the whole buffer and its guards are compared.
-    fn write_field(&mut self, lent: &mut Vec<u8>, length: usize, field: &notices::Field) -> Result<usize, String> {
+    fn write_field(
+        &mut self,
+        lent: &mut Vec<u8>,
+        length: usize,
+        field: &notices::Field,
+    ) -> Result<usize, String> {
         let end = lent.len() - GUARD;
         let before = lent.clone();
         let mut meant = lent.clone();
@@ -247,6 +346,14 @@ impl Case<'_> {
         let library = virentolex::write(&mut lent[GUARD..end], length, name, kind, value);
         let reference = reference::write(&mut meant[GUARD..end], length, name, kind, value);
         self.tally.count("write", reference.number);
+        let notice = before[GUARD..end].get(..length).unwrap_or_default();
+        self.count_edges(edges::of_write(
+            end - GUARD,
+            notice,
+            name.len(),
+            value.len(),
+            reference.number,
+        ));
         same(
             &format!("write, named length {length}, kind {kind}: number, place, length, bytes after with guards"),
             &[("buffer", &before[GUARD..end]), ("name", name), ("value", value)],
@@ -270,12 +377,25 @@ impl Case<'_> {
         let mut length = 8;
         for k in &order {
             let read = virentolex::read(notice, *k);
-            let field = notices::Field { name: read.name.into(), kind: read.kind, value: read.value.into() };
+            let field = notices::Field {
+                name: read.name.into(),
+                kind: read.kind,
+                value: read.value.into(),
+            };
             length = self.write_field(&mut lent, length, &field)?;
         }
         let again = Hex(lent[GUARD..GUARD + length].to_vec());
-        let meant = if count > 0 { notice } else { &virentolex::EMPTY_NOTICE };
-        same("read and written again", &[("notice", notice)], again, Hex(meant.to_vec()))
+        let meant = if count > 0 {
+            notice
+        } else {
+            &virentolex::EMPTY_NOTICE
+        };
+        same(
+            "read and written again",
+            &[("notice", notice)],
+            again,
+            Hex(meant.to_vec()),
+        )
     }
 
     /// A whole input of the program, given to it in pieces.
@@ -286,7 +406,12 @@ impl Case<'_> {
         let meant = reference::verdict(&input);
         self.count_lines(&meant);
         let lines = |bytes: Vec<u8>| String::from_utf8_lossy(&bytes).into_owned();
-        same("program verdict", &[("input", &input)], lines(printed), lines(meant))
+        same(
+            "program verdict",
+            &[("input", &input)],
+            lines(printed),
+            lines(meant),
+        )
     }
 
     fn count_lines(&mut self, printed: &[u8]) {
@@ -301,5 +426,28 @@ impl Case<'_> {
             };
             self.tally.count("line", what);
         }
+    }
+}
+
+#[cfg(test)]
+mod tests {
+    use super::*;
+
+    #[test]
+    fn a_difference_is_told_with_its_inputs() {
+        assert_eq!(same("call", &[("text", b"a")], 1, 1), Ok(()));
+        let told = same("call", &[("text", b"a"), ("none", b"")], 1, 2).unwrap_err();
+        assert_eq!(
+            told,
+            "call\n  text: 61\n  none: -\n  library:   1\n  reference: 2"
+        );
+    }
+
+    #[test]
+    fn every_kind_has_its_turn() {
+        let mut kinds: Vec<&str> = (0..PROGRAM_EACH).map(kind_of).collect();
+        kinds.sort();
+        kinds.dedup();
+        assert_eq!(kinds, ["notice", "program", "table", "text", "write"]);
     }
 }

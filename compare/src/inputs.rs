@@ -6,7 +6,11 @@ use crate::texts;
 
 /// Any input: records, and now and then a bad or cut one at the end.
 pub fn input(random: &mut Random) -> Vec<u8> {
-    let count = if random.once_in(12) { random.between(20, 60) } else { random.below(9) };
+    let count = if random.once_in(12) {
+        random.between(20, 60)
+    } else {
+        random.below(9)
+    };
     let mut input = Vec::new();
     for _ in 0..count {
         input.extend(record(random));
@@ -35,7 +39,8 @@ fn record(random: &mut Random) -> Vec<u8> {
             let notice = notices::notice(random);
             of_kind(1, notice.get(6..).unwrap_or_default())
         }
-        _ => notices::valid(random),
+        7 | 8 => notices::valid(random),
+        _ => notices::rich(random),
     }
 }
 

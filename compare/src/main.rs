@@ -4,6 +4,7 @@
 //! Each case has its own generator, made of the seed and the case's number, so it can be run alone.
 
 mod cases;
+mod edges;
 mod inputs;
 mod notices;
 mod program;
@@ -19,7 +20,8 @@ use std::panic::{catch_unwind, AssertUnwindSafe};
 use std::process::ExitCode;
 use tally::Tally;
 
-const USAGE: &str = "compare [--seed S] [--from K] [--cases N] [--program PATH]   cases K to K + N - 1
+const USAGE: &str =
+    "compare [--seed S] [--from K] [--cases N] [--program PATH]   cases K to K + N - 1
 compare [--seed S] --case K [--program PATH]                 one case
 Without words: seed 1, from 0, 100000 cases, the program target/bin/verdict.";
 
@@ -35,7 +37,12 @@ struct Options {
 
 /// The options, or none if a word is unknown or its value is no number.
 fn options(mut words: impl Iterator<Item = String>) -> Option<Options> {
-    let mut options = Options { seed: 1, from: 0, cases: 100_000, program: "target/bin/verdict".into() };
+    let mut options = Options {
+        seed: 1,
+        from: 0,
+        cases: 100_000,
+        program: "target/bin/verdict".into(),
+    };
     while let Some(word) = words.next() {
         let value = words.next()?;
         match word.as_str() {
@@ -53,7 +60,11 @@ fn options(mut words: impl Iterator<Item = String>) -> Option<Options> {
 /// Runs one case; the difference found, if any.
 fn difference(options: &Options, number: u64, tally: &mut Tally) -> Option<String> {
     let random = Random::of_case(options.seed, number);
-    let mut case = Case { random, tally, program: &options.program };
+    let mut case = Case {
+        random,
+        tally,
+        program: &options.program,
+    };
     match catch_unwind(AssertUnwindSafe(|| case.run(kind_of(number)))) {
         Ok(outcome) => outcome.err(),
         Err(_) => Some("panicked, as said above".into()),
@@ -63,7 +74,9 @@ fn difference(options: &Options, number: u64, tally: &mut Tally) -> Option<Strin
 /// All cases up to the first difference, with that one's number.
 fn first_difference(options: &Options, tally: &mut Tally) -> Option<(u64, String)> {
     let numbers = options.from..options.from.saturating_add(options.cases);
-    numbers.into_iter().find_map(|number| Some((number, difference(options, number, tally)?)))
+    numbers
+        .into_iter()
+        .find_map(|number| Some((number, difference(options, number, tally)?)))
 }
 
 fn main() -> ExitCode {
@@ -73,17 +86,31 @@ fn main() -> ExitCode {
     };
     let mut tally = Tally::default();
     if let Some((number, difference)) = first_difference(&options, &mut tally) {
-        println!("compare: DIFFERENCE at seed {} case {number}, a {} case", options.seed, kind_of(number));
+        println!(
+            "compare: DIFFERENCE at seed {} case {number}, a {} case",
+            options.seed,
+            kind_of(number)
+        );
         println!("{difference}");
         println!("again: compare --seed {} --case {number}", options.seed);
         return ExitCode::FAILURE;
     }
-    tally.lines().iter().for_each(|line| println!("compare: {line}"));
-    let missing = if options.cases >= MANY { tally.missing() } else { Vec::new() };
+    tally
+        .lines()
+        .iter()
+        .for_each(|line| println!("compare: {line}"));
+    let missing = if options.cases >= MANY {
+        tally.missing()
+    } else {
+        Vec::new()
+    };
     if !missing.is_empty() {
         println!("compare: never met: {}", missing.join(", "));
         return ExitCode::FAILURE;
     }
-    println!("compare: seed {}, {} cases from {}: no difference", options.seed, options.cases, options.from);
+    println!(
+        "compare: seed {}, {} cases from {}: no difference",
+        options.seed, options.cases, options.from
+    );
     ExitCode::SUCCESS
 }

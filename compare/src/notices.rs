@@ -46,7 +46,11 @@ pub fn field(random: &mut Random) -> Field {
         _ => words::name(random).to_vec(),
     };
     let kind = kind_for(random, &name);
-    Field { value: value(random, kind), name, kind }
+    Field {
+        value: value(random, kind),
+        name,
+        kind,
+    }
 }
 
 /// The fields of a well-formed notice: names that keep the rules, rising.
@@ -66,16 +70,71 @@ pub fn fields(random: &mut Random) -> Vec<Field> {
     within_size(fields)
 }
 
+/// A well-formed notice with most of the names that texts use.
+pub fn rich(random: &mut Random) -> Vec<u8> {
+    let mut names: Vec<&[u8]> = words::NAMES.to_vec();
+    names.retain(|_| !random.once_in(10));
+    names.sort();
+    let mut fields = Vec::new();
+    for name in names {
+        let kind = kind_for(random, name);
+        fields.push(Field {
+            name: name.to_vec(),
+            kind,
+            value: value(random, kind),
+        });
+    }
+    rendered(&within_size(fields))
+}
+
 /// One of many fields with short values.
 fn numbered(random: &mut Random, at: usize) -> Field {
     let kind = random.between(1, 3) as u16;
-    Field { name: format!("f{at}").into_bytes(), kind, value: value(random, kind) }
+    Field {
+        name: format!("f{at}").into_bytes(),
+        kind,
+        value: value(random, kind),
+    }
+}
+
+/// A well-formed notice of 62 to 64 fields, or one with 65.
+pub fn full(random: &mut Random) -> Vec<u8> {
+    let count = random.pick(&[62, 63, 63, 64, 64, 65]);
+    let fields: Vec<Field> = (10..10 + count).map(|at| numbered(random, at)).collect();
+    rendered(&fields)
+}
+
+/// A notice of about 16,384 bytes: 15 fields of 1,032 bytes and one that fills it up.
+pub fn heavy(random: &mut Random) -> Vec<u8> {
+    let size = match random.below(3) {
+        0 => random.pick(&[16383, 16384, 16385]),
+        _ => random.between(15_500, 16_384),
+    };
+    let of_size = |at: usize, size: usize| {
+        let kind = if at % 2 == 0 { 4 } else { 5 };
+        Field {
+            name: format!("v{at}").into_bytes(),
+            kind,
+            value: vec![b'v'; size - 8],
+        }
+    };
+    let mut fields: Vec<Field> = (10..25).map(|at| of_size(at, 1032)).collect();
+    fields.push(of_size(25, size - 8 - 15 * 1032));
+    rendered(&fields)
 }
 
 /// One of 16 fields that fill a notice of 16,384 bytes.
 fn large(random: &mut Random, at: usize) -> Field {
-    let length = if random.once_in(2) { 1016 } else { random.between(980, 1024) };
-    Field { name: format!("v{at}").into_bytes(), kind: random.pick(&[4, 5]), value: vec![b'v'; length] }
+    let length = if random.once_in(2) {
+        1016
+    } else {
+        random.between(980, 1024)
+    };
+    Field {
+        name: format!("v{at}").into_bytes(),
+        kind: random.pick(&[4, 5]),
+        value: vec![b'v'; length],
+    }
 }
 
 /// As many of the fields as a notice holds.
@@ -90,8 +149,10 @@ fn within_size(fields: Vec<Field>) -> Vec<Field> {
 
 /// The notice of the fields, in the order given.
 pub fn rendered(fields: &[Field]) -> Vec<u8> {
-    let parts: Vec<Vec<u8>> =
-        fields.iter().map(|field| reference::notice::field_bytes(&field.name, field.kind, &field.value)).collect();
+    let parts: Vec<Vec<u8>> = fields
+        .iter()
+        .map(|field| reference::notice::field_bytes(&field.name, field.kind, &field.value))
+        .collect();
     let parts: Vec<&[u8]> = parts.iter().map(Vec::as_slice).collect();
     reference::notice::notice_bytes(fields.len(), &parts)
 }
@@ -104,7 +165,9 @@ pub fn valid(random: &mut Random) -> Vec<u8> {
 
 /// Any notice, about one of three damaged.
 pub fn notice(random: &mut Random) -> Vec<u8> {
-    match random.below(12) {
+    match random.below(14) {
+        12 => full(random),
+        13 => heavy(random),
         0 | 1 => with_bad_field(random),
         2 => with_bad_header(random),
         3 => {
@@ -142,7 +205,9 @@ fn with_bad_field(random: &mut Random) -> Vec<u8> {
         2 => fields[at].name = words::other_name(random),
         3 => fields[at].name = vec![b'n'; random.pick(&[0, 64, 65, 255])],
         4 => fields[at].value.push(0),
-        5 => fields[at].value.resize(random.pick(&[0, 3, 7, 1024, 1025]), b'v'),
+        5 => fields[at]
+            .value
+            .resize(random.pick(&[0, 3, 7, 1024, 1025]), b'v'),
         6 => fields.insert(at, fields[at].clone()),
         7 => {
             let other = random.below(fields.len());

@@ -25,7 +25,11 @@ fn exchange(child: &mut Child, input: &[u8], piece: usize) -> std::io::Result<Ve
     let mut stdout = child.stdout.take().expect("it is piped");
     std::thread::scope(|scope| {
         // After `E` the program reads no more, so a refused piece is no fault.
-        scope.spawn(move || input.chunks(piece).try_for_each(|part| stdin.write_all(part)));
+        scope.spawn(move || {
+            input
+                .chunks(piece)
+                .try_for_each(|part| stdin.write_all(part))
+        });
         let mut printed = Vec::new();
         stdout.read_to_end(&mut printed).map(|_| printed)
     })

@@ -14,7 +14,9 @@ fn mix(word: u64) -> u64 {
 impl Random {
     /// The generator of one case, by the run's seed and the case's number alone.
     pub fn of_case(seed: u64, case: u64) -> Random {
-        Random { state: mix(mix(seed) ^ case.wrapping_mul(0x9e37_79b9_7f4a_7c15)) }
+        Random {
+            state: mix(mix(seed) ^ case.wrapping_mul(0x9e37_79b9_7f4a_7c15)),
+        }
     }
 
     pub fn word(&mut self) -> u64 {

@@ -83,17 +83,33 @@ struct Maker<'a> {
 
 /// A table by hand, most often one that passes the check.
 fn made(random: &mut Random) -> Draft {
-    let length = match random.below(12) {
-        0 => random.between(480, 520),
-        1 | 2 => random.between(60, 200),
-        _ => random.between(1, 24),
+    let (length, padded) = match random.below(12) {
+        0 => (random.between(300, 460), random.between(510, 514)),
+        1 | 2 => (random.between(60, 200), 0),
+        _ => (random.between(1, 24), 0),
     };
-    let draft = Draft { entries: Vec::new(), pool: pool(random) };
-    let mut maker = Maker { random, draft, logic: 0, values: 0, open: Vec::new() };
+    let draft = Draft {
+        entries: Vec::new(),
+        pool: pool(random),
+    };
+    let mut maker = Maker {
+        random,
+        draft,
+        logic: 0,
+        values: 0,
+        open: Vec::new(),
+    };
+    if maker.random.once_in(10) {
+        let deep = maker.random.between(30, 33);
+        (0..deep).for_each(|_| maker.push());
+    }
     while maker.draft.entries.len() < length {
         maker.any();
     }
     maker.finish();
+    while maker.draft.entries.len() < padded {
+        maker.put(Op::Not, 0, 0);
+    }
     maker.draft
 }
 
@@ -106,6 +122,7 @@ impl Maker<'_> {
     fn any(&mut self) {
         let depth = self.logic + self.values;
         match self.random.below(8) {
+            0..=2 if self.values == 0 && self.logic > 3 => self.join_logic(),
             0..=2 if depth < 32 => self.push(),
             3 if self.values > 1 => self.binary(),
             4 if self.values > 0 => self.unary(),
@@ -154,19 +171,29 @@ impl Maker<'_> {
     /// A part of the pool.
     fn part(&mut self) -> (u16, u64) {
         let start = self.random.below(self.draft.pool.len() + 1);
-        let most = (self.draft.pool.len() - start).min(if self.random.once_in(20) { 4096 } else { 6 });
+        let most =
+            (self.draft.pool.len() - start).min(if self.random.once_in(20) { 4096 } else { 6 });
         (self.random.between(0, most) as u16, start as u64)
     }
 
     /// A name that lies in the pool, if one that texts use does; else a string.
     fn named(&mut self) {
         let name = words::name(self.random);
-        let found = self.draft.pool.windows(name.len()).position(|part| part == name);
+        let found = self
+            .draft
+            .pool
+            .windows(name.len())
+            .position(|part| part == name);
         match found {
             Some(start) => self.put(Op::Name, name.len() as u16, start as u64),
             None => {
                 let (a, b) = self.part();
-                self.put(Op::Text, a, b);
+                let op = if self.random.once_in(12) {
+                    Op::Name
+                } else {
+                    Op::Text
+                };
+                self.put(op, a, b);
             }
         }
     }
@@ -194,7 +221,11 @@ impl Maker<'_> {
             2 if self.random.once_in(2) => self.random.pick(&OPS[19..25]),
             _ => self.random.pick(&OPS[38..42]),
         };
-        let a = if self.values > 1 && last.code() >= Op::Begins.code() { self.values - 1 } else { 0 };
+        let a = if self.values > 1 && last.code() >= Op::Begins.code() {
+            self.values - 1
+        } else {
+            0
+        };
         self.put(last, a as u16, 0);
         self.values = 0;
         self.logic += 1;
@@ -225,7 +256,9 @@ impl Maker<'_> {
     fn land(&mut self) {
         let (values, logic) = (self.values, self.logic);
         let fits = |(_, met): &(usize, usize)| values == 0 && logic == *met;
-        let Some(at) = self.open.iter().rposition(fits) else { return };
+        let Some(at) = self.open.iter().rposition(fits) else {
+            return;
+        };
         let passed = self.draft.entries.len() - self.open[at].0 - 1;
         if passed > 0 && self.random.once_in(2) {
             let (entry, _) = self.open.remove(at);
@@ -258,7 +291,10 @@ fn damage(random: &mut Random, draft: &mut Draft) {
             1 => draft.entries[at].0 = random.pick(&OPS).code(),
             2 => draft.entries[at].1 = random.pick(&[0, 1, 2, 8, 9, 64, 65, 512, 65535]),
             3 => draft.entries[at].1 = draft.entries[at].1.wrapping_add(random.pick(&[1, 65535])),
-            4 => draft.entries[at].2 = random.pick(&[1, 1 << 31, 1 << 32, 1 << 63, u64::MAX, u64::MAX - 1]),
+            4 => {
+                draft.entries[at].2 =
+                    random.pick(&[1, 1 << 31, 1 << 32, 1 << 63, u64::MAX, u64::MAX - 1])
+            }
             5 if count > 1 => drop(draft.entries.remove(at)),
             6 => {
                 let other = random.below(count);

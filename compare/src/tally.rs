@@ -1,5 +1,6 @@
 //! What occurred: how many cases of each kind, and each answer, op and verdict.
 
+use crate::edges::EDGES;
 use reference::op::OPS;
 use std::collections::BTreeMap;
 
@@ -17,11 +18,27 @@ const NUMBERS: [(&str, &[u8]); 6] = [
     ("read", &[0, 11, 17]),
     ("write", &[0, 11, 13, 14, 15, 16]),
 ];
-const WORDS: [(&str, &[&str]); 4] = [
+const WORDS: [(&str, &[&str]); 7] = [
     ("case", &["text", "table", "notice", "write", "program"]),
     ("verdict", &["True", "False", "Bottom"]),
-    ("demand 3", &["True", "False", "Bottom", "skipped"]),
-    ("line", &["S 0", "S refused", "N true", "N false", "N bottom", "N 11", "N 12", "X", "E"]),
+    ("demand 3", &["True", "False", "Bottom"]),
+    ("text runs", &["skipped", "whole"]),
+    ("table runs", &["skipped", "whole"]),
+    (
+        "line",
+        &[
+            "S 0",
+            "S refused",
+            "N true",
+            "N false",
+            "N bottom",
+            "N 11",
+            "N 12",
+            "X",
+            "E",
+        ],
+    ),
+    ("edge", &EDGES),
 ];
 
 impl Tally {
@@ -29,19 +46,19 @@ impl Tally {
         *self.counts.entry((of, what.to_string())).or_insert(0) += 1;
     }
 
-    pub fn add(&mut self, other: Tally) {
-        for (key, count) in other.counts {
-            *self.counts.entry(key).or_insert(0) += count;
-        }
-    }
-
     /// What must occur and did not.
     pub fn missing(&self) -> Vec<String> {
-        let numbers = NUMBERS.iter().flat_map(|(of, all)| all.iter().map(|one| (*of, one.to_string())));
-        let words = WORDS.iter().flat_map(|(of, all)| all.iter().map(|one| (*of, one.to_string())));
+        let numbers = NUMBERS
+            .iter()
+            .flat_map(|(of, all)| all.iter().map(|one| (*of, one.to_string())));
+        let words = WORDS
+            .iter()
+            .flat_map(|(of, all)| all.iter().map(|one| (*of, one.to_string())));
         let ops = OPS.iter().map(|op| ("op", op.code().to_string()));
         let all = numbers.chain(words).chain(ops);
-        all.filter(|key| !self.counts.contains_key(key)).map(|(of, one)| format!("{of} {one}")).collect()
+        all.filter(|key| !self.counts.contains_key(key))
+            .map(|(of, one)| format!("{of} {one}"))
+            .collect()
     }
 
     /// One line for each subject, its answers by size.
@@ -50,11 +67,33 @@ impl Tally {
         for ((of, what), count) in &self.counts {
             lines.entry(of).or_default().push((what, count));
         }
-        lines.iter_mut().for_each(|(_, row)| row.sort_by_key(|(what, _)| (what.len(), what.as_str())));
+        lines
+            .iter_mut()
+            .for_each(|(_, row)| row.sort_by_key(|(what, _)| (what.len(), what.as_str())));
         let row = |row: &[(&String, &u64)]| {
-            let words: Vec<String> = row.iter().map(|(what, count)| format!("{what}: {count}")).collect();
+            let words: Vec<String> = row
+                .iter()
+                .map(|(what, count)| format!("{what}: {count}"))
+                .collect();
             words.join(", ")
         };
-        lines.iter().map(|(of, all)| format!("{of:<13} {}", row(all))).collect()
+        lines
+            .iter()
+            .map(|(of, all)| format!("{of:<13} {}", row(all)))
+            .collect()
+    }
+}
+
+#[cfg(test)]
+mod tests {
+    use super::*;
+
+    #[test]
+    fn what_never_occurred_is_missing() {
+        let mut tally = Tally::default();
+        assert!(tally.missing().contains(&"translate 7".to_string()));
+        tally.count("translate", 7);
+        assert!(!tally.missing().contains(&"translate 7".to_string()));
+        assert_eq!(tally.lines(), ["translate     7: 1"]);
     }
 }

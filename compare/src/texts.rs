@@ -6,7 +6,9 @@ use crate::words;
 const LOGIC: [&str; 3] = ["&&", "^^", "||"];
 const COMPARISONS: [&str; 6] = ["==", "!=", "<", "<=", ">", ">="];
 const ARITHMETIC: [&str; 11] = ["<<", ">>", ">>>", "&", "^", "|", "*", "/", "%", "+", "-"];
-const TESTS: [&str; 7] = ["int32", "int64", "real64", "string", "opaque", "nan", "require"];
+const TESTS: [&str; 7] = [
+    "int32", "int64", "real64", "string", "opaque", "nan", "require",
+];
 const MATCHES: [&str; 3] = ["begins-with", "contains", "ends-with"];
 
 /// Any text.
@@ -57,7 +59,10 @@ struct Maker<'a> {
 impl Maker<'_> {
     /// The tokens of a logic expression with about `size` operands and at most `deep` parentheses.
     fn tokens(random: &mut Random, size: usize, deep: usize) -> Tokens {
-        let mut maker = Maker { random, tokens: Vec::new() };
+        let mut maker = Maker {
+            random,
+            tokens: Vec::new(),
+        };
         maker.logic(size, deep);
         maker.tokens
     }
@@ -277,7 +282,9 @@ fn integer(random: &mut Random, value: i128) -> String {
 fn real(random: &mut Random) -> String {
     let mut digits = |most: usize| -> String {
         let count = random.between(1, most);
-        (0..count).map(|_| char::from(b'0' + random.below(10) as u8)).collect()
+        (0..count)
+            .map(|_| char::from(b'0' + random.below(10) as u8))
+            .collect()
     };
     let (whole, fraction) = if digits(1) < "3".to_string() {
         (digits(10), digits(8))
@@ -299,7 +306,9 @@ fn real(random: &mut Random) -> String {
 /// Whether two tokens would run together without whitespace between them.
 fn run_together(left: &[u8], right: &[u8]) -> bool {
     let number = left.len() > 1 && left[0] == b'-' && left[1].is_ascii_digit();
-    let word = left.first().is_some_and(|byte| byte.is_ascii_alphanumeric() || b"_\\".contains(byte));
+    let word = left
+        .first()
+        .is_some_and(|byte| byte.is_ascii_alphanumeric() || b"_\\".contains(byte));
     let minus = left == b"-" && right.first().is_some_and(u8::is_ascii_digit);
     (word || number) && !matches!(right.first(), Some(b'(' | b')' | b',')) || minus
 }
@@ -311,7 +320,11 @@ fn join(random: &mut Random, tokens: &[Vec<u8>]) -> Vec<u8> {
     for (at, token) in tokens.iter().enumerate() {
         let needed = at > 0 && run_together(&tokens[at - 1], token);
         if needed || random.once_in(if roomy { 2 } else { 12 }) {
-            text.extend(random.pick(&[" ", " ", " ", "\t", "\n", "\r", " \r\n"]).bytes());
+            text.extend(
+                random
+                    .pick(&[" ", " ", " ", "\t", "\n", "\r", " \r\n"])
+                    .bytes(),
+            );
         }
         text.extend(token);
     }
@@ -324,9 +337,17 @@ fn many_entries(random: &mut Random) -> Vec<u8> {
         0 => ("a", " + a", " == b", random.between(250, 257)),
         1 => ("n1", " - n1", " < n2", random.between(250, 257)),
         2 => ("a == b", " ^^ a == b", "", random.between(125, 130)),
-        _ => ("a == b", random.pick(&[" && a == b", " || n1 == n2"]), "", random.between(100, 105)),
+        _ => (
+            "a == b",
+            random.pick(&[" && a == b", " || n1 == n2"]),
+            "",
+            random.between(100, 105),
+        ),
     };
-    [first, &each.repeat(count - 1), last].concat().into_bytes()
+    let more = random.pick(&["", "~ ", "~~"]);
+    [more, first, &each.repeat(count - 1), last]
+        .concat()
+        .into_bytes()
 }
 
 /// Operands that wait on the stack, about 32 of them.
@@ -346,7 +367,9 @@ fn high_stack(random: &mut Random) -> Vec<u8> {
     let value = open + "n1" + &" )".repeat(close);
     let tail = random.pick(&[" == n2", " < r1 || int32 (a)", " != 1 && a == b"]);
     let head = random.pick(&["", "int32 (a) ^^ ", "a == "]);
-    [head, &value, if head == "a == " { "" } else { tail }].concat().into_bytes()
+    [head, &value, if head == "a == " { "" } else { tail }]
+        .concat()
+        .into_bytes()
 }
 
 /// A text of about 4,096 bytes: a valid one with a long string or whitespace.
@@ -368,33 +391,84 @@ fn long(random: &mut Random) -> Vec<u8> {
 /// Parentheses and rows of prefix operators, about 24 deep.
 fn nested(random: &mut Random) -> Vec<u8> {
     let deep = random.between(22, 26);
-    let close = if random.once_in(4) { random.below(27) } else { deep };
+    let close = if random.once_in(4) {
+        random.below(27)
+    } else {
+        deep
+    };
     let row = random.between(22, 26);
     let open = random.pick(&["(", "( ", "!(", "size(", "a == (", "a == b && ("]);
     match random.below(4) {
         0 => ["!".repeat(row), "int32(a)".into()].concat().into_bytes(),
-        1 => ["~ ".repeat(row), "n1 == ".into(), "~".repeat(row % 24), "n1".into()].concat().into_bytes(),
-        2 => ["!~".repeat(row / 2), ") !".repeat(row % 3), "(a)".repeat(row)].concat().into_bytes(),
-        _ => [open.repeat(deep), "a == b".into(), ")".repeat(close)].concat().into_bytes(),
+        1 => [
+            "~ ".repeat(row),
+            "n1 == ".into(),
+            "~".repeat(row % 24),
+            "n1".into(),
+        ]
+        .concat()
+        .into_bytes(),
+        2 => [
+            "!~".repeat(row / 2),
+            ") !".repeat(row % 3),
+            "(a)".repeat(row),
+        ]
+        .concat()
+        .into_bytes(),
+        _ => [open.repeat(deep), "a == b".into(), ")".repeat(close)]
+            .concat()
+            .into_bytes(),
     }
 }
 
 /// Numbers and names near their limits, alone in a comparison.
 fn near_limits(random: &mut Random) -> Vec<u8> {
     const EDGES: [&str; 34] = [
-        "2147483647", "2147483648", "-2147483648", "-2147483649", "9223372036854775807L", "9223372036854775808l",
-        "-9223372036854775808L", "-9223372036854775809L", "0x7fffffff", "0x80000000", "-0x80000000", "0xffffffffL",
-        "0x8000000000000000L", "-0x8000000000000000L", "017777777777", "020000000000", "0777777777777777777777L",
-        "01000000000000000000000L", "00", "09", "0x", "0xg", "1.0e23", "1.0e24", "123456789012345.6",
-        "12345678901234.5", "0.0e22", "0.0000000000000000000001", "0.00000000000000000000001", "1.5e-21", "1.", "1e5",
-        "000123456789012345.0", "340282366920938463463374607431768211456",
+        "2147483647",
+        "2147483648",
+        "-2147483648",
+        "-2147483649",
+        "9223372036854775807L",
+        "9223372036854775808l",
+        "-9223372036854775808L",
+        "-9223372036854775809L",
+        "0x7fffffff",
+        "0x80000000",
+        "-0x80000000",
+        "0xffffffffL",
+        "0x8000000000000000L",
+        "-0x8000000000000000L",
+        "017777777777",
+        "020000000000",
+        "0777777777777777777777L",
+        "01000000000000000000000L",
+        "00",
+        "09",
+        "0x",
+        "0xg",
+        "1.0e23",
+        "1.0e24",
+        "123456789012345.6",
+        "12345678901234.5",
+        "0.0e22",
+        "0.0000000000000000000001",
+        "0.00000000000000000000001",
+        "1.5e-21",
+        "1.",
+        "1e5",
+        "000123456789012345.0",
+        "340282366920938463463374607431768211456",
     ];
     let edge = match random.below(3) {
         0 => String::from_utf8_lossy(&vec![b'n'; random.between(62, 66)]).into_owned(),
         1 => number(random),
         _ => random.pick(&EDGES).to_string(),
     };
-    let text = format!("{edge}{}{}{edge}", random.pick(&[" ", "\t", ""]), random.pick(&["== ", "<=", "- "]));
+    let text = format!(
+        "{edge}{}{}{edge}",
+        random.pick(&[" ", "\t", ""]),
+        random.pick(&["== ", "<=", "- "])
+    );
     let text = text.into_bytes();
     if random.once_in(3) {
         damaged(random, text)
@@ -406,11 +480,32 @@ fn near_limits(random: &mut Random) -> Vec<u8> {
 /// A call with a wrong name, count, form or kind somewhere in a valid text.
 fn with_odd_call(random: &mut Random) -> Vec<u8> {
     const ODD: [&str; 26] = [
-        "int32()", "int32(a,b)", "int32((a))", "int32(1)", "size(\"a\")==1", "wildcard(a,\"*\")", "regex(a,'b')",
-        "Int32(a)", "int\\32(a)", "begins-with(a)", "begins-with('a','b')", "contains((s1),'a')", "ends-with(a,b)",
-        "contains(a,'1','2','3','4','5','6','7','8','9')", "equals(a)", "equals(1,2)", "equals(a,1,2,3,4,5,6,7,8,9)",
-        "equals(a,b==1)", "equals(a,(b))", "fold-case()==''", "fold-case(1)==''", "fold-case((a))==''", "size(a)",
-        "!a", "~(a==b)==1", "begins-with(fold\\-case(a),'')",
+        "int32()",
+        "int32(a,b)",
+        "int32((a))",
+        "int32(1)",
+        "size(\"a\")==1",
+        "wildcard(a,\"*\")",
+        "regex(a,'b')",
+        "Int32(a)",
+        "int\\32(a)",
+        "begins-with(a)",
+        "begins-with('a','b')",
+        "contains((s1),'a')",
+        "ends-with(a,b)",
+        "contains(a,'1','2','3','4','5','6','7','8','9')",
+        "equals(a)",
+        "equals(1,2)",
+        "equals(a,1,2,3,4,5,6,7,8,9)",
+        "equals(a,b==1)",
+        "equals(a,(b))",
+        "fold-case()==''",
+        "fold-case(1)==''",
+        "fold-case((a))==''",
+        "size(a)",
+        "!a",
+        "~(a==b)==1",
+        "begins-with(fold\\-case(a),'')",
     ];
     let odd = random.pick(&ODD);
     let text = tokens_joined(random, 3, 2);
@@ -419,17 +514,26 @@ fn with_odd_call(random: &mut Random) -> Vec<u8> {
         1 => (text, odd.as_bytes().to_vec()),
         _ => return odd.as_bytes().to_vec(),
     };
-    [&left[..], random.pick(&[" && ", " || ", " == ", " , "]).as_bytes(), &right].concat()
+    [
+        &left[..],
+        random.pick(&[" && ", " || ", " == ", " , "]).as_bytes(),
+        &right,
+    ]
+    .concat()
 }
 
 /// Tokens in no order.
 fn soup(random: &mut Random) -> Vec<u8> {
-    const OTHER: [&str; 14] = ["(", ")", ",", "(", ")", ",", "!", "~", "a", "f", "size", "1", "'s'", "equals"];
+    const OTHER: [&str; 14] = [
+        "(", ")", ",", "(", ")", ",", "!", "~", "a", "f", "size", "1", "'s'", "equals",
+    ];
     let mut tokens: Tokens = Vec::new();
     for _ in 0..random.between(0, 12) {
         let token = match random.below(4) {
             0 => random.pick(&ARITHMETIC),
-            1 => random.pick(&[LOGIC[0], LOGIC[1], LOGIC[2], "==", "!=", "<", "<=", ">", ">="]),
+            1 => random.pick(&[
+                LOGIC[0], LOGIC[1], LOGIC[2], "==", "!=", "<", "<=", ">", ">=",
+            ]),
             _ => random.pick(&OTHER),
         };
         tokens.push(token.as_bytes().to_vec());
@@ -450,7 +554,11 @@ fn damaged_tokens(random: &mut Random) -> Vec<u8> {
                 tokens.swap(at, other);
             }
             3 => tokens.truncate(at + 1),
-            _ => tokens[at] = random.pick(&["(", ")", ",", "!", "~", "+", "&&", "==", "a", "1", "'s'"]).into(),
+            _ => {
+                tokens[at] = random
+                    .pick(&["(", ")", ",", "!", "~", "+", "&&", "==", "a", "1", "'s'"])
+                    .into()
+            }
         }
     }
     join(random, &tokens)

@@ -90,6 +90,12 @@ pub fn accepted(text: &[u8]) -> Result<Tree, (u8, usize)> {
     Ok(tree)
 }
 
+/// The entries and the slots that the text's table would have, limits aside.
+pub fn sizes(text: &[u8]) -> Option<(usize, usize)> {
+    let code = code_of(&accepted(text).ok()?);
+    Some((code.entries.len(), most_slots(&code.entries)))
+}
+
 fn code_of(tree: &Tree) -> Code {
     let mut code = Code::default();
     code.add(tree);
@@ -159,7 +165,7 @@ impl Code {
 }
 
 /// How many slots an entry takes and gives.
-fn slots(entry: &Entry) -> (usize, usize) {
+pub fn slots(entry: &Entry) -> (usize, usize) {
     match entry.op {
         Op::Int32 | Op::Int64 | Op::Real64 | Op::Text | Op::Name => (0, 1),
         Op::FoldCase | Op::Size | Op::Complement | Op::Not | Op::SkipFalse | Op::SkipTrue => (1, 1),

@@ -24,11 +24,11 @@ fn is_prefix(token: &Token) -> bool {
     matches!(token, Token::Operator(Op::Not | Op::Complement))
 }
 
-/// "6: over 24 parentheses open at once (a `)` with none open is passed over), or over 24 of `!` `~`
-/// in a row"
-pub fn too_deep(tokens: &[Placed]) -> bool {
-    let mut open: usize = 0;
-    let mut row = 0;
+/// The most parentheses open at once ("a `)` with none open is passed over"), and the most of `!` `~`
+/// in a row.
+pub fn deepest(tokens: &[Placed]) -> (usize, usize) {
+    let (mut open, mut most_open): (usize, usize) = (0, 0);
+    let (mut row, mut most_row) = (0, 0);
     for placed in tokens {
         match placed.token {
             Token::Open => open += 1,
@@ -36,11 +36,16 @@ pub fn too_deep(tokens: &[Placed]) -> bool {
             _ => (),
         }
         row = if is_prefix(&placed.token) { row + 1 } else { 0 };
-        if open > MOST_NESTED || row > MOST_NESTED {
-            return true;
-        }
+        most_open = most_open.max(open);
+        most_row = most_row.max(row);
     }
-    false
+    (most_open, most_row)
+}
+
+/// "6: over 24 parentheses open at once .., or over 24 of `!` `~` in a row"
+pub fn too_deep(tokens: &[Placed]) -> bool {
+    let (open, row) = deepest(tokens);
+    open > MOST_NESTED || row > MOST_NESTED
 }
 
 /// What an open parenthesis is for.

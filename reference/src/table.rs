@@ -48,7 +48,7 @@ fn decode(table: &[u8]) -> Option<Table<'_>> {
 }
 
 /// "Entry: u16 op, u16 a, u64 b."; none if the op is unknown.
-fn entry(table: &[u8], at: usize) -> Option<Entry> {
+pub fn entry(table: &[u8], at: usize) -> Option<Entry> {
     let op = Op::of_code(word(table, at, 2)?)?;
     let a = u16::try_from(word(table, at + 2, 2)?).ok()?;
     Some(Entry {
