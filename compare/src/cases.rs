@@ -5,6 +5,7 @@ use crate::random::Random;
 use crate::tally::Tally;
 use crate::{edges, inputs, notices, program, tables, texts, words};
 use reference::Truth;
+use std::collections::BTreeSet;
 use std::fmt::{Debug, Formatter};
 
 /// Bytes that print as hex.
@@ -70,9 +71,11 @@ fn truth(verdict: virentolex::Verdict) -> Truth {
 
 /// The kinds in turn, by the case's number.
 const KINDS: [&str; 20] = [
-    "text", "table", "notice", "write", "text", "table", "text", "notice", "text", "table", "text",
-    "write", "text", "table", "notice", "text", "write", "text", "table", "text",
+    "text", "table", "notice", "write", "text", "operator", "text", "notice", "text", "table",
+    "text", "write", "text", "table", "notice", "text", "write", "text", "table", "text",
 ];
+/// So many operators are tried in one case of theirs.
+const OPERATORS: usize = 20;
 /// One case of so many is a whole input of the program.
 const PROGRAM_EACH: u64 = 100;
 
@@ -92,6 +95,7 @@ impl Case<'_> {
             "table" => self.table(),
             "notice" => self.notice(),
             "write" => self.write(),
+            "operator" => (0..OPERATORS).try_for_each(|_| self.operator()),
             _ => self.program(),
         }
     }
@@ -197,13 +201,14 @@ impl Case<'_> {
             .count(of, if steps < count { "skipped" } else { "whole" });
     }
 
-    /// Counts the ops of a table that has run.
+    /// Counts each op that a table that has run holds, once.
     fn count_ops(&mut self, table: &[u8]) {
         let count = usize::from(u16::from_le_bytes([table[6], table[7]]));
-        for entry in table[10..].chunks(12).take(count) {
-            self.tally
-                .count("op", u16::from_le_bytes([entry[0], entry[1]]));
-        }
+        let entries = table[10..].chunks(12).take(count);
+        let ops: BTreeSet<u16> = entries
+            .map(|entry| u16::from_le_bytes([entry[0], entry[1]]))
+            .collect();
+        ops.into_iter().for_each(|op| self.tally.count("op", op));
     }
 
     /// A table, its check, and its run on notices of each sort.
@@ -225,6 +230,12 @@ impl Case<'_> {
         }
         let notice = notices::notice(&mut self.random);
         self.running(&table, &notice).map(|_| ())
+    }
+
+    /// One operator on numbers near the limits.
+    fn operator(&mut self) -> Outcome {
+        let table = tables::operation(&mut self.random);
+        self.running(&table, &virentolex::EMPTY_NOTICE).map(|_| ())
     }
 
     /// A notice, its check, all its fields and two more, and a run on it.
@@ -448,6 +459,9 @@ mod tests {
         let mut kinds: Vec<&str> = (0..PROGRAM_EACH).map(kind_of).collect();
         kinds.sort();
         kinds.dedup();
-        assert_eq!(kinds, ["notice", "program", "table", "text", "write"]);
+        assert_eq!(
+            kinds,
+            ["notice", "operator", "program", "table", "text", "write"]
+        );
     }
 }

@@ -87,7 +87,7 @@ fn main() -> ExitCode {
     let mut tally = Tally::default();
     if let Some((number, difference)) = first_difference(&options, &mut tally) {
         println!(
-            "compare: DIFFERENCE at seed {} case {number}, a {} case",
+            "compare: DIFFERENCE at seed {} case {number}, kind {}",
             options.seed,
             kind_of(number)
         );

@@ -4,6 +4,7 @@ use crate::random::Random;
 use crate::texts;
 use crate::words;
 use reference::op::{Op, OPS};
+use reference::value::{binary, unary, Slot, Value};
 
 /// A table before it is laid out; ops need not be known ones.
 struct Draft {
@@ -53,6 +54,51 @@ fn laid_out(draft: &Draft) -> Vec<u8> {
     }
     table.extend(&draft.pool);
     table
+}
+
+/// One operator on numbers near the limits, and what its result is told by: that it is there, its type,
+/// or its value by the reference.
+pub fn operation(random: &mut Random) -> Vec<u8> {
+    let op = random.pick(&OPS[5..25]);
+    let left = number(random);
+    let right = number(random);
+    let mut entries = vec![pushed(&left)];
+    let result = if op.code() <= Op::Complement.code() {
+        unary(op, Some(left))
+    } else {
+        entries.push(pushed(&right));
+        binary(op, Some(left), Some(right))
+    };
+    entries.push((op.code(), 0, 0));
+    match result {
+        Slot::Value(Some(value)) if !random.once_in(4) => {
+            entries.push(pushed(&value));
+            entries.push((random.pick(&OPS[19..25]).code(), 0, 0));
+        }
+        Slot::Value(_) => entries.push((random.pick(&OPS[31..38]).code(), 0, 0)),
+        Slot::Truth(_) => (),
+    }
+    let pool = Vec::new();
+    laid_out(&Draft { entries, pool })
+}
+
+/// A number of any type, near the limits.
+fn number(random: &mut Random) -> Value {
+    match random.below(3) {
+        0 => Value::Int32(words::short_whole(random)),
+        1 => Value::Int64(words::whole(random)),
+        _ => Value::Real64(f64::from_bits(words::real(random))),
+    }
+}
+
+/// The entry that pushes a number; a string goes without its bytes.
+fn pushed(value: &Value) -> (u16, u16, u64) {
+    match value {
+        Value::Int32(value) => (Op::Int32.code(), 0, i64::from(*value) as u64),
+        Value::Int64(value) => (Op::Int64.code(), 0, *value as u64),
+        Value::Real64(value) => (Op::Real64.code(), 0, value.to_bits()),
+        Value::Text(_) | Value::Opaque(_) => (Op::Text.code(), 0, 0),
+    }
 }
 
 /// A pool in which names and strings lie over one another.

@@ -19,7 +19,10 @@ const NUMBERS: [(&str, &[u8]); 6] = [
     ("write", &[0, 11, 13, 14, 15, 16]),
 ];
 const WORDS: [(&str, &[&str]); 7] = [
-    ("case", &["text", "table", "notice", "write", "program"]),
+    (
+        "case",
+        &["text", "table", "operator", "notice", "write", "program"],
+    ),
     ("verdict", &["True", "False", "Bottom"]),
     ("demand 3", &["True", "False", "Bottom"]),
     ("text runs", &["skipped", "whole"]),

@@ -293,11 +293,11 @@ fn real(random: &mut Random) -> String {
     };
     let sign = random.pick(&["", "-"]);
     let size = random.pick(&[0, 1, 2, 5, 10, 20, 21, 22, 23, 24, 25, 999, 1000]);
+    let zeros = random.pick(&["", "", "", "0", "00", "000"]);
     let exponent = match random.below(6) {
-        0 => format!("e{size}"),
-        1 => format!("E+{size}"),
-        2 => format!("e-{size}"),
-        3 if random.once_in(4) => format!("e0{size}"),
+        0 => format!("e{zeros}{size}"),
+        1 => format!("E+{zeros}{size}"),
+        2 => format!("e-{zeros}{size}"),
         _ => String::new(),
     };
     format!("{sign}{whole}.{fraction}{exponent}")
