@@ -35,10 +35,10 @@ type Outcome = Result<(), String>;
 fn same<T: PartialEq + Debug>(
     call: &str,
     inputs: &[(&str, &[u8])],
-    library: T,
+    answered: T,
     reference: T,
 ) -> Outcome {
-    if library == reference {
+    if answered == reference {
         return Ok(());
     }
     let inputs: Vec<String> = inputs
@@ -46,7 +46,7 @@ fn same<T: PartialEq + Debug>(
         .map(|(name, bytes)| format!("  {name}: {:?}\n", Hex(bytes.to_vec())))
         .collect();
     Err(format!(
-        "{call}\n{}  library:   {library:?}\n  reference: {reference:?}",
+        "{call}\n{}  answered:  {answered:?}\n  reference: {reference:?}",
         inputs.concat()
     ))
 }
@@ -314,6 +314,7 @@ impl Case<'_> {
         let length = match self.random.below(16) {
             0 => notice.len() + self.random.between(1, room + 2),
             1 => self.random.below(notice.len() + 1),
+            2 if self.random.once_in(4) => usize::MAX,
             _ => notice.len(),
         };
         let mut length = self.write_field(&mut lent, length, &field)?;
@@ -346,13 +347,13 @@ impl Case<'_> {
     /// One write; the whole buffer and its guards are compared.
     fn write_field(
         &mut self,
-        lent: &mut Vec<u8>,
+        lent: &mut [u8],
         length: usize,
         field: &notices::Field,
     ) -> Result<usize, String> {
         let end = lent.len() - GUARD;
-        let before = lent.clone();
-        let mut meant = lent.clone();
+        let before = lent.to_vec();
+        let mut meant = before.clone();
         let (name, kind, value) = (&field.name[..], field.kind, &field.value[..]);
         let library = virentolex::write(&mut lent[GUARD..end], length, name, kind, value);
         let reference = reference::write(&mut meant[GUARD..end], length, name, kind, value);
@@ -368,7 +369,7 @@ impl Case<'_> {
         same(
             &format!("write, named length {length}, kind {kind}: number, place, length, bytes after with guards"),
             &[("buffer", &before[GUARD..end]), ("name", name), ("value", value)],
-            (library.number, library.place, library.length, Hex(lent.clone())),
+            (library.number, library.place, library.length, Hex(lent.to_vec())),
             (reference.number, reference.place, reference.length, Hex(meant)),
         )?;
         Ok(reference.length)
@@ -450,7 +451,7 @@ mod tests {
         let told = same("call", &[("text", b"a"), ("none", b"")], 1, 2).unwrap_err();
         assert_eq!(
             told,
-            "call\n  text: 61\n  none: -\n  library:   1\n  reference: 2"
+            "call\n  text: 61\n  none: -\n  answered:  1\n  reference: 2"
         );
     }
 

@@ -5,6 +5,7 @@
 
 mod cases;
 mod edges;
+mod expressions;
 mod inputs;
 mod notices;
 mod program;

@@ -111,7 +111,7 @@ pub fn heavy(random: &mut Random) -> Vec<u8> {
         _ => random.between(15_500, 16_384),
     };
     let of_size = |at: usize, size: usize| {
-        let kind = if at % 2 == 0 { 4 } else { 5 };
+        let kind = 4 + (at % 2) as u16;
         Field {
             name: format!("v{at}").into_bytes(),
             kind,

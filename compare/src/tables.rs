@@ -172,7 +172,7 @@ impl Maker<'_> {
             0..=2 if depth < 32 => self.push(),
             3 if self.values > 1 => self.binary(),
             4 if self.values > 0 => self.unary(),
-            5 if self.values > 0 => self.to_logic(),
+            5 if self.values > 0 => self.make_logic(),
             6 if self.values == 0 && self.logic > 0 => self.skip(),
             7 if self.values == 0 && self.logic > 0 => self.on_logic(),
             _ if depth < 32 => self.push(),
@@ -186,7 +186,7 @@ impl Maker<'_> {
         if self.values > 2 {
             self.binary();
         } else if self.values > 0 {
-            self.to_logic();
+            self.make_logic();
         } else {
             self.join_logic();
         }
@@ -258,7 +258,7 @@ impl Maker<'_> {
     }
 
     /// All values on the stack to one logic slot: ops 32..37, 48..54, 56..59.
-    fn to_logic(&mut self) {
+    fn make_logic(&mut self) {
         while self.values > 9 {
             self.binary();
         }
