@@ -3,7 +3,8 @@
  * Link with librouter.a, which `rt staticlib router` writes to target/staticlib/.
  *
  * "Document 01" is the customer's paper. Each function answers its refusal number, or 0 if nothing
- * is refused, and is proved to keep the promise that stands above it here, for all bytes:
+ * is refused. Each is proved, for all bytes, to keep its promise in crates/router/src/lib.rt; what
+ * stands here is that promise in plain words. The numbers:
  *
  *    translating   10 text over 4,096 bytes
  *                   1 a token has no legal form      3 a number or name outside its limits
@@ -14,23 +15,24 @@
  *    tables        12 layout or check fails
  *    notices       11 layout fails
  *    reading       17 no field k
- *    writing       13 name                          16 kind unknown, or size wrong for it
+ *    writing       13 name breaks the rules         16 kind unknown, or size wrong for it
  *                  14 name already there            15 65th field, over 16,384 bytes, or no room
  *
  * What every caller must see to, since nothing checks a caller in C:
  *
  * - A pointer and the length after it are a slice: so many bytes that may be read and, if the
- *   pointer is not const, written. The length may be 0, and then nothing is read or written through
- *   the pointer. No pointer may be NULL, not even that of an empty slice: any address will do there.
- * - A pointer to a single result is aligned for its type. What it points to need not be set before;
- *   every call sets every result.
+ *   pointer is not const, written. With length 0 the pointer may be any, NULL too: nothing is read
+ *   or written through it.
+ * - A pointer to a single result is not NULL and is aligned for its type. What it points to need not
+ *   be set before; every call sets every result.
  * - What a call may write (a buffer, each result) overlaps nothing else that is passed to the call.
  *   Two slices that are only read may overlap.
  * - No other thread writes to what is lent, or reads what the call may write, before the call returns.
  *
- * The functions keep nothing between calls and have no state of their own, so that threads may call
- * them at the same time. They end, use no heap and call nothing but memset. The stack that they take
- * is not part of the proof; STACK below is what was measured, with room to spare.
+ * The functions keep nothing between calls, so that threads may call them at the same time. They end,
+ * use no heap and call nothing but memset. The stack is not part of the proofs. Measured: translating
+ * takes 14 kB for a flat text and 331 kB for the deepest texts tried (24 parentheses, every operator
+ * level and 24 prefix operators between each two), the other functions at most 6 kB.
  */
 #ifndef VIRENTOLEX_H
 #define VIRENTOLEX_H
@@ -58,9 +60,6 @@ extern "C" {
 #define VIRENTOLEX_TEXT_MAX 4096
 #define VIRENTOLEX_TABLE_MAX 10250
 #define VIRENTOLEX_NOTICE_MAX 16384
-
-/* Bytes of stack that suffice for each call. */
-#define VIRENTOLEX_STACK 524288
 
 /*
  * Translates a subscription text to a table.

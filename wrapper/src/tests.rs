@@ -187,3 +187,25 @@ fn empty_slices_are_answered() {
     assert_eq!(read(&[], 0).number, 11);
     assert_eq!(write(&mut [], 0, b"", kind::STRING, b"").number, 11);
 }
+
+#[test]
+fn an_empty_slice_may_have_a_null_pointer() {
+    let null = std::ptr::null();
+    let (mut place, mut length) = (9, 9);
+    let mut buffer = [0xAA; 48];
+    // SAFETY: a slice of length 0 may have any pointer; the buffer and the results are borrowed here
+    // alone.
+    let number = unsafe {
+        library::virentolex_translate(
+            null,
+            0,
+            buffer.as_mut_ptr(),
+            buffer.len(),
+            &mut place,
+            &mut length,
+        )
+    };
+    assert_eq!((number, place, length), (2, 0, 0));
+    // SAFETY: a slice of length 0 may have any pointer.
+    assert_eq!(unsafe { library::virentolex_check(null, 0) }, 12);
+}
