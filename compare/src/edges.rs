@@ -81,8 +81,7 @@ pub fn of_table(table: &[u8]) -> Vec<String> {
 fn most_slots(table: &[u8], count: usize) -> usize {
     let (mut now, mut most) = (0, 0);
     for entry in (0..count).map_while(|at| reference::table::entry(table, 10 + 12 * at)) {
-        let (taken, given) = reference::compile::slots(&entry);
-        now = usize::saturating_sub(now, taken) + given;
+        now = usize::saturating_sub(now, reference::table::operands(&entry)) + 1;
         most = most.max(now);
     }
     most

@@ -4,6 +4,7 @@
 use crate::grammar::{fault, too_deep, tree, Tree};
 use crate::judge::{calls_right, function, kind, Kind};
 use crate::op::Op;
+use crate::table::operands;
 use crate::tokens::tokens;
 use crate::{MOST_ENTRIES, MOST_SLOTS, MOST_TEXT};
 
@@ -104,8 +105,7 @@ fn code_of(tree: &Tree) -> Code {
 
 impl Code {
     fn push(&mut self, op: Op, a: usize, b: u64) {
-        let a = u16::try_from(a).unwrap_or(u16::MAX);
-        self.entries.push(Entry { op, a, b });
+        self.entries.push(Entry { op, a: short(a), b });
     }
 
     /// "Operand names (not functions') and strings enter the pool unescaped, in text order, each time
@@ -146,7 +146,7 @@ impl Code {
         };
         let at = self.entries.len();
         self.add(right);
-        let a = u16::try_from(self.entries.len() - at + 1).unwrap_or(u16::MAX);
+        let a = short(self.entries.len() - at + 1);
         if let Some(op) = skip {
             self.entries.insert(at, Entry { op, a, b: 0 });
         }
@@ -164,21 +164,9 @@ impl Code {
     }
 }
 
-/// How many slots an entry takes and gives.
-pub fn slots(entry: &Entry) -> (usize, usize) {
-    match entry.op {
-        Op::Int32 | Op::Int64 | Op::Real64 | Op::Text | Op::Name => (0, 1),
-        Op::FoldCase | Op::Size | Op::Complement | Op::Not | Op::SkipFalse | Op::SkipTrue => (1, 1),
-        Op::IsInt32
-        | Op::IsInt64
-        | Op::IsReal64
-        | Op::IsText
-        | Op::IsOpaque
-        | Op::IsNan
-        | Op::Require => (1, 1),
-        Op::Begins | Op::Contains | Op::Ends | Op::Equals => (usize::from(entry.a) + 1, 1),
-        _ => (2, 1),
-    }
+/// A length or a count of entries, which a text of 4,096 bytes keeps far below 65,536.
+fn short(size: usize) -> u16 {
+    u16::try_from(size).expect("the text is short")
 }
 
 /// "8: stack over 32": the most slots held at once in the order of the entries.
@@ -186,8 +174,7 @@ fn most_slots(entries: &[Entry]) -> usize {
     let mut now = 0;
     let mut most = 0;
     for entry in entries {
-        let (taken, given) = slots(entry);
-        now = now - taken + given;
+        now = now - operands(entry) + 1;
         most = most.max(now);
     }
     most

@@ -132,6 +132,11 @@ fn step(mut slots: Vec<Kind>, entry: &Entry) -> Option<Vec<Kind>> {
     (slots.len() <= MOST_SLOTS).then_some(slots)
 }
 
+/// How many operands an entry takes; it leaves one slot in their place.
+pub fn operands(entry: &Entry) -> usize {
+    effect(entry).0
+}
+
 /// How many operands an entry takes, of which kind, and the kind it gives.
 fn effect(entry: &Entry) -> (usize, Kind, Kind) {
     use Kind::{Logic, Value};
