@@ -40,12 +40,12 @@ fn fresh() -> Machine
 }
 
 // "44 on a false top and 45 on a true one"
-fn skips_on(skip: Skip, top: Held) -> bool
-    ensures { λ r. ⌜ ((p : List ℕ) → (q : List ℕ) → r ≡ skips skip (truthIn (itemOf p q top))) ⌝ }
+fn skips_on(skip: Skip, top: Truth) -> bool
+    ensures { λ r. ⌜ r ≡ skips skip top ⌝ }
 {
     match skip {
-        Skip::IfFalse => truth::is_false(value::truth_in(top)),
-        Skip::IfTrue => truth::is_true(value::truth_in(top)),
+        Skip::IfFalse => truth::is_false(top),
+        Skip::IfTrue => truth::is_true(top),
     }
 }
 
@@ -53,7 +53,7 @@ fn skips_on(skip: Skip, top: Held) -> bool
 fn stride(skip: Skip, a: u16, top: Held) -> usize
     ensures { λ r. ⌜ ((p : List ℕ) → (q : List ℕ) → r ≡ cond (skips skip (truthIn (itemOf p q top))) (a + 1) 1) × (r ≤ a + 1) ⌝ }
 {
-    if skips_on(skip, top) {
+    if skips_on(skip, value::truth_in(top)) {
         (a as usize) + 1
     } else {
         1

@@ -24,6 +24,8 @@ use Rattle.grammar.specs.Size.{countOf}
 use Rattle.grammar.specs.Judge.{callRight, takesName, takesTexts, takesValues, takesFolded, isName, isText, isFolding, firstOf, laterTexts, formsRight, formsIn}
 use Rattle.grammar.specs.declared.found.Form.{Form}
 use Rattle.grammar.proofs.Streams.{ranks, rank-high}
+use Rattle.translator.proofs.Entries.{TokenRight}
+use Rattle.translator.proofs.Derived.{AllRight, all-left, all-rest}
 use Rattle.router.specs.Agree.{LeafMade, CallMade, Made, MadeIn}
 
 -- ---- ops by their numbers
@@ -166,24 +168,7 @@ call-made f count form texts e = go (ℕ-discrete f 6) (ℕ-discrete f 59) (leb 
 
 -- ---- trees
 
--- a token within its limits; a symbol's kind is none of the other tokens'
-abbrev pub Limited : Token → Type 0
-Limited (name s escaped) = Unit {0}
-Limited (int32 z) = mir.Val.SFits mir.Syntax.w32 z
-Limited (int64 z) = mir.Val.SFits mir.Syntax.w64 z
-Limited (real x) = T (lib.Ieee.fits lib.Ieee.binary64 x)
-Limited (text s) = Unit {0}
-Limited (symbol k) = 7 < k
-
-abbrev pub AllLimited : List Token → Type 0
-AllLimited [] = Unit {0}
-AllLimited (x ∷ xs) = Limited x × AllLimited xs
-
-limited-parts : (xs ys : List Token) → AllLimited (xs ++ ys) → AllLimited xs × AllLimited ys
-limited-parts [] ys h = (tt, h)
-limited-parts (x ∷ xs) ys h = let r = limited-parts xs ys (h .1) in ((h .0, r .0), r .1)
-
-leaf-made : (x : Token) → kindOf x ≤ 5 → Limited x → LeafMade x
+leaf-made : (x : Token) → kindOf x ≤ 5 → TokenRight x → LeafMade x
 leaf-made (name s escaped) e l = tt
 leaf-made (int32 z) e l = l
 leaf-made (int64 z) e l = l
@@ -194,38 +179,38 @@ leaf-made (symbol k) e l = omega arith
 mutual
   unfolding Made formsRight
 
-  made-level : (l : ℕ) (xs : List Token) (t : Tree) → Level l xs t → AllLimited xs → formsRight t ≡ true → Made t
+  made-level : (l : ℕ) (xs : List Token) (t : Tree) → Level l xs t → AllRight xs → formsRight t ≡ true → Made t
   made-level l zs v (operator x {k = k} {xs = xs} {ys = ys} {t = t} {u = u} k0 r lt d e q) h f =
-      let p = limited-parts xs (x ∷ ys) (rw (← q) at h) in
+      let p = rw (← q) at h in
       let g = and-parts (formsRight t) (formsRight u) f in
-      (ranked k (omega arith), made-level l xs t d (p .0) (g .0), made-level (suc l) ys u e (p .1 .1) (g .1))
+      (ranked k (omega arith), made-level l xs t d (all-left xs (x ∷ ys) p) (g .0), made-level (suc l) ys u e (all-rest xs (x ∷ ys) p .1) (g .1))
   made-level l xs t (tighter lt d) h f = made-level (suc l) xs t d h f
   made-level l xs t (tightest d) h f = made-prefix xs t d h f
 
-  made-prefix : (xs : List Token) (t : Tree) → Prefix xs t → AllLimited xs → formsRight t ≡ true → Made t
+  made-prefix : (xs : List Token) (t : Tree) → Prefix xs t → AllRight xs → formsRight t ≡ true → Made t
   made-prefix zs v (applied {x} {k} {xs} {t} k0 q d) h f = (prefixed k q, made-prefix xs t d (h .1) f)
   made-prefix xs t (plain d) h f = made-operand xs t d h f
 
-  made-operand : (xs : List Token) (t : Tree) → Operand xs t → AllLimited xs → formsRight t ≡ true → Made t
+  made-operand : (xs : List Token) (t : Tree) → Operand xs t → AllRight xs → formsRight t ≡ true → Made t
   made-operand xs t (a-literal {x} q) h f =
       let b = leb-true (kindOf x) 4 (and-parts (leb 1 (kindOf x)) (leb (kindOf x) 4) q .1) in
       leaf-made x (omega arith) (h .0)
   made-operand xs t (a-name {x} q) h f = leaf-made x (omega arith) (h .0)
   made-operand zs v (a-group o c {xs} {t = t} a b d q) h f =
-      let p = rw (← q) at h in made-level 0 xs t d (limited-parts xs (c ∷ []) (p .1) .0) f
+      let p = rw (← q) at h in made-level 0 xs t d (all-left xs (c ∷ []) (p .1)) f
   made-operand xs t (a-call-none {x} a b c) h f = (call-made (functionOf x) (countOf none) (firstOf none) (laterTexts none) f, tt)
   made-operand zs v (a-call o c {x} {xs} {ts = ts} a b e d q) h f =
       let p = rw (← q) at h in
       let g = and-parts (formsIn ts) (callRight (functionOf x) (firstOf ts) (countOf ts) (laterTexts ts)) f in
-      (call-made (functionOf x) (countOf ts) (firstOf ts) (laterTexts ts) (g .1), made-arguments xs ts d (limited-parts xs (c ∷ []) (p .1 .1) .0) (g .0))
+      (call-made (functionOf x) (countOf ts) (firstOf ts) (laterTexts ts) (g .1), made-arguments xs ts d (all-left xs (c ∷ []) (p .1 .1)) (g .0))
 
-  made-arguments : (xs : List Token) (ts : Trees) → Arguments xs ts → AllLimited xs → formsIn ts ≡ true → MadeIn ts
+  made-arguments : (xs : List Token) (ts : Trees) → Arguments xs ts → AllRight xs → formsIn ts ≡ true → MadeIn ts
   made-arguments xs us (first {t = t} d) h f = (tt, made-level 0 xs t d h f)
   made-arguments zs us (next m {xs} {ys} {ts = ts} {t = t} k a d q) h f =
-      let p = limited-parts xs (m ∷ ys) (rw (← q) at h) in
+      let p = rw (← q) at h in
       let g = and-parts (formsIn ts) (formsRight t) f in
-      (made-arguments xs ts a (p .0) (g .0), made-level 0 ys t d (p .1 .1) (g .1))
+      (made-arguments xs ts a (all-left xs (m ∷ ys) p) (g .0), made-level 0 ys t d (all-rest xs (m ∷ ys) p .1) (g .1))
 
 -- The tree of tokens within their limits to which refusal 4 does not apply.
-pub accepted-made : (xs : List Token) (t : Tree) → Level 0 xs t → AllLimited xs → formsRight t ≡ true → Made t
+pub accepted-made : (xs : List Token) (t : Tree) → Level 0 xs t → AllRight xs → formsRight t ≡ true → Made t
 accepted-made xs t d h f = made-level 0 xs t d h f

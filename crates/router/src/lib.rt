@@ -1,4 +1,5 @@
-// Translation, check and run together: theorems in specs/ and proofs/, and here the functions of the static library, which C and Rust call (include/virentolex.h).
+// Translation, check and run together. Demand 3 is stated in specs/Demand.antt and proved in proofs/Demand.antt; `match_text` of matching.rt carries it.
+// Here are the functions of the static library, which C and Rust call (include/virentolex.h).
 // Each calls one function of the crates below, answers document 01's number, 0 if nothing is refused, and stores what else there is to say through the references that it is lent.
 ghost use mathlib.Core.Path.{_≡_};
 ghost use lib.ListN.{length};
@@ -11,6 +12,8 @@ ghost use Rattle.notice.specs.Write.{field, writtenOf, writtenBytes};
 ghost use Rattle.interpreter.specs.Running.{runningOf};
 use notice::Layout;
 use truth::Truth;
+
+pub mod matching;
 
 // "Translation answers number, place and table length, 0 if refused." A table stands at the buffer's start; a refusal changes no byte.
 #[no_mangle]

@@ -21,11 +21,11 @@ abbrev pub AllRight : List Token → Type 0
 AllRight [] = Unit {0}
 AllRight (x ∷ xs) = TokenRight x × AllRight xs
 
-all-left : (xs ys : List Token) → AllRight (xs ++ ys) → AllRight xs
+pub all-left : (xs ys : List Token) → AllRight (xs ++ ys) → AllRight xs
 all-left [] ys h = tt
 all-left (x ∷ xs) ys h = (h .0, all-left xs ys (h .1))
 
-all-rest : (xs ys : List Token) → AllRight (xs ++ ys) → AllRight ys
+pub all-rest : (xs ys : List Token) → AllRight (xs ++ ys) → AllRight ys
 all-rest [] ys h = h
 all-rest (x ∷ xs) ys h = all-rest xs ys (h .1)
 

@@ -22,7 +22,7 @@ use Rattle.grammar.specs.Answer.{foundOf}
 use Rattle.grammar.specs.declared.found.Found.{Found}
 use Rattle.translator.specs.Compile.{codeOf, bytesOf, compile}
 use Rattle.translator.specs.Pool.{broughtFrom}
-use Rattle.translator.specs.Emit.{placeOf, Accepts, Writes, Judged, Filled, Known, headerBytes, refusalBy}
+use Rattle.translator.specs.Emit.{placeOf, Accepts, Writes, Judged, Filled, Known, tableAnswer, headerBytes, refusalBy}
 use Rattle.translator.specs.Translation.{refusalOf, ofTree, refusal, answerOf, Answers, ofResult}
 use Rattle.translator.specs.declared.Emitted.{Emitted}
 use Rattle.translator.specs.declared.Translated.{Translated}
@@ -172,13 +172,13 @@ module _ {ks : List Token} {f : Found} (k : Known ks f) (room : ℕ) {n : ℕ} (
       let p = ap (λ (g : Found). g .pool) h in
       record { tree = k .tree; is-ok = k .is-ok; entries-are = sym e; pool-is = sym p; few = fr .few; small = omega (arith, p, k .small); room = fr .fits }
 
-  pub answers-table : (long : ℕ) (starts : List ℕ) {was now : List ℕ} {m : ℕ} → n ≡ 0 → m ≡ 10 + 12 * f .entries + f .pool → Filled ks was now
-      → Answers (ofResult long starts room (parseAll ks)) was now (record { number = 0; place = 0; length = m })
+  pub answers-table : (long : ℕ) (starts : List ℕ) {was now : List ℕ} {r : Translated} → n ≡ 0 → r ≡ tableAnswer (f .entries) (f .pool) → Filled ks was now
+      → Answers (ofResult long starts room (parseAll ks)) was now r
   unfolding ofResult ofTree
-  answers-table long starts {was} {now} {m} z e w =
+  answers-table long starts {was} z e w =
       let t = k .tree in
       let same : w .tree ≡ t = let x = w .is-ok in let y = k .is-ok in cc in
       let a = ap (λ (g : Found). g .entries) (k .has) in
       let b = ap (λ (g : Found). g .pool) (k .has) in
-      let len : m ≡ length (encode (compile t)) = omega (arith, table-size t, a, b, e) in
-      rw (k .is-ok, number-is, z) (record { answer = ap (λ (x : ℕ). record { number = 0; place = 0; length = x }) len; bytes = w .bytes ∙ ap (λ (u : Tree). sets was 0 (encode (compile u))) same })
+      let len : placeOf (f .entries) + f .pool ≡ length (encode (compile t)) = omega (arith, table-size t, a, b) in
+      rw (k .is-ok, number-is, z) (record { answer = e ∙ ap (λ (x : ℕ). record { number = 0; place = 0; length = x }) len; bytes = w .bytes ∙ ap (λ (u : Tree). sets was 0 (encode (compile u))) same })

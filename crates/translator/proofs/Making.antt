@@ -79,11 +79,9 @@ module _ (s : List ℕ) (k o from end : ℕ) (e : o ≡ skipOp k) where
       → now ≡ sets (sets s (placeOf from) (entriesBytes (skipEntries k (end - from - 1)))) (placeOf end) (entryBytes (entry k 0 0))
   operator-alone z ex q = q ∙ rw (no-skip k o e z .1 (end - from - 1), entries-none, ex)
 
-  pub operator-skip : {mid now : List ℕ} {x y : Entry} → (o ≡ 0 → ⊥) → from < end → y ≡ entry o (end - from) 0 → mid ≡ sets s (placeOf from) (entryBytes y) → x ≡ entry k 0 0 → now ≡ sets mid (placeOf end) (entryBytes x)
+  pub operator-skip : {mid now : List ℕ} {x y : Entry} → (o ≡ 0 → ⊥) → y ≡ entry o (end - from - 1 + 1) 0 → mid ≡ sets s (placeOf from) (entryBytes y) → x ≡ entry k 0 0 → now ≡ sets mid (placeOf end) (entryBytes x)
       → now ≡ sets (sets s (placeOf from) (entriesBytes (skipEntries k (end - from - 1)))) (placeOf end) (entryBytes (entry k 0 0))
-  operator-skip z h ey p ex q =
-      let n : end - from - 1 + 1 ≡ end - from = omega arith in
-      q ∙ rw (some-skip k o e z .1 (end - from - 1), entries-one (entry o (end - from - 1 + 1) 0), n, p, ex, ey)
+  operator-skip z ey p ex q = q ∙ rw (some-skip k o e z .1 (end - from - 1), entries-one (entry o (end - from - 1 + 1) 0), p, ex, ey)
 
 -- ---- literals, names and calls
 

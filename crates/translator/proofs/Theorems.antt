@@ -142,7 +142,7 @@ module _ (s : List ℕ) (t : Tree) (b : Bytes s) (a : Accepted s t) where
   whole-sound : sound.Sound t
   whole-sound = level-sound (a .derived) (lexed-text s (a .placed) b (a .lexed) .right) (a .forms) (a .kinds)
 
-  pool-small : poolOf t ≤ 4096
+  pub pool-small : poolOf t ≤ 4096
   pool-small =
       let ks = map (λ p. p .token) (a .placed) in
       let l = whole-level ks (parsed s t a) .0 in

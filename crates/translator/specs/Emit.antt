@@ -16,6 +16,7 @@ use Rattle.grammar.specs.Answer.{foundOf}
 use Rattle.grammar.specs.declared.found.Found.{Found}
 use Rattle.translator.specs.Compile.{codeOf, compile}
 use Rattle.translator.specs.declared.Emitted.{Emitted}
+use Rattle.translator.specs.declared.Translated.{Translated}
 
 -- "N entries of 12 bytes" after the header of 10: where the entry i stands
 abbrev pub placeOf : ℕ → ℕ
@@ -64,6 +65,10 @@ pub record Known (ks : List Token) (f : Found) : Type 0 where
   pub is-ok : parseAll ks ≡ ok tree (length ks)
   pub has : foundOf tree ≡ f
   pub small : poolOf tree ≤ 4096
+
+-- the answer of a table of so many entries and pool bytes
+abbrev pub tableAnswer : ℕ → ℕ → Translated
+tableAnswer entries pool = record { number = 0; place = 0; length = placeOf entries + pool }
 
 -- "u32 length of all after it; u16 kind 2; u16 entry count N ..; u16 pool length .."
 abbrev pub headerBytes : ℕ → ℕ → List ℕ

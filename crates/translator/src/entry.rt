@@ -115,6 +115,14 @@ pub fn after_skip(k: u8, i: usize) -> usize
     if skip_op(k) == 0 { i } else { i + 1 }
 }
 
+// The skip before a right side of n entries: "a is R's entries plus 1".
+fn skip_entry(skip: u16, n: usize) -> Entry
+    requires { ⌜ n < 4096 ⌝ }
+    ensures { λ r. ⌜ r ≡ entry skip (n + 1) 0 ⌝ }
+{
+    part_entry(skip, n + 1, 0)
+}
+
 // Writes a binary operator as the entry `end`, and the skip, if it has one, as the entry `from`, before its right side.
 pub fn put_operator(out: &mut [u8], k: u8, from: usize, end: usize)
     requires { ⌜ (from < end) × (end < 512) × (placeOf (end + 1) ≤ length (now out)) ⌝ }
@@ -125,6 +133,6 @@ pub fn put_operator(out: &mut [u8], k: u8, from: usize, end: usize)
         put(out, end, operator_entry(k));
         return;
     }
-    put(out, from, part_entry(skip, end - from, 0));
+    put(out, from, skip_entry(skip, end - from - 1));
     put(out, end, operator_entry(k));
 }

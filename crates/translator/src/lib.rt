@@ -5,7 +5,7 @@ ghost use lib.ListN.{length, getD};
 ghost use lib.Seq.{sets};
 ghost use Rattle.grammar.specs.Parse.{levelOf, prefixOf, operandOf, parseAll};
 ghost use Rattle.grammar.specs.Stream.{tokensIn};
-ghost use Rattle.translator.specs.Emit.{Accepts, Writes, Judged, Filled, Known, headerBytes, refusalBy};
+ghost use Rattle.translator.specs.Emit.{Accepts, Writes, Judged, Filled, Known, tableAnswer, headerBytes, refusalBy};
 ghost use Rattle.translator.specs.Translation.{refusal, answerOf, ofResult, ofTokens, translationOf, Answers, Small};
 use grammar::Found;
 use grammar::Parsed;
@@ -181,7 +181,7 @@ fn put_header(out: &mut [u8], entries: usize, names: usize)
     word::write_u16(out, 8, names as u16);
 }
 
-// The whole table, once all is judged.
+// The whole table: header, entries, pool.
 fn put_table(
     text: &[u8],
     kinds: &[u8],
@@ -249,6 +249,27 @@ fn place_of(text: &[u8], starts: &[u16], p: usize) -> usize
     }
 }
 
+// Writes the table over the start of the buffer, once all is judged, and answers its length.
+fn accepted(
+    text: &[u8],
+    kinds: &[u8],
+    starts: &[u16],
+    buffer: &mut [u8],
+    entries: usize,
+    names: usize,
+) -> Translated
+    requires { ⌜ (length (now text) ≤ 4096) × (length (now kinds) ≤ 4096) × Judged (tokensIn (now text) (now kinds) (now starts)) entries names (length (now buffer)) ⌝ }
+    ensures { λ r. ⌜ r ≡ tableAnswer entries names ⌝ }
+    ensures { λ _. ⌜ Filled (tokensIn (now (text .entry)) (now (kinds .entry)) (now (starts .entry))) (now (buffer .entry)) (now (buffer .exit)) ⌝ }
+{
+    put_table(text, kinds, starts, buffer, entries, names);
+    Translated {
+        number: 0,
+        place: 0,
+        length: 10 + 12 * entries + names,
+    }
+}
+
 // Of an expression: all is judged before the first byte is written.
 fn expression(text: &[u8], kinds: &[u8], starts: &[u16], buffer: &mut [u8], f: Found) -> Translated
     requires { ⌜ (length (now text) ≤ 4096) × (length (now kinds) ≤ 4096) × Known (tokensIn (now text) (now kinds) (now starts)) f ⌝ }
@@ -258,14 +279,7 @@ fn expression(text: &[u8], kinds: &[u8], starts: &[u16], buffer: &mut [u8], f: F
     if number != 0 {
         return refused(number, 0);
     }
-    let entries = f.entries;
-    let names = f.pool;
-    put_table(text, kinds, starts, buffer, entries, names);
-    Translated {
-        number: 0,
-        place: 0,
-        length: 10 + 12 * entries + names,
-    }
+    accepted(text, kinds, starts, buffer, f.entries, f.pool)
 }
 
 // Of the tokens of a text. It asks that the pool of what they say is within the limits, which holds of every text's tokens.

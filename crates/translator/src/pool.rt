@@ -1,11 +1,19 @@
 // The pool: one linear pass over the tokens.
 ghost use mathlib.Core.Path.{_≡_};
 ghost use Prim.Native.Nat.{_+_, _≤_, _<_};
-ghost use lib.ListN.{length};
+ghost use lib.ListN.{length, getD};
 ghost use lib.Seq.{sets};
 ghost use Rattle.grammar.specs.Stream.{tokensIn};
 ghost use Rattle.translator.specs.Pool.{broughtAt, broughtFrom};
 use grammar::stream;
+
+// The kind of the token after the token i: a name before `(` is a function's, and brings nothing.
+fn kind_after(kinds: &[u8], i: usize) -> u8
+    requires { ⌜ i < length (now kinds) ⌝ }
+    ensures { λ r. ⌜ r ≡ getD (now (kinds .entry)) (i + 1) 99 ⌝ }
+{
+    stream::kind(kinds, i + 1)
+}
 
 // Copies what the token i brings to the buffer, from `at` on, and answers where it ends.
 fn put_brought(
@@ -29,7 +37,7 @@ fn put_brought(
     if k != 5 {
         return at;
     }
-    if stream::kind(kinds, i + 1) == 9 {
+    if kind_after(kinds, i) == 9 {
         return at;
     }
     lexer::copy_name(text, s, &mut out[at..]);

@@ -108,8 +108,9 @@ met c =
     (λ w.
     let o = op-is d (w .1 .given .1) in
     let k = w .1 .given .0 .0 in
+    let own : itemOf p q (w .3 .result) ≡ loadOf p q k (e .result .a) (e .result .b) = w .3 .ensures in
     rw (w .4, w .5)
-    (rw sub-zero at (load-law l b z (w .3 .result) o (w .3 .ensures ∙ ap (λ (x : Entry). loadOf p q k (x .a) (x .b)) (e .ensures))), rw sub-zero at (room l b (Op.Load k) o .1)))
+    (rw sub-zero at (load-law l b z (w .3 .result) o (own ∙ ap (λ (x : Entry). loadOf p q k (x .a) (x .b)) (e .ensures))), rw sub-zero at (room l b (Op.Load k) o .1)))
     (⊎-elim
     (λ w.
     let o = op-is d (w .1 .given .1) in

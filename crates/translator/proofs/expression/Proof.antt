@@ -1,5 +1,5 @@
 use native.Mathlib.Omega.{arith}
-use mathlib.Core.Path.{_≡_, sym, ap, _∙_, subst, refl}
+use mathlib.Core.Path.{_≡_, sym, ap, _∙_, subst}
 use Prim.Native.Nat.{ℕ, _≤_, _+_, _*_}
 use lib.ListN.{length}
 use lib.Seq.{length-sets}
@@ -11,7 +11,7 @@ use Rattle.translator.proofs.expression.Tie as tie
 use Rattle.translator.proofs.expression.Reads as reads
 use Rattle.translator.proofs.expression.Lts as lts
 use Rattle.translator.proofs.first_refusal.Reads as first-refusal-reads
-use Rattle.translator.proofs.put_table.Reads as put-table-reads
+use Rattle.translator.proofs.accepted.Reads as accepted-reads
 use Rattle.translator.proofs.refused.Reads as refused-reads
 
 -- src/lib.rt:250:9
@@ -29,40 +29,21 @@ returns c =
     let a = c .before .before .before .before .before .before .before .args in
     answers-refused (c .before .before .before .before .before .before .before .pre .2) (length (a .buffer .now)) (c .before .before .first-refusal .ensures) (length (a .text .now)) (a .starts .now) (c .before .if1 .taken) (c .refused .ensures)
 
--- src/lib.rt:256:5
-put-table-requires : tie.Need-put-table-requires
-put-table-requires c κs =
+-- src/lib.rt:282:5
+accepted-requires : tie.Need-accepted-requires
+accepted-requires c κs =
     let a = c .before .before .before .before .before .before .before .args in
     (c .before .before .before .before .before .before .before .pre .0, c .before .before .before .before .before .before .before .pre .1, judged (c .before .before .before .before .before .before .before .pre .2) (length (a .buffer .now)) (c .before .before .first-refusal .ensures) (c .before .if1 .left))
 
--- src/lib.rt:260:22
-mul-t9 : tie.Need-mul-t9
-mul-t9 c =
-    let a = c .before .before .before .before .before .before .before .before .before .before .args in
-    omega (arith, judged (c .before .before .before .before .before .before .before .before .before .before .pre .2) (length (a .buffer .now)) (c .before .before .before .before .before .first-refusal .ensures) (c .before .before .before .before .if1 .left) .few)
-
--- src/lib.rt:260:17
-add-t14 : tie.Need-add-t14
-add-t14 c =
-    let a = c .before .before .before .before .before .before .before .before .before .before .args in
-    omega (arith, judged (c .before .before .before .before .before .before .before .before .before .before .pre .2) (length (a .buffer .now)) (c .before .before .before .before .before .first-refusal .ensures) (c .before .before .before .before .if1 .left) .few)
-
--- src/lib.rt:260:17
-add-t15 : tie.Need-add-t15
-add-t15 c =
-    let a = c .before .before .before .before .before .before .before .before .before .before .args in
-    let j = judged (c .before .before .before .before .before .before .before .before .before .before .pre .2) (length (a .buffer .now)) (c .before .before .before .before .before .first-refusal .ensures) (c .before .before .before .before .if1 .left) in
-    omega (arith, j .few, j .small)
-
--- src/lib.rt:246:1
+-- src/lib.rt:274:1
 same-length : tie.Need-same-length
 same-length c = search needs
 
--- src/lib.rt:246:1
+-- src/lib.rt:274:1
 returns-2 : tie.Need-returns-2
 returns-2 c =
     let a = c .before .before .before .before .before .before .before .before .before .before .args in
-    answers-table (c .before .before .before .before .before .before .before .before .before .before .pre .2) (length (a .buffer .now)) (c .before .before .before .before .before .first-refusal .ensures) (length (a .text .now)) (a .starts .now) (c .before .before .before .before .if1 .left) refl (c .before .before .put-table .ensures)
+    answers-table (c .before .before .before .before .before .before .before .before .before .before .pre .2) (length (a .buffer .now)) (c .before .before .before .before .before .first-refusal .ensures) (length (a .text .now)) (a .starts .now) (c .before .before .before .before .if1 .left) (c .before .before .accepted .ensures .0) (c .before .before .accepted .ensures .1)
 
 pub expression-spec : {M : Type 1} → statement M
 expression-spec =
@@ -71,9 +52,6 @@ expression-spec =
     first-refusal-requires
     refused-requires
     returns
-    put-table-requires
-    mul-t9
-    add-t14
-    add-t15
+    accepted-requires
     same-length
     returns-2)

@@ -9,7 +9,7 @@ use Rattle.translator.proofs.entry.put_operator.Tie as tie
 use Rattle.translator.proofs.entry.put_operator.Reads as reads
 use Rattle.translator.proofs.entry.put_operator.Lts as lts
 use Rattle.translator.proofs.entry.operator_entry.Reads as operator-entry-reads
-use Rattle.translator.proofs.entry.part_entry.Reads as part-entry-reads
+use Rattle.translator.proofs.entry.skip_entry.Reads as skip-entry-reads
 use Rattle.translator.proofs.entry.put.Reads as put-reads
 use Rattle.translator.proofs.entry.skip_op.Reads as skip-op-reads
 
@@ -35,13 +35,17 @@ returns c =
     let a = c .before .before .before .before .before .before .before .before .args in
     operator-alone (a .out .now) (a .k) _ (a .from) (a .end) (c .before .before .before .before .before .before .skip-op .ensures) (c .before .before .before .before .before .if1 .taken) (c .before .before .before .operator-entry .ensures) (c .before .before .put .ensures)
 
--- src/entry.rt:128:37
-sub-part-entry : tie.Need-sub-part-entry
-sub-part-entry c = search needs
+-- src/entry.rt:136:38
+sub-skip-entry : tie.Need-sub-skip-entry
+sub-skip-entry c = search needs
 
--- src/entry.rt:128:20
-part-entry-requires : tie.Need-part-entry-requires
-part-entry-requires c κs = search needs
+-- src/entry.rt:136:38
+sub-skip-entry-2 : tie.Need-sub-skip-entry-2
+sub-skip-entry-2 c = search needs
+
+-- src/entry.rt:136:20
+skip-entry-requires : tie.Need-skip-entry-requires
+skip-entry-requires c κs = search needs
 
 -- src/entry.rt:128:5
 put-requires-2 : tie.Need-put-requires-2
@@ -63,7 +67,7 @@ same-length-2 c = search needs
 returns-2 : tie.Need-returns-2
 returns-2 c =
     let a = c .before .before .before .before .before .before .before .before .before .before .before .before .before .args in
-    operator-skip (a .out .now) (a .k) _ (a .from) (a .end) (c .before .before .before .before .before .before .before .before .before .before .before .skip-op .ensures) (c .before .before .before .before .before .before .before .before .before .before .if1 .left) (c .before .before .before .before .before .before .before .before .before .before .before .before .before .pre .0) (c .before .before .before .before .before .before .before .before .part-entry .ensures) (c .before .before .before .before .before .before .before .put2 .ensures) (c .before .before .before .operator-entry2 .ensures) (c .before .before .put3 .ensures)
+    operator-skip (a .out .now) (a .k) _ (a .from) (a .end) (c .before .before .before .before .before .before .before .before .before .before .before .skip-op .ensures) (c .before .before .before .before .before .before .before .before .before .before .if1 .left) (c .before .before .before .before .before .before .before .before .skip-entry .ensures) (c .before .before .before .before .before .before .before .put2 .ensures) (c .before .before .before .operator-entry2 .ensures) (c .before .before .put3 .ensures)
 
 pub put-operator-spec : {M : Type 1} → statement M
 put-operator-spec =
@@ -74,8 +78,9 @@ put-operator-spec =
     put-requires
     same-length
     returns
-    sub-part-entry
-    part-entry-requires
+    sub-skip-entry
+    sub-skip-entry-2
+    skip-entry-requires
     put-requires-2
     operator-entry-requires-2
     put-requires-3

@@ -16,6 +16,7 @@ use Rattle.lexer.proofs.copy_name.Reads as copy-name-reads
 use Rattle.lexer.proofs.copy_string.Reads as copy-string-reads
 use Rattle.lexer.proofs.name_length.Reads as name-length-reads
 use Rattle.lexer.proofs.string_length.Reads as string-length-reads
+use Rattle.translator.proofs.pool.kind_after.Reads as kind-after-reads
 
 -- src/pool.rt:16:9
 kind-requires : tie.Need-kind-requires
@@ -70,19 +71,15 @@ returns-2 c =
     let b = bring-none (a .text .now) (a .kinds .now) (a .starts .now) (a .i) (c .before .before .before .kind .ensures) (c .before .before .start .ensures) (c .before .if1 .left) (c .if2 .taken) in
     (omega (arith, ap length b), rw b)
 
--- src/pool.rt:25:28
-add-kind : tie.Need-add-kind
-add-kind c = search needs
-
 -- src/pool.rt:25:8
-kind-requires-2 : tie.Need-kind-requires-2
-kind-requires-2 c κs = search needs
+kind-after-requires : tie.Need-kind-after-requires
+kind-after-requires c κs = search needs
 
 -- src/pool.rt:26:9
 returns-3 : tie.Need-returns-3
 returns-3 c =
     let a = c .before .before .before .before .before .before .before .before .before .before .args in
-    let b = bring-called (a .text .now) (a .kinds .now) (a .starts .now) (a .i) (c .before .before .before .before .before .kind .ensures) (c .before .before .before .before .start .ensures) (c .before .before .if2 .left) (c .before .kind2 .ensures) (c .if3 .taken) in
+    let b = bring-called (a .text .now) (a .kinds .now) (a .starts .now) (a .i) (c .before .before .before .before .before .kind .ensures) (c .before .before .before .before .start .ensures) (c .before .before .if2 .left) (c .before .kind-after .ensures) (c .if3 .taken) in
     (omega (arith, ap length b), rw b)
 
 -- src/pool.rt:28:31
@@ -109,7 +106,7 @@ name-length-requires c κs = search needs
 add-result-2 : tie.Need-add-result-2
 add-result-2 c =
     let a = c .before .before .before .before .before .before .before .before .before .before .before .before .before .before .before .args in
-    let b = ap length (bring-name (a .text .now) (a .kinds .now) (a .starts .now) (a .i) (c .before .before .before .before .before .before .before .before .before .before .kind .ensures) (c .before .before .before .before .before .before .before .before .before .start .ensures) (c .before .before .before .before .before .before .before .if2 .left) (c .before .before .before .before .before .before .kind2 .ensures) (c .before .before .before .before .before .if3 .left)) in
+    let b = ap length (bring-name (a .text .now) (a .kinds .now) (a .starts .now) (a .i) (c .before .before .before .before .before .before .before .before .before .before .kind .ensures) (c .before .before .before .before .before .before .before .before .before .start .ensures) (c .before .before .before .before .before .before .before .if2 .left) (c .before .before .before .before .before .before .kind-after .ensures) (c .before .before .before .before .before .if3 .left)) in
     omega (arith, b, c .name-length .ensures, c .before .before .before .before .before .before .before .before .before .before .before .before .before .before .before .pre .1)
 
 -- src/pool.rt:11:1
@@ -120,7 +117,7 @@ same-length-2 c = search needs
 returns-4 : tie.Need-returns-4
 returns-4 c =
     let a = c .before .before .before .before .before .before .before .before .before .before .before .before .before .before .before .args in
-    let b = bring-name (a .text .now) (a .kinds .now) (a .starts .now) (a .i) (c .before .before .before .before .before .before .before .before .before .before .kind .ensures) (c .before .before .before .before .before .before .before .before .before .start .ensures) (c .before .before .before .before .before .before .before .if2 .left) (c .before .before .before .before .before .before .kind2 .ensures) (c .before .before .before .before .before .if3 .left) in
+    let b = bring-name (a .text .now) (a .kinds .now) (a .starts .now) (a .i) (c .before .before .before .before .before .before .before .before .before .before .kind .ensures) (c .before .before .before .before .before .before .before .before .before .start .ensures) (c .before .before .before .before .before .before .before .if2 .left) (c .before .before .before .before .before .before .kind-after .ensures) (c .before .before .before .before .before .if3 .left) in
     (omega (arith, ap length b, c .name-length .ensures), rest-put (a .out .now) _ (nameAt (a .text .now) (c .before .before .before .before .before .before .before .before .before .start .result)) (a .at) (omega (arith, c .before .before .before .before .before .before .before .before .before .before .before .before .before .before .before .pre .1)) (c .before .before .before .copy-name .ensures) ∙ ap (sets (a .out .now) (a .at)) (sym b))
 
 pub put-brought-spec : {M : Type 1} → statement M
@@ -138,8 +135,7 @@ put-brought-spec =
     same-length
     returns
     returns-2
-    add-kind
-    kind-requires-2
+    kind-after-requires
     returns-3
     sub-copy-name
     part-copy-name-start

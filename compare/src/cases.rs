@@ -1,0 +1,468 @@
+//! The kinds of cases: inputs from the generator, given to the static library and to the second
+//! implementation, and every answer and lent byte compared.
+
+use crate::random::Random;
+use crate::tally::Tally;
+use crate::{edges, inputs, notices, program, tables, texts, words};
+use reference::Truth;
+use std::collections::BTreeSet;
+use std::fmt::{Debug, Formatter};
+
+/// Bytes that print as hex.
+#[derive(Clone, PartialEq)]
+struct Hex(Vec<u8>);
+
+impl Debug for Hex {
+    fn fmt(&self, f: &mut Formatter<'_>) -> std::fmt::Result {
+        if self.0.is_empty() {
+            return f.write_str("-");
+        }
+        self.0.iter().try_for_each(|byte| write!(f, "{byte:02x}"))
+    }
+}
+
+/// One case under way.
+pub struct Case<'a> {
+    pub random: Random,
+    pub tally: &'a mut Tally,
+    /// The path of the program `verdict`.
+    pub program: &'a str,
+}
+
+type Outcome = Result<(), String>;
+
+/// The inputs and both answers, if these differ.
+fn same<T: PartialEq + Debug>(
+    call: &str,
+    inputs: &[(&str, &[u8])],
+    answered: T,
+    reference: T,
+) -> Outcome {
+    if answered == reference {
+        return Ok(());
+    }
+    let inputs: Vec<String> = inputs
+        .iter()
+        .map(|(name, bytes)| format!("  {name}: {:?}\n", Hex(bytes.to_vec())))
+        .collect();
+    Err(format!(
+        "{call}\n{}  answered:  {answered:?}\n  reference: {reference:?}",
+        inputs.concat()
+    ))
+}
+
+/// Bytes kept before and after each lent buffer, which must stay.
+const GUARD: usize = 16;
+
+/// A buffer of that length with a pattern, between guards.
+fn patterned(length: usize, salt: usize) -> Vec<u8> {
+    (0..length + 2 * GUARD)
+        .map(|at| (at * 7 + salt) as u8)
+        .collect()
+}
+
+fn truth(verdict: virentolex::Verdict) -> Truth {
+    match verdict {
+        virentolex::Verdict::False => Truth::False,
+        virentolex::Verdict::Bottom => Truth::Bottom,
+        virentolex::Verdict::True => Truth::True,
+    }
+}
+
+/// The kinds in turn, by the case's number.
+const KINDS: [&str; 20] = [
+    "text", "table", "notice", "write", "text", "operator", "text", "notice", "text", "table",
+    "text", "write", "text", "table", "notice", "text", "write", "text", "table", "text",
+];
+/// So many operators are tried in one case of theirs.
+const OPERATORS: usize = 20;
+/// One case of so many is a whole input of the program.
+const PROGRAM_EACH: u64 = 100;
+
+pub fn kind_of(number: u64) -> &'static str {
+    match number % PROGRAM_EACH {
+        0 => "program",
+        _ => KINDS[(number % KINDS.len() as u64) as usize],
+    }
+}
+
+impl Case<'_> {
+    /// Runs the case of that kind.
+    pub fn run(&mut self, kind: &'static str) -> Outcome {
+        self.tally.count("case", kind);
+        match kind {
+            "text" => self.text(),
+            "table" => self.table(),
+            "notice" => self.notice(),
+            "write" => self.write(),
+            "operator" => (0..OPERATORS).try_for_each(|_| self.operator()),
+            _ => self.program(),
+        }
+    }
+
+    /// A well-formed notice, most often one with the names that texts use.
+    fn well_formed(&mut self) -> Vec<u8> {
+        match self.random.below(4) {
+            0 => notices::valid(&mut self.random),
+            _ => notices::rich(&mut self.random),
+        }
+    }
+
+    /// A text with buffers of each size, and demand 3 if it is accepted.
+    fn text(&mut self) -> Outcome {
+        let text = texts::text(&mut self.random);
+        self.count_edges(edges::of_text(&text));
+        let table = reference::compile::table_of(&text);
+        let length = table.as_ref().map_or(64, Vec::len);
+        let larger = length + self.random.between(1, 300);
+        for room in [length, length - 1, 0, larger] {
+            self.translation(&text, room)?;
+        }
+        match table {
+            Ok(table) => (0..2).try_for_each(|_| self.demand_3(&text, &table)),
+            Err(_) => Ok(()),
+        }
+    }
+
+    /// One translation; the whole buffer and its guards are compared.
+    fn translation(&mut self, text: &[u8], room: usize) -> Outcome {
+        let mut lent = patterned(room, self.random.below(256));
+        let mut meant = lent.clone();
+        let library = virentolex::translate(text, &mut lent[GUARD..GUARD + room]);
+        let reference = reference::translate(text, &mut meant[GUARD..GUARD + room]);
+        self.tally.count("translate", reference.number);
+        same(
+            &format!("translate, buffer of {room} bytes within guards of {GUARD}: number, place, length, bytes after"),
+            &[("text", text)],
+            (library.number, library.place, library.length, Hex(lent)),
+            (reference.number, reference.place, reference.length, Hex(meant)),
+        )
+    }
+
+    /// The letter, number 3, of an accepted text and a well-formed notice. The table is the library's
+    /// own, since the translations have agreed.
+    fn demand_3(&mut self, text: &[u8], table: &[u8]) -> Outcome {
+        let notice = self.well_formed();
+        let inputs = [("text", text), ("table", table), ("notice", &notice)];
+        same(
+            "check of the text's table",
+            &inputs,
+            virentolex::check(table),
+            0,
+        )?;
+        let library = virentolex::run(table, &notice);
+        let meaning = reference::meaning(text, &notice);
+        same(
+            "demand 3: number, place, verdict; the reference is the meaning with nothing skipped",
+            &inputs,
+            (library.number, library.place, Some(truth(library.verdict))),
+            (0, 0, meaning),
+        )?;
+        let steps = self.running(table, &notice)?;
+        self.tally
+            .count("demand 3", format!("{:?}", truth(library.verdict)));
+        self.count_skips("text runs", table, steps);
+        Ok(())
+    }
+
+    /// One run; the steps answered.
+    fn running(&mut self, table: &[u8], notice: &[u8]) -> Result<usize, String> {
+        let library = virentolex::run(table, notice);
+        let reference = reference::run(table, notice);
+        self.tally.count("run", reference.number);
+        same(
+            "run: number, place, verdict, steps",
+            &[("table", table), ("notice", notice)],
+            (
+                library.number,
+                library.place,
+                truth(library.verdict),
+                library.steps,
+            ),
+            (
+                reference.number,
+                reference.place,
+                reference.verdict,
+                reference.steps,
+            ),
+        )?;
+        if reference.number == 0 {
+            self.tally
+                .count("verdict", format!("{:?}", reference.verdict));
+            self.count_ops(table);
+        }
+        Ok(reference.steps)
+    }
+
+    /// Counts whether a run that was not refused passed over entries.
+    fn count_skips(&mut self, of: &'static str, table: &[u8], steps: usize) {
+        let count = usize::from(u16::from_le_bytes([table[6], table[7]]));
+        self.tally
+            .count(of, if steps < count { "skipped" } else { "whole" });
+    }
+
+    /// Counts each op that a table that has run holds, once.
+    fn count_ops(&mut self, table: &[u8]) {
+        let count = usize::from(u16::from_le_bytes([table[6], table[7]]));
+        let entries = table[10..].chunks(12).take(count);
+        let ops: BTreeSet<u16> = entries
+            .map(|entry| u16::from_le_bytes([entry[0], entry[1]]))
+            .collect();
+        ops.into_iter().for_each(|op| self.tally.count("op", op));
+    }
+
+    /// A table, its check, and its run on notices of each sort.
+    fn table(&mut self) -> Outcome {
+        let table = tables::table(&mut self.random);
+        self.count_edges(edges::of_table(&table));
+        let reference = reference::check(&table);
+        self.tally.count("check", reference);
+        same(
+            "check",
+            &[("table", &table)],
+            virentolex::check(&table),
+            reference,
+        )?;
+        let notice = self.well_formed();
+        let steps = self.running(&table, &notice)?;
+        if reference == 0 {
+            self.count_skips("table runs", &table, steps);
+        }
+        let notice = notices::notice(&mut self.random);
+        self.running(&table, &notice).map(|_| ())
+    }
+
+    /// One operator on numbers near the limits.
+    fn operator(&mut self) -> Outcome {
+        let table = tables::operation(&mut self.random);
+        self.running(&table, &virentolex::EMPTY_NOTICE).map(|_| ())
+    }
+
+    /// A notice, its check, all its fields and two more, and a run on it.
+    fn notice(&mut self) -> Outcome {
+        let notice = notices::notice(&mut self.random);
+        self.count_edges(edges::of_notice(&notice));
+        let (number, place) = reference::check_notice(&notice);
+        self.tally.count("check_notice", number);
+        let library = virentolex::check_notice(&notice);
+        let answers = ((library.number, library.place), (number, place));
+        same(
+            "check_notice: number, place",
+            &[("notice", &notice)],
+            answers.0,
+            answers.1,
+        )?;
+        let count = reference::notice::fields(&notice).map_or(1, |fields| fields.len());
+        for k in (0..=count + 1).chain([usize::MAX]) {
+            self.reading(&notice, k)?;
+        }
+        let table = tables::translated(&mut self.random);
+        self.running(&table, &notice).map(|_| ())
+    }
+
+    fn reading(&mut self, notice: &[u8], k: usize) -> Outcome {
+        let library = virentolex::read(notice, k);
+        let reference = reference::read(notice, k);
+        self.tally.count("read", reference.number);
+        let part = |part: &[u8]| {
+            let start = part.as_ptr() as usize - notice.as_ptr() as usize;
+            start..start + part.len()
+        };
+        same(
+            &format!("read field {k}: number, place, kind, where name and value lie"),
+            &[("notice", notice)],
+            (
+                library.number,
+                library.place,
+                library.kind,
+                part(library.name),
+                part(library.value),
+            ),
+            (
+                reference.number,
+                reference.place,
+                reference.kind,
+                reference.name,
+                reference.value,
+            ),
+        )
+    }
+
+    fn count_edges(&mut self, edges: Vec<String>) {
+        edges
+            .into_iter()
+            .for_each(|edge| self.tally.count("edge", edge));
+    }
+
+    /// Fields written, one after another, to a notice in a buffer.
+    fn write(&mut self) -> Outcome {
+        let notice = match self.random.below(8) {
+            0 => notices::full(&mut self.random),
+            1 => notices::heavy(&mut self.random),
+            _ => notices::notice(&mut self.random),
+        };
+        if self.random.once_in(4) {
+            return self.written_again(&notice);
+        }
+        let field = self.field_to_write(notice.len());
+        let size = 5 + field.name.len() + field.value.len();
+        let room = self
+            .random
+            .pick(&[0, size - 1, size, size + 1, 100, 1100, 1100, 17000]);
+        let mut lent = patterned(notice.len() + room, self.random.below(256));
+        lent[GUARD..GUARD + notice.len()].copy_from_slice(&notice);
+        let length = match self.random.below(16) {
+            0 => notice.len() + self.random.between(1, room + 2),
+            1 => self.random.below(notice.len() + 1),
+            2 if self.random.once_in(4) => usize::MAX,
+            _ => notice.len(),
+        };
+        let mut length = self.write_field(&mut lent, length, &field)?;
+        for _ in 0..self.random.below(5) {
+            let field = self.field_to_write(length);
+            length = self.write_field(&mut lent, length, &field)?;
+        }
+        Ok(())
+    }
+
+    /// A field of any sort, right or wrong, for a notice of that length.
+    fn field_to_write(&mut self, length: usize) -> notices::Field {
+        let mut field = notices::field(&mut self.random);
+        let random = &mut self.random;
+        match random.below(12) {
+            0 => field.kind = random.pick(&[0, 6, 256, 65535]),
+            1 => field.value = vec![b'v'; random.pick(&[0, 3, 4, 5, 7, 8, 9, 1024, 1025])],
+            2 => field.name = words::other_name(random),
+            3 => field.name = vec![random.pick(b"Z_n~"); random.pick(&[63, 64, 65])],
+            4 | 5 if length > 15_000 && length < 16_380 => {
+                let whole = random.pick(&[16383, 16384, 16385]);
+                let size = whole - (length + 5 + field.name.len()).min(whole);
+                (field.kind, field.value) = (random.pick(&[4, 5]), vec![b'v'; size]);
+            }
+            _ => (),
+        }
+        field
+    }
+
+    /// One write; the whole buffer and its guards are compared.
+    fn write_field(
+        &mut self,
+        lent: &mut [u8],
+        length: usize,
+        field: &notices::Field,
+    ) -> Result<usize, String> {
+        let end = lent.len() - GUARD;
+        let before = lent.to_vec();
+        let mut meant = before.clone();
+        let (name, kind, value) = (&field.name[..], field.kind, &field.value[..]);
+        let library = virentolex::write(&mut lent[GUARD..end], length, name, kind, value);
+        let reference = reference::write(&mut meant[GUARD..end], length, name, kind, value);
+        self.tally.count("write", reference.number);
+        let notice = before[GUARD..end].get(..length).unwrap_or_default();
+        self.count_edges(edges::of_write(
+            end - GUARD,
+            notice,
+            name.len(),
+            value.len(),
+            reference.number,
+        ));
+        same(
+            &format!("write, named length {length}, kind {kind}: number, place, length, bytes after with guards"),
+            &[("buffer", &before[GUARD..end]), ("name", name), ("value", value)],
+            (library.number, library.place, library.length, Hex(lent.to_vec())),
+            (reference.number, reference.place, reference.length, Hex(meant)),
+        )?;
+        Ok(reference.length)
+    }
+
+    /// "one that is read and written again has the same bytes": the fields of a well-formed notice, read
+    /// by the library and written in any order.
+    fn written_again(&mut self, notice: &[u8]) -> Outcome {
+        let count = match virentolex::check_notice(notice).number {
+            0 => usize::from(notice[6]),
+            _ => 0,
+        };
+        let mut order: Vec<usize> = (0..count).collect();
+        (1..count).for_each(|at| order.swap(at, self.random.below(at + 1)));
+        let mut lent = patterned(notice.len().max(8), 0);
+        lent[GUARD..GUARD + 8].copy_from_slice(&virentolex::EMPTY_NOTICE);
+        let mut length = 8;
+        for k in &order {
+            let read = virentolex::read(notice, *k);
+            let field = notices::Field {
+                name: read.name.into(),
+                kind: read.kind,
+                value: read.value.into(),
+            };
+            length = self.write_field(&mut lent, length, &field)?;
+        }
+        let again = Hex(lent[GUARD..GUARD + length].to_vec());
+        let meant = if count > 0 {
+            notice
+        } else {
+            &virentolex::EMPTY_NOTICE
+        };
+        same(
+            "read and written again",
+            &[("notice", notice)],
+            again,
+            Hex(meant.to_vec()),
+        )
+    }
+
+    /// A whole input of the program, given to it in pieces.
+    fn program(&mut self) -> Outcome {
+        let input = inputs::input(&mut self.random);
+        let piece = self.random.pick(&[1000, 7, 65536, 1 << 20]);
+        let printed = program::output(self.program, &input, piece)?;
+        let meant = reference::verdict(&input);
+        self.count_lines(&meant);
+        let lines = |bytes: Vec<u8>| String::from_utf8_lossy(&bytes).into_owned();
+        same(
+            "program verdict",
+            &[("input", &input)],
+            lines(printed),
+            lines(meant),
+        )
+    }
+
+    fn count_lines(&mut self, printed: &[u8]) {
+        for line in String::from_utf8_lossy(printed).lines() {
+            let words: Vec<&str> = line.split(' ').collect();
+            let what = match words[..] {
+                ["S", "0", ..] => "S 0".to_string(),
+                ["S", ..] => "S refused".to_string(),
+                ["N", "0", verdict, ..] => format!("N {verdict}"),
+                ["N", number, ..] => format!("N {number}"),
+                _ => words[0].to_string(),
+            };
+            self.tally.count("line", what);
+        }
+    }
+}
+
+#[cfg(test)]
+mod tests {
+    use super::*;
+
+    #[test]
+    fn a_difference_is_told_with_its_inputs() {
+        assert_eq!(same("call", &[("text", b"a")], 1, 1), Ok(()));
+        let told = same("call", &[("text", b"a"), ("none", b"")], 1, 2).unwrap_err();
+        assert_eq!(
+            told,
+            "call\n  text: 61\n  none: -\n  answered:  1\n  reference: 2"
+        );
+    }
+
+    #[test]
+    fn every_kind_has_its_turn() {
+        let mut kinds: Vec<&str> = (0..PROGRAM_EACH).map(kind_of).collect();
+        kinds.sort();
+        kinds.dedup();
+        assert_eq!(
+            kinds,
+            ["notice", "operator", "program", "table", "text", "write"]
+        );
+    }
+}

@@ -1,0 +1,269 @@
+//! Translation: a text's table, or the first refusal "in this order: 10, then 1 or 3 at the first bad
+//! token, 6, 2, 4, 5, 7, 8, 9".
+
+use crate::grammar::{fault, too_deep, tree, Tree};
+use crate::judge::{calls_right, function, kind, Kind};
+use crate::op::Op;
+use crate::table::operands;
+use crate::tokens::tokens;
+use crate::{MOST_ENTRIES, MOST_SLOTS, MOST_TEXT};
+
+/// "Translation answers number, place and table length, 0 if refused."
+#[derive(Clone, Copy, PartialEq, Eq, Debug)]
+pub struct Translation {
+    pub number: u8,
+    pub place: usize,
+    pub length: usize,
+}
+
+/// "Entry: u16 op, u16 a, u64 b."
+#[derive(Clone, Copy, PartialEq, Eq, Debug)]
+pub struct Entry {
+    pub op: Op,
+    pub a: u16,
+    pub b: u64,
+}
+
+/// A table's entries and pool before they are laid out.
+#[derive(Clone, Default, PartialEq, Eq, Debug)]
+pub struct Code {
+    pub entries: Vec<Entry>,
+    pub pool: Vec<u8>,
+}
+
+/// Writes the text's table to the start of the buffer; a refusal changes no byte of it.
+pub fn translate(text: &[u8], buffer: &mut [u8]) -> Translation {
+    match table_of(text) {
+        Err((number, place)) => Translation {
+            number,
+            place,
+            length: 0,
+        },
+        // "9: lent buffer shorter than the table"
+        Ok(table) if buffer.len() < table.len() => Translation {
+            number: 9,
+            place: 0,
+            length: 0,
+        },
+        Ok(table) => {
+            buffer[..table.len()].copy_from_slice(&table);
+            Translation {
+                number: 0,
+                place: 0,
+                length: table.len(),
+            }
+        }
+    }
+}
+
+/// The table of a text, or the number and place of the first refusal but 9.
+pub fn table_of(text: &[u8]) -> Result<Vec<u8>, (u8, usize)> {
+    let code = code_of(&accepted(text)?);
+    if code.entries.len() > MOST_ENTRIES {
+        return Err((7, 0));
+    }
+    if most_slots(&code.entries) > MOST_SLOTS {
+        return Err((8, 0));
+    }
+    Ok(layout(&code))
+}
+
+/// The tree of a text to which none of 10, 1, 3, 6, 2, 4, 5 applies.
+pub fn accepted(text: &[u8]) -> Result<Tree, (u8, usize)> {
+    if text.len() > MOST_TEXT {
+        return Err((10, 0));
+    }
+    let tokens = tokens(text)?;
+    if too_deep(&tokens) {
+        return Err((6, 0));
+    }
+    if let Some(place) = fault(&tokens, text.len()) {
+        return Err((2, place));
+    }
+    let tree = tree(&tokens);
+    if !calls_right(&tree) {
+        return Err((4, 0));
+    }
+    // "The whole text must be logic."
+    if kind(&tree) != Some(Kind::Logic) {
+        return Err((5, 0));
+    }
+    Ok(tree)
+}
+
+/// The entries and the slots that the text's table would have, limits aside.
+pub fn sizes(text: &[u8]) -> Option<(usize, usize)> {
+    let code = code_of(&accepted(text).ok()?);
+    Some((code.entries.len(), most_slots(&code.entries)))
+}
+
+fn code_of(tree: &Tree) -> Code {
+    let mut code = Code::default();
+    code.add(tree);
+    code
+}
+
+impl Code {
+    fn push(&mut self, op: Op, a: usize, b: u64) {
+        self.entries.push(Entry { op, a: short(a), b });
+    }
+
+    /// "Operand names (not functions') and strings enter the pool unescaped, in text order, each time
+    /// anew."
+    fn push_bytes(&mut self, op: Op, bytes: &[u8]) {
+        self.push(op, bytes.len(), self.pool.len() as u64);
+        self.pool.extend_from_slice(bytes);
+    }
+
+    /// "Translation is postfix."
+    fn add(&mut self, tree: &Tree) {
+        match tree {
+            Tree::Int32(value) => self.push(Op::Int32, 0, i64::from(*value) as u64),
+            Tree::Int64(value) => self.push(Op::Int64, 0, *value as u64),
+            Tree::Real64(value) => self.push(Op::Real64, 0, value.to_bits()),
+            Tree::Text(bytes) => self.push_bytes(Op::Text, bytes),
+            Tree::Name(bytes) => self.push_bytes(Op::Name, bytes),
+            Tree::Parens(inner) => self.add(inner),
+            Tree::Prefix(op, inner) => {
+                self.add(inner);
+                self.push(*op, 0, 0);
+            }
+            Tree::Binary(op, left, right) => self.add_binary(*op, left, right),
+            Tree::Call(name, escaped, arguments) => {
+                self.add_call(function(name, *escaped).expect("a function"), arguments)
+            }
+        }
+    }
+
+    /// "`L && R` becomes L, skip if false, R, op 41; `L || R` uses skip if true; a is R's entries plus
+    /// 1."
+    fn add_binary(&mut self, op: Op, left: &Tree, right: &Tree) {
+        self.add(left);
+        let skip = match op {
+            Op::And => Some(Op::SkipFalse),
+            Op::Or => Some(Op::SkipTrue),
+            _ => None,
+        };
+        let at = self.entries.len();
+        self.add(right);
+        let a = short(self.entries.len() - at + 1);
+        if let Some(op) = skip {
+            self.entries.insert(at, Entry { op, a, b: 0 });
+        }
+        self.push(op, 0, 0);
+    }
+
+    /// "56..59: .. (a: literals or values, 1..8; taken from the stack with the first)"
+    fn add_call(&mut self, op: Op, arguments: &[Tree]) {
+        arguments.iter().for_each(|argument| self.add(argument));
+        let later = match op {
+            Op::Begins | Op::Contains | Op::Ends | Op::Equals => arguments.len() - 1,
+            _ => 0,
+        };
+        self.push(op, later, 0);
+    }
+}
+
+/// A length or a count of entries, which a text of 4,096 bytes keeps far below 65,536.
+fn short(size: usize) -> u16 {
+    u16::try_from(size).expect("the text is short")
+}
+
+/// "8: stack over 32": the most slots held at once in the order of the entries.
+fn most_slots(entries: &[Entry]) -> usize {
+    let mut now = 0;
+    let mut most = 0;
+    for entry in entries {
+        now = now - operands(entry) + 1;
+        most = most.max(now);
+    }
+    most
+}
+
+/// "u32 length of all after it; u16 kind 2; u16 entry count N 1..512; u16 pool length 0..4,096; N
+/// entries of 12 bytes; pool"
+pub fn layout(code: &Code) -> Vec<u8> {
+    let length = 6 + 12 * code.entries.len() + code.pool.len();
+    let mut table = (length as u32).to_le_bytes().to_vec();
+    table.extend(2u16.to_le_bytes());
+    table.extend((code.entries.len() as u16).to_le_bytes());
+    table.extend((code.pool.len() as u16).to_le_bytes());
+    for entry in &code.entries {
+        table.extend(entry.op.code().to_le_bytes());
+        table.extend(entry.a.to_le_bytes());
+        table.extend(entry.b.to_le_bytes());
+    }
+    table.extend(&code.pool);
+    table
+}
+
+#[cfg(test)]
+mod tests {
+    use super::*;
+
+    #[test]
+    fn the_example_table() {
+        let table = table_of(b"Op == 42").unwrap();
+        let mut meant = vec![0x2c, 0, 0, 0, 2, 0, 3, 0, 2, 0];
+        meant.extend([5, 0, 2, 0, 0, 0, 0, 0, 0, 0, 0, 0]);
+        meant.extend([1, 0, 0, 0, 42, 0, 0, 0, 0, 0, 0, 0]);
+        meant.extend([32, 0, 0, 0, 0, 0, 0, 0, 0, 0, 0, 0]);
+        meant.extend(b"Op");
+        assert_eq!(table, meant);
+    }
+
+    #[test]
+    fn the_example_refusals() {
+        let refused = [
+            ("pipe=>20", 5, 0),
+            ("Op", 5, 0),
+            ("! Op == 42", 5, 0),
+            ("a -5", 2, 2),
+            ("", 2, 0),
+            ("Op == 42 &&", 2, 11),
+            ("09 == 9", 1, 0),
+            ("int32 ((a))", 4, 0),
+            ("0x80000000 == 0", 3, 0),
+            ("begins-with ((fold-case (a)), \"x\")", 4, 0),
+            ("wildcard (a, \"*\")", 4, 0),
+            ("equals (a, b == c)", 5, 0),
+        ];
+        for (text, number, place) in refused {
+            assert_eq!(table_of(text.as_bytes()), Err((number, place)), "{text}");
+        }
+    }
+
+    #[test]
+    fn a_short_buffer_keeps_its_bytes() {
+        let mut buffer = [7; 47];
+        let answer = translate(b"Op == 42", &mut buffer);
+        assert_eq!(
+            answer,
+            Translation {
+                number: 9,
+                place: 0,
+                length: 0
+            }
+        );
+        assert_eq!(buffer, [7; 47]);
+    }
+
+    #[test]
+    fn sizes_have_limits() {
+        let number = |text: String| {
+            table_of(text.as_bytes())
+                .map_err(|(number, _)| number)
+                .map(|_| ())
+        };
+        let sum = |count: usize| vec!["a"; count].join(" + ") + " == b";
+        assert_eq!(number(sum(255)), Ok(()));
+        assert_eq!(number(sum(256)), Err(7));
+        let deep = |count: usize| {
+            let open = "a + a * a | a ^ a & a << ( ".repeat(count);
+            open + "a" + &" )".repeat(count) + " == b"
+        };
+        assert_eq!(number(deep(5)), Ok(()));
+        assert_eq!(number(deep(6)), Err(8));
+        assert_eq!(number("a ".repeat(2049)), Err(10));
+    }
+}

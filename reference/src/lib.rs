@@ -1,0 +1,48 @@
+//! A second implementation of document 01 in plain Rust, written from the papers and not from the
+//! crates beside it. It is there to be compared with them; it is short rather than fast.
+//! Words in quotes are document 01's.
+#![forbid(unsafe_code)]
+
+pub mod compile;
+pub mod grammar;
+pub mod judge;
+pub mod meaning;
+pub mod notice;
+pub mod op;
+pub mod run;
+pub mod table;
+pub mod tokens;
+pub mod value;
+pub mod vectors;
+pub mod verdict;
+
+pub use compile::{translate, Translation};
+pub use meaning::meaning;
+pub use notice::{check_notice, read, write, Reading, Writing};
+pub use run::{run, Running};
+pub use table::check;
+pub use value::Truth;
+pub use verdict::verdict;
+
+/// "text over 4,096 bytes"
+pub const MOST_TEXT: usize = 4096;
+/// "over 512 entries"
+pub const MOST_ENTRIES: usize = 512;
+/// "depth is at most 32"
+pub const MOST_SLOTS: usize = 32;
+/// "pool length 0..4,096"
+pub const MOST_POOL: usize = 4096;
+/// "Whole notice at most 16,384 bytes"
+pub const MOST_NOTICE: usize = 16384;
+/// "field count 0..64"
+pub const MOST_FIELDS: usize = 64;
+
+/// "Little-endian.": the word of `width` bytes at `at`, if it lies in `bytes`.
+pub(crate) fn word(bytes: &[u8], at: usize, width: usize) -> Option<u64> {
+    let part = bytes.get(at..at.checked_add(width)?)?;
+    Some(
+        part.iter()
+            .rev()
+            .fold(0, |sum, byte| sum << 8 | u64::from(*byte)),
+    )
+}

@@ -1,0 +1,198 @@
+//! "Table": its layout and "The check".
+
+use crate::compile::Entry;
+use crate::judge::Kind;
+use crate::notice::name_right;
+use crate::op::Op;
+use crate::{word, MOST_ENTRIES, MOST_POOL, MOST_SLOTS};
+
+/// A table's entries and pool as they lie in the lent bytes.
+#[derive(Clone, PartialEq, Eq, Debug)]
+pub struct Table<'a> {
+    pub entries: Vec<Entry>,
+    pub pool: &'a [u8],
+}
+
+/// "12: table fails layout or check"; 0 if it passes.
+pub fn check(table: &[u8]) -> u8 {
+    match checked(table) {
+        Some(_) => 0,
+        None => 12,
+    }
+}
+
+/// The table, if its layout is right and it passes the check.
+pub fn checked(table: &[u8]) -> Option<Table<'_>> {
+    let table = decode(table)?;
+    let right = |(at, entry)| entry_right(&table, at, entry);
+    (table.entries.iter().enumerate().all(right) && flows(&table.entries)).then_some(table)
+}
+
+/// "u32 length of all after it; u16 kind 2; u16 entry count N 1..512; u16 pool length 0..4,096; N
+/// entries of 12 bytes; pool; nothing more."
+fn decode(table: &[u8]) -> Option<Table<'_>> {
+    let length = word(table, 0, 4)? as usize;
+    let kind = word(table, 4, 2)?;
+    let count = word(table, 6, 2)? as usize;
+    let pool = word(table, 8, 2)? as usize;
+    let limits = (1..=MOST_ENTRIES).contains(&count) && pool <= MOST_POOL;
+    let whole = table.len() == 10 + 12 * count + pool && table.len() == 4 + length;
+    if kind != 2 || !limits || !whole {
+        return None;
+    }
+    let entries: Option<Vec<Entry>> = (0..count).map(|k| entry(table, 10 + 12 * k)).collect();
+    Some(Table {
+        entries: entries?,
+        pool: &table[10 + 12 * count..],
+    })
+}
+
+/// "Entry: u16 op, u16 a, u64 b."; none if the op is unknown.
+pub fn entry(table: &[u8], at: usize) -> Option<Entry> {
+    let op = Op::of_code(word(table, at, 2)?)?;
+    let a = u16::try_from(word(table, at + 2, 2)?).ok()?;
+    Some(Entry {
+        op,
+        a,
+        b: word(table, at + 4, 8)?,
+    })
+}
+
+/// The part of the pool that a string's or a name's entry means: "a length, b pool offset, a + b at
+/// most the pool length".
+pub fn pool_part<'a>(pool: &'a [u8], entry: &Entry) -> Option<&'a [u8]> {
+    let start = usize::try_from(entry.b).ok()?;
+    pool.get(start..start.checked_add(usize::from(entry.a))?)
+}
+
+/// What is asked of an entry by itself.
+fn entry_right(table: &Table, at: usize, entry: &Entry) -> bool {
+    let part = || pool_part(table.pool, entry);
+    match entry.op {
+        // "int32 widened by sign and in range"
+        Op::Int32 => entry.a == 0 && i32::try_from(entry.b as i64).is_ok(),
+        Op::Int64 | Op::Real64 => entry.a == 0,
+        Op::Text => part().is_some(),
+        // "a name keeps the notice's name rules"
+        Op::Name => part().is_some_and(name_right),
+        // "a: entries passed over, at least 1"; "a skip lands at or before N"
+        Op::SkipFalse | Op::SkipTrue => {
+            entry.a >= 1 && entry.b == 0 && landing(at, entry) <= table.entries.len()
+        }
+        // "a: literals or values, 1..8"
+        Op::Begins | Op::Contains | Op::Ends | Op::Equals => {
+            (1..=8).contains(&entry.a) && entry.b == 0
+        }
+        // "Unused a and b are zero."
+        _ => entry.a == 0 && entry.b == 0,
+    }
+}
+
+/// Where a skip goes: "a + 1 entries on".
+pub fn landing(at: usize, entry: &Entry) -> usize {
+    at + usize::from(entry.a) + 1
+}
+
+/// "every way of reaching an entry, or the end, finds the same depth and kinds, and the end has one
+/// logic slot": each skip counts as taken and as not taken. All ways lead forward, so one pass in
+/// the order of the entries meets every way.
+fn flows(entries: &[Entry]) -> bool {
+    let mut found: Vec<Option<Vec<Kind>>> = vec![None; entries.len() + 1];
+    found[0] = Some(Vec::new());
+    for (at, entry) in entries.iter().enumerate() {
+        let Some(next) = found[at].clone().and_then(|before| step(before, entry)) else {
+            return false;
+        };
+        let skip = matches!(entry.op, Op::SkipFalse | Op::SkipTrue);
+        if skip && !meets(&mut found[landing(at, entry)], &next) {
+            return false;
+        }
+        if !meets(&mut found[at + 1], &next) {
+            return false;
+        }
+    }
+    found[entries.len()] == Some(vec![Kind::Logic])
+}
+
+/// Notes one way of reaching an entry; false if another way found other slots there.
+fn meets(found: &mut Option<Vec<Kind>>, slots: &[Kind]) -> bool {
+    found.get_or_insert_with(|| slots.to_vec()) == slots
+}
+
+/// The kinds on the stack after an entry: "each entry has enough operands of the right kind; depth is
+/// at most 32".
+fn step(mut slots: Vec<Kind>, entry: &Entry) -> Option<Vec<Kind>> {
+    let (count, takes, gives) = effect(entry);
+    let kept = slots.len().checked_sub(count)?;
+    if slots[kept..].iter().any(|kind| *kind != takes) {
+        return None;
+    }
+    slots.truncate(kept);
+    slots.push(gives);
+    (slots.len() <= MOST_SLOTS).then_some(slots)
+}
+
+/// How many operands an entry takes; it leaves one slot in their place.
+pub fn operands(entry: &Entry) -> usize {
+    effect(entry).0
+}
+
+/// How many operands an entry takes, of which kind, and the kind it gives.
+fn effect(entry: &Entry) -> (usize, Kind, Kind) {
+    use Kind::{Logic, Value};
+    match entry.op {
+        Op::Int32 | Op::Int64 | Op::Real64 | Op::Text | Op::Name => (0, Value, Value),
+        Op::FoldCase | Op::Size | Op::Complement => (1, Value, Value),
+        Op::Equal | Op::Unequal | Op::Less | Op::LessEqual | Op::Greater | Op::GreaterEqual => {
+            (2, Value, Logic)
+        }
+        // "A skip keeps its operand."
+        Op::Not | Op::SkipFalse | Op::SkipTrue => (1, Logic, Logic),
+        Op::And | Op::Xor | Op::Or => (2, Logic, Logic),
+        Op::Begins | Op::Contains | Op::Ends | Op::Equals => {
+            (usize::from(entry.a) + 1, Value, Logic)
+        }
+        Op::IsInt32
+        | Op::IsInt64
+        | Op::IsReal64
+        | Op::IsText
+        | Op::IsOpaque
+        | Op::IsNan
+        | Op::Require => (1, Value, Logic),
+        _ => (2, Value, Value),
+    }
+}
+
+#[cfg(test)]
+mod tests {
+    use super::*;
+    use crate::compile::table_of;
+
+    #[test]
+    fn a_translated_table_passes() {
+        let table = table_of(b"a == 1 && (b == 2 || c == 3)").unwrap();
+        assert_eq!(check(&table), 0);
+    }
+
+    #[test]
+    fn a_damaged_table_fails() {
+        let table = table_of(b"a == 1 && b == 2").unwrap();
+        for at in [0, 4, 6, 8, 10, 12, 14, 24] {
+            let mut damaged = table.clone();
+            damaged[at] ^= 64;
+            assert_eq!(check(&damaged), 12, "{at}");
+        }
+        assert_eq!(check(&table[..table.len() - 1]), 12);
+    }
+
+    #[test]
+    fn a_skip_that_lands_elsewhere_fails() {
+        let mut table = table_of(b"a == 1 && b == 2").unwrap();
+        let skip = 10 + 12 * 3 + 2;
+        assert_eq!(table[skip], 4);
+        table[skip] = 3;
+        assert_eq!(check(&table), 12);
+        table[skip] = 5;
+        assert_eq!(check(&table), 12);
+    }
+}

@@ -1,0 +1,388 @@
+//! "Meaning": values, truth values, and what each operator and function gives.
+
+use crate::op::Op;
+
+#[derive(Clone, Copy, PartialEq, Eq, Debug)]
+pub enum Truth {
+    False,
+    Bottom,
+    True,
+}
+
+use Truth::{Bottom, False, True};
+
+#[derive(Clone, Debug)]
+pub enum Value {
+    Int32(i32),
+    Int64(i64),
+    Real64(f64),
+    Text(Vec<u8>),
+    Opaque(Vec<u8>),
+}
+
+/// "A slot holds a truth value or a value of some type"; no value is bottom.
+#[derive(Clone, Debug)]
+pub enum Slot {
+    Truth(Truth),
+    Value(Option<Value>),
+}
+
+fn truth(holds: bool) -> Truth {
+    if holds {
+        True
+    } else {
+        False
+    }
+}
+
+/// The column `!A`.
+pub fn not(a: Truth) -> Truth {
+    match a {
+        True => False,
+        Bottom => Bottom,
+        False => True,
+    }
+}
+
+/// "The truth tables are the page's, as printed": A, B, `&&`, or, `^^`.
+const ROWS: [(Truth, Truth, Truth, Truth, Truth); 9] = [
+    (True, True, True, True, False),
+    (True, Bottom, Bottom, True, Bottom),
+    (True, False, False, True, True),
+    (Bottom, True, Bottom, True, Bottom),
+    (Bottom, Bottom, Bottom, Bottom, Bottom),
+    (Bottom, False, False, Bottom, Bottom),
+    (False, True, False, True, True),
+    (False, Bottom, False, Bottom, Bottom),
+    (False, False, False, False, False),
+];
+
+/// `&&`, `||` or `^^` by the printed row of its operands.
+pub fn logic(op: Op, left: Truth, right: Truth) -> Truth {
+    let row = ROWS
+        .iter()
+        .find(|row| (row.0, row.1) == (left, right))
+        .expect("a row");
+    match op {
+        Op::And => row.2,
+        Op::Or => row.3,
+        _ => row.4,
+    }
+}
+
+/// A binary operator on values; "bottom in a value makes the enclosing value or comparison bottom".
+pub fn binary(op: Op, left: Option<Value>, right: Option<Value>) -> Slot {
+    let sides = left.zip(right);
+    match op {
+        Op::Equal | Op::Unequal | Op::Less | Op::LessEqual | Op::Greater | Op::GreaterEqual => {
+            Slot::Truth(sides.map_or(Bottom, |(left, right)| compare(op, &left, &right)))
+        }
+        _ => Slot::Value(sides.and_then(|(left, right)| compute(op, &left, &right))),
+    }
+}
+
+fn compute(op: Op, left: &Value, right: &Value) -> Option<Value> {
+    match op {
+        Op::ShiftLeft | Op::ShiftRight | Op::ShiftZeros => shift(op, left, right),
+        Op::BitAnd | Op::BitXor | Op::BitOr => bits(op, left, right),
+        _ => arithmetic(op, left, right),
+    }
+}
+
+/// A pair of numbers as the operators take them.
+enum Pair {
+    /// Two integers, and whether both are int32.
+    Whole(i128, i128, bool),
+    Real(f64, f64),
+}
+
+/// An integer's value, if it is one.
+fn whole(value: &Value) -> Option<i64> {
+    match value {
+        Value::Int32(n) => Some(i64::from(*n)),
+        Value::Int64(n) => Some(*n),
+        _ => None,
+    }
+}
+
+/// "With a real, the other side becomes real if its size is at most 2^53, else bottom, also in
+/// comparisons."
+fn real(value: &Value) -> Option<f64> {
+    match value {
+        Value::Real64(x) => Some(*x),
+        _ => whole(value)
+            .filter(|n| n.unsigned_abs() <= 1 << 53)
+            .map(|n| n as f64),
+    }
+}
+
+/// Two numbers made alike; none if one side is no number or cannot become real.
+fn pair(left: &Value, right: &Value) -> Option<Pair> {
+    if let (Some(a), Some(b)) = (whole(left), whole(right)) {
+        let short = matches!((left, right), (Value::Int32(_), Value::Int32(_)));
+        return Some(Pair::Whole(i128::from(a), i128::from(b), short));
+    }
+    Some(Pair::Real(real(left)?, real(right)?))
+}
+
+fn arithmetic(op: Op, left: &Value, right: &Value) -> Option<Value> {
+    match pair(left, right)? {
+        Pair::Whole(a, b, short) => typed(exact(op, a, b)?, short),
+        Pair::Real(a, b) => real_result(op, a, b).map(Value::Real64),
+    }
+}
+
+/// "`+ - * /` on integers is exact; `/` cuts toward zero", "`%` .. has the sign of the left side". "A
+/// zero divisor .. gives bottom." Both sides are int64 at most, so 128 bits hold every result.
+fn exact(op: Op, a: i128, b: i128) -> Option<i128> {
+    match op {
+        Op::Plus => Some(a + b),
+        Op::Minus => Some(a - b),
+        Op::Times => Some(a * b),
+        Op::Divide => a.checked_div(b),
+        _ => a.checked_rem(b),
+    }
+}
+
+/// "The result is int32 if both are int32 and it fits, else int64, else bottom."
+fn typed(result: i128, short: bool) -> Option<Value> {
+    match i32::try_from(result) {
+        Ok(n) if short => Some(Value::Int32(n)),
+        _ => i64::try_from(result).ok().map(Value::Int64),
+    }
+}
+
+/// "Real with real is f64's own `+ - * /`"; "A zero divisor, whole or real, gives bottom"; "`%` with a
+/// real" gives bottom.
+fn real_result(op: Op, a: f64, b: f64) -> Option<f64> {
+    match op {
+        Op::Plus => Some(a + b),
+        Op::Minus => Some(a - b),
+        Op::Times => Some(a * b),
+        Op::Divide if b != 0.0 => Some(a / b),
+        _ => None,
+    }
+}
+
+/// "`& ^ | ~` and shifts: integers only. Unlike integers are widened by sign."
+fn bits(op: Op, left: &Value, right: &Value) -> Option<Value> {
+    let (a, b) = (whole(left)?, whole(right)?);
+    let result = match op {
+        Op::BitAnd => a & b,
+        Op::BitXor => a ^ b,
+        _ => a | b,
+    };
+    match (left, right) {
+        (Value::Int32(_), Value::Int32(_)) => Some(Value::Int32(result as i32)),
+        _ => Some(Value::Int64(result)),
+    }
+}
+
+/// "A shift has its left side's width and type; the count must be 0 to width less 1, else bottom. `<<`
+/// drops bits, `>>` keeps the sign, `>>>` brings in zeros."
+fn shift(op: Op, left: &Value, right: &Value) -> Option<Value> {
+    let count = u32::try_from(whole(right)?).ok()?;
+    match left {
+        Value::Int32(n) if count < 32 => Some(Value::Int32(match op {
+            Op::ShiftLeft => n << count,
+            Op::ShiftRight => n >> count,
+            _ => (*n as u32 >> count) as i32,
+        })),
+        Value::Int64(n) if count < 64 => Some(Value::Int64(match op {
+            Op::ShiftLeft => n << count,
+            Op::ShiftRight => n >> count,
+            _ => (*n as u64 >> count) as i64,
+        })),
+        _ => None,
+    }
+}
+
+fn compare(op: Op, left: &Value, right: &Value) -> Truth {
+    match op {
+        Op::Equal => equal(left, right),
+        // "`!=` is the negation of `==`"
+        Op::Unequal => not(equal(left, right)),
+        _ => order(op, left, right),
+    }
+}
+
+/// "`== !=`: string with string by bytes, number with number; otherwise bottom." "NaN equals nothing",
+/// "Zeros of both signs are equal": f64's own comparison.
+fn equal(left: &Value, right: &Value) -> Truth {
+    if let (Value::Text(a), Value::Text(b)) = (left, right) {
+        return truth(a == b);
+    }
+    match pair(left, right) {
+        None => Bottom,
+        Some(Pair::Whole(a, b, _)) => truth(a == b),
+        Some(Pair::Real(a, b)) => truth(a == b),
+    }
+}
+
+/// "Order: numbers only. NaN .. orders with nothing (false)."
+fn order(op: Op, left: &Value, right: &Value) -> Truth {
+    let ordering = match pair(left, right) {
+        None => return Bottom,
+        Some(Pair::Whole(a, b, _)) => a.partial_cmp(&b),
+        Some(Pair::Real(a, b)) => a.partial_cmp(&b),
+    };
+    truth(ordering.is_some_and(|ordering| match op {
+        Op::Less => ordering.is_lt(),
+        Op::LessEqual => ordering.is_le(),
+        Op::Greater => ordering.is_gt(),
+        _ => ordering.is_ge(),
+    }))
+}
+
+/// The ops on one value: 6..8 and "48..54 take any value, bottom as missing".
+pub fn unary(op: Op, operand: Option<Value>) -> Slot {
+    match op {
+        Op::FoldCase => Slot::Value(operand.and_then(fold_case)),
+        Op::Size => Slot::Value(operand.and_then(size)),
+        Op::Complement => Slot::Value(operand.and_then(complement)),
+        _ => Slot::Truth(operand.map_or(Bottom, |value| truth(test(op, &value)))),
+    }
+}
+
+/// "`fold-case` turns A..Z to a..z and keeps other bytes; bottom for a non-string."
+fn fold_case(value: Value) -> Option<Value> {
+    match value {
+        Value::Text(bytes) => Some(Value::Text(bytes.to_ascii_lowercase())),
+        _ => None,
+    }
+}
+
+/// "`size` is the length in bytes of a string or opaque, as int32; else bottom."
+fn size(value: Value) -> Option<Value> {
+    match value {
+        Value::Text(bytes) | Value::Opaque(bytes) => {
+            i32::try_from(bytes.len()).ok().map(Value::Int32)
+        }
+        _ => None,
+    }
+}
+
+fn complement(value: Value) -> Option<Value> {
+    match value {
+        Value::Int32(n) => Some(Value::Int32(!n)),
+        Value::Int64(n) => Some(Value::Int64(!n)),
+        _ => None,
+    }
+}
+
+/// "Type tests: bottom if missing. `nan`: false for other present values. `require`: true or bottom.",
+/// of a value that is present.
+fn test(op: Op, value: &Value) -> bool {
+    match op {
+        Op::IsInt32 => matches!(value, Value::Int32(_)),
+        Op::IsInt64 => matches!(value, Value::Int64(_)),
+        Op::IsReal64 => matches!(value, Value::Real64(_)),
+        Op::IsText => matches!(value, Value::Text(_)),
+        Op::IsOpaque => matches!(value, Value::Opaque(_)),
+        Op::IsNan => matches!(value, Value::Real64(x) if x.is_nan()),
+        _ => true,
+    }
+}
+
+/// Ops 56..59 on the first operand and the later ones.
+pub fn many(op: Op, first: Option<Value>, later: Vec<Option<Value>>) -> Truth {
+    if op == Op::Equals {
+        return equals(first, later);
+    }
+    let Some(Value::Text(text)) = first else {
+        // "bottom if the first is no string"
+        return Bottom;
+    };
+    let literals: Option<Vec<Vec<u8>>> = later.into_iter().map(text_of).collect();
+    match literals {
+        // "In 56..58 a later operand that is no string gives bottom."
+        None => Bottom,
+        // "true if any literal fits, else false"
+        Some(literals) => truth(literals.iter().any(|literal| fits(op, &text, literal))),
+    }
+}
+
+fn text_of(value: Option<Value>) -> Option<Vec<u8>> {
+    match value {
+        Some(Value::Text(bytes)) => Some(bytes),
+        _ => None,
+    }
+}
+
+/// "An empty literal always fits."
+fn fits(op: Op, text: &[u8], literal: &[u8]) -> bool {
+    match op {
+        Op::Begins => text.starts_with(literal),
+        Op::Ends => text.ends_with(literal),
+        _ => literal.is_empty() || text.windows(literal.len()).any(|part| part == literal),
+    }
+}
+
+/// "`equals` is `==` with each, joined by `||`."
+fn equals(first: Option<Value>, later: Vec<Option<Value>>) -> Truth {
+    let one = |value: Option<Value>| match (&first, value) {
+        (Some(first), Some(value)) => equal(first, &value),
+        _ => Bottom,
+    };
+    later
+        .into_iter()
+        .map(one)
+        .fold(False, |so_far, next| logic(Op::Or, so_far, next))
+}
+
+#[cfg(test)]
+mod tests {
+    use super::*;
+
+    #[test]
+    fn ends_of_the_integer_ranges() {
+        let least = |op, left, right| format!("{:?}", arithmetic(op, &left, &right));
+        let (short, long) = (Value::Int32(i32::MIN), Value::Int64(i64::MIN));
+        let minus = || Value::Int32(-1);
+        assert_eq!(
+            least(Op::Divide, short.clone(), minus()),
+            "Some(Int64(2147483648))"
+        );
+        assert_eq!(least(Op::Rest, short, minus()), "Some(Int32(0))");
+        assert_eq!(least(Op::Divide, long.clone(), minus()), "None");
+        assert_eq!(least(Op::Rest, long, minus()), "Some(Int64(0))");
+    }
+
+    #[test]
+    fn the_rest_has_the_sign_of_the_left_side() {
+        let rest = |a, b| {
+            format!(
+                "{:?}",
+                arithmetic(Op::Rest, &Value::Int32(a), &Value::Int32(b))
+            )
+        };
+        assert_eq!(rest(-7, 2), "Some(Int32(-1))");
+        assert_eq!(rest(7, -2), "Some(Int32(1))");
+    }
+
+    #[test]
+    fn large_integers_beside_reals_are_bottom() {
+        let beside = |n: i64| equal(&Value::Int64(n), &Value::Real64(9007199254740992.0));
+        assert_eq!(beside(1 << 53), True);
+        assert_eq!(beside((1 << 53) - 1), False);
+        assert_eq!(beside((1 << 53) + 1), Bottom);
+        assert_eq!(
+            equal(&Value::Int64(i64::MAX), &Value::Real64(f64::NAN)),
+            Bottom
+        );
+    }
+
+    #[test]
+    fn a_later_operand_that_is_no_string_gives_bottom() {
+        let text = |s: &str| Some(Value::Text(s.as_bytes().to_vec()));
+        let later = vec![text("a"), Some(Value::Int32(1))];
+        assert_eq!(many(Op::Begins, text("abc"), later.clone()), Bottom);
+        assert_eq!(many(Op::Equals, text("a"), later), True);
+        assert_eq!(
+            many(Op::Ends, text("abc"), vec![text("x"), text("bc")]),
+            True
+        );
+        assert_eq!(many(Op::Contains, text("abc"), vec![text("")]), True);
+        assert_eq!(many(Op::Contains, text("abc"), vec![text("abcd")]), False);
+    }
+}

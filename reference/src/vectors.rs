@@ -1,0 +1,114 @@
+//! Cases with their answers from files, one case a line: byte strings in hex, `-` for none, numbers in
+//! decimal. A file's name tells what its lines hold.
+//!
+//! - `translate.txt`: text, buffer length, number, place, table
+//! - `run.txt`: table, notice, number, place, verdict, steps
+//! - `read.txt`: notice, k, number, place, kind, name, value
+//! - `write.txt`: buffer, named length, name, kind, value, number, place, new length, buffer afterwards
+//! - `program.txt`: standard input, standard output of `verdict`
+
+use crate::Truth;
+
+/// Whether the lines of the file of that name agree; the number of lines, or the first that differs.
+pub fn agree(file: &str, lines: &str) -> Result<usize, String> {
+    for (at, line) in lines.lines().enumerate() {
+        let words: Vec<&str> = line.split(' ').collect();
+        let (given, answer) = answer(file, &words).ok_or(format!("line {}: no case", at + 1))?;
+        if words[given..].join(" ") != answer {
+            return Err(format!("line {}: answered {answer}: {line}", at + 1));
+        }
+    }
+    Ok(lines.lines().count())
+}
+
+/// How many words of the line are given, and the answer in words.
+fn answer(file: &str, words: &[&str]) -> Option<(usize, String)> {
+    match (file, words.len()) {
+        ("translate.txt", 5) => Some((2, translate(words)?)),
+        ("run.txt", 6) => Some((2, run(words)?)),
+        ("read.txt", 7) => Some((2, read(words)?)),
+        ("write.txt", 9) => Some((5, write(words)?)),
+        ("program.txt", 2) => Some((1, hex(&crate::verdict(&bytes(words[0])?)))),
+        _ => None,
+    }
+}
+
+fn translate(words: &[&str]) -> Option<String> {
+    let mut buffer = vec![0; words[1].parse().ok()?];
+    let answer = crate::translate(&bytes(words[0])?, &mut buffer);
+    Some(format!(
+        "{} {} {}",
+        answer.number,
+        answer.place,
+        hex(&buffer[..answer.length])
+    ))
+}
+
+fn run(words: &[&str]) -> Option<String> {
+    let answer = crate::run(&bytes(words[0])?, &bytes(words[1])?);
+    let verdict = match answer.verdict {
+        Truth::True => "true",
+        Truth::False => "false",
+        Truth::Bottom => "bottom",
+    };
+    Some(format!(
+        "{} {} {verdict} {}",
+        answer.number, answer.place, answer.steps
+    ))
+}
+
+fn read(words: &[&str]) -> Option<String> {
+    let notice = bytes(words[0])?;
+    let answer = crate::read(&notice, words[1].parse().ok()?);
+    let (name, value) = (hex(&notice[answer.name]), hex(&notice[answer.value]));
+    Some(format!(
+        "{} {} {} {name} {value}",
+        answer.number, answer.place, answer.kind
+    ))
+}
+
+fn write(words: &[&str]) -> Option<String> {
+    let mut buffer = bytes(words[0])?;
+    let (length, kind) = (words[1].parse().ok()?, words[3].parse().ok()?);
+    let answer = crate::write(
+        &mut buffer,
+        length,
+        &bytes(words[2])?,
+        kind,
+        &bytes(words[4])?,
+    );
+    Some(format!(
+        "{} {} {} {}",
+        answer.number,
+        answer.place,
+        answer.length,
+        hex(&buffer)
+    ))
+}
+
+fn hex(bytes: &[u8]) -> String {
+    if bytes.is_empty() {
+        return "-".to_string();
+    }
+    bytes.iter().map(|byte| format!("{byte:02x}")).collect()
+}
+
+fn bytes(word: &str) -> Option<Vec<u8>> {
+    let digits = if word == "-" { "" } else { word };
+    let byte = |at: usize| u8::from_str_radix(digits.get(at..at + 2)?, 16).ok();
+    (0..digits.len()).step_by(2).map(byte).collect()
+}
+
+#[cfg(test)]
+mod tests {
+    use super::*;
+
+    #[test]
+    fn a_difference_is_reported() {
+        assert_eq!(agree("translate.txt", "4f70 100 5 0 -\n- 0 2 0 -"), Ok(2));
+        assert!(agree("translate.txt", "4f70 100 5 1 -").is_err());
+        assert!(agree("other.txt", "4f70 100 5 0 -").is_err());
+        assert_eq!(agree("program.txt", "020000000700 5820370a"), Ok(1));
+        assert_eq!(agree("read.txt", "0400000001000000 2 17 0 0 - -"), Ok(1));
+    }
+}

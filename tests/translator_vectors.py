@@ -1,0 +1,121 @@
+#!/usr/bin/env python3
+"""translator_vectors.py VECTORS: writes crates/translator_test/stdin and stdout from translate.txt (VECTORS, or in the folder VECTORS), document 01's own examples, and texts at the limits that it names.
+
+A vector's answer is its own. A vector with a buffer of 65,536 bytes is asked again with none, and one with a table also with a buffer of the table's length and with one byte less: "9 | lent buffer shorter than the table", the
+last of the refusals. The answers of the other cases follow from document 01's sentences, which are named beside them."""
+import struct
+import sys
+from pathlib import Path
+
+LARGE = 65536
+ONE, EQUAL = (1, 0, 1), (32, 0, 0)
+
+
+def table(entries, pool=b""):
+    body = struct.pack("<HHH", 2, len(entries), len(pool)) + b"".join(struct.pack("<HHQ", *e) for e in entries) + pool
+    return struct.pack("<I", len(body)) + body
+
+
+def accepted(text, written, rooms=(LARGE,)):
+    """The text with buffers that have room, with one of just the table's length, and with shorter ones."""
+    for room in (*rooms, len(written)):
+        yield text, room, 0, 0, written
+    for room in (len(written) - 1, 0):
+        yield text, room, 9, 0, b""
+
+
+def refused(text, number, place=0):
+    for room in (LARGE, 0):
+        yield text, room, number, place, b""
+
+
+def examples():
+    # "P `Op == 42` .. Table of 48 bytes: `2C 00 00 00 02 00 03 00 02 00`, entries (5,2,0) (1,0,42) (32,0,0), `4F 70`."
+    yield from accepted(b"Op == 42", bytes.fromhex(
+        "2C 00 00 00 02 00 03 00 02 00"
+        "05 00 02 00 00 00 00 00 00 00 00 00"
+        "01 00 00 00 2A 00 00 00 00 00 00 00"
+        "20 00 00 00 00 00 00 00 00 00 00 00"
+        "4F 70"), (LARGE, 49))
+    for text in (b"pipe=>20", b"Op", b"! Op == 42", b"1.0e23"):
+        yield from refused(text, 5)
+    yield from refused(b"a -5", 2, 2)
+    yield from refused(b"", 2, 0)
+    yield from refused(b"Op == 42 &&", 2, 11)
+    yield from refused(b"09 == 9", 1)
+    yield from refused(b"int32 ((a))", 4)
+    for text in (b"0x80000000 == 0", b"1.0e24", b"123456789012345.6"):
+        yield from refused(text, 3)
+
+
+def names():
+    # "`L && R` becomes L, skip if false, R, op 41; `L || R` uses skip if true; a is R's entries plus 1."; "each time anew"
+    for sign, skip, op in ((b"&&", 44, 41), (b"||", 45, 43)):
+        same = [[(5, 1, i), (5, 1, i + 1), EQUAL] for i in (0, 2, 4)]
+        yield from accepted(b"a == a %b a == a" % sign, table(same[0] + [(skip, 4, 0)] + same[1] + [(op, 0, 0)], b"aaaa"))
+        right = [(skip, 4, 0)] + same[2] + [(op, 0, 0)]
+        yield from accepted(b"a == a %b a == a %b a == a" % (sign, sign), table(same[0] + [(skip, 4, 0)] + same[1] + [(op, 0, 0)] + right, b"aaaaaa"))
+        yield from accepted(b"a == a %b (a == a %b a == a)" % (sign, sign), table(same[0] + [(skip, 9, 0)] + same[1] + right + [(op, 0, 0)], b"aaaaaa"))
+    # "Operand names (not functions') and strings enter the pool unescaped, in text order"
+    yield from accepted(b'begins-with (\\(b, "\\"x", "b")', table([(5, 2, 0), (4, 2, 2), (4, 1, 4), (56, 2, 0)], b'(b"xb'))
+
+
+def sum_of(levels, last, entries):
+    """Two slots for each level under those of the last sum."""
+    text = b"1 + 1 * (" * levels + last + b")" * levels + b" == 1"
+    return text, [ONE] * (2 * levels) + entries + [(22, 0, 0), (25, 0, 0)] * levels + [ONE, EQUAL]
+
+
+def limits():
+    # "10 | text over 4,096 bytes"; the grammar's place is "the text's length"
+    yield from refused(b" " * 4096, 2, 4096)
+    yield from refused(b" " * 4097, 10)
+    long = b'"' + b"x" * 4090 + b'"==""'
+    yield from accepted(long, table([(4, 4090, 0), (4, 0, 4090), EQUAL], b"x" * 4090))
+    yield from refused(long + b" ", 10)
+    # "7 | over 512 entries": 128 comparisons and 127 times `^^` are 511
+    text = b" ^^ ".join([b"1 == 1"] * 128)
+    entries = [ONE, ONE, EQUAL] + [ONE, ONE, EQUAL, (42, 0, 0)] * 127
+    yield from accepted(b"!(" + text + b")", table(entries + [(40, 0, 0)]))
+    yield from refused(b"!!(" + text + b")", 7)
+    # "8 | stack over 32"
+    text, entries = sum_of(15, b"1 + 1", [ONE, ONE, (25, 0, 0)])
+    yield from accepted(text, table(entries))
+    high = sum_of(15, b"1 + 1 * 1", [])[0]
+    yield from refused(high, 8)
+    # "first that applies in this order: 10, then 1 or 3 at the first bad token, 6, 2, 4, 5, 7, 8, 9": each beside the next ones
+    deep, wide = b"(" * 25, b" ^^ ".join([b"1 == 1"] * 129)
+    yield from refused(b"[" + b" " * 4096, 10)
+    yield from refused(deep + b"[ 2147483648", 1, 25)
+    yield from refused(deep + b"2147483648 [", 3, 25)
+    yield from refused(deep + b")", 6)
+    yield from refused(b"f(a) + 1 )", 2, 9)
+    yield from refused(b"f(a) + 1", 4)
+    yield from refused(b"1 == 1 == 1 ^^ " + wide, 5)
+    yield from refused(wide + b" ^^ " + high, 7)
+
+
+def asked(path):
+    for line in path.read_text().split("\n"):
+        if not line:
+            continue
+        text, room, number, place, written = line.split()
+        text, written = (b"" if s == "-" else bytes.fromhex(s) for s in (text, written))
+        room, number, place = int(room), int(number), int(place)
+        if number == 0:
+            yield from accepted(text, written, (room,))
+        else:
+            yield text, room, number, place, b""
+            yield text, 0, number, place, b""
+
+
+def main(vectors):
+    here = Path(__file__).resolve().parent.parent / "crates" / "translator_test"
+    path = Path(vectors)
+    rows = [*examples(), *names(), *limits(), *asked(path / "translate.txt" if path.is_dir() else path)]
+    part = lambda s: struct.pack("<I", len(s)) + s
+    (here / "stdin").write_bytes(b"".join(part(struct.pack("<I", room)) + part(text) for text, room, *_ in rows))
+    (here / "stdout").write_text("".join("%d %d %d %s kept\n" % (number, place, len(t), t.hex() or "-") for _, _, number, place, t in rows))
+
+
+main(sys.argv[1])

@@ -1,0 +1,282 @@
+//! Safe Rust over the static library of Virentolex, a verified notification router core.
+//!
+//! Each function passes its slices to the function of the same name in `include/virentolex.h`, whose
+//! promise is proved for all bytes, and puts the numbers that come back into a struct. `number` is
+//! document 01's refusal number, 0 if nothing was refused. No function asks anything of its caller.
+#![deny(unsafe_op_in_unsafe_fn)]
+
+use std::fmt;
+
+/// The functions of librouter.a, as `include/virentolex.h` declares them.
+mod library {
+    extern "C" {
+        pub fn virentolex_translate(
+            text: *const u8,
+            text_len: usize,
+            buffer: *mut u8,
+            buffer_len: usize,
+            place: *mut usize,
+            length: *mut usize,
+        ) -> u8;
+        pub fn virentolex_check(table: *const u8, table_len: usize) -> u8;
+        pub fn virentolex_check_notice(
+            notice: *const u8,
+            notice_len: usize,
+            place: *mut usize,
+        ) -> u8;
+        pub fn virentolex_run(
+            table: *const u8,
+            table_len: usize,
+            notice: *const u8,
+            notice_len: usize,
+            place: *mut usize,
+            verdict: *mut u8,
+            steps: *mut usize,
+        ) -> u8;
+        pub fn virentolex_read(
+            notice: *const u8,
+            notice_len: usize,
+            k: usize,
+            place: *mut usize,
+            kind: *mut u16,
+            name: *mut usize,
+            value: *mut usize,
+            end: *mut usize,
+        ) -> u8;
+        pub fn virentolex_write(
+            buffer: *mut u8,
+            buffer_len: usize,
+            length: usize,
+            name: *const u8,
+            name_len: usize,
+            kind: u16,
+            value: *const u8,
+            value_len: usize,
+            place: *mut usize,
+            new_length: *mut usize,
+        ) -> u8;
+    }
+}
+
+/// The most bytes of a text.
+pub const TEXT_MAX: usize = 4_096;
+/// The most bytes of a table: 10, 512 entries of 12, a pool of 4,096.
+pub const TABLE_MAX: usize = 10_250;
+/// The most bytes of a notice.
+pub const NOTICE_MAX: usize = 16_384;
+
+/// The notice without fields, with which a new notice is begun.
+pub const EMPTY_NOTICE: [u8; 8] = [4, 0, 0, 0, 1, 0, 0, 0];
+
+/// The kinds of fields.
+pub mod kind {
+    /// 4 bytes, little-endian.
+    pub const INT32: u16 = 1;
+    /// 8 bytes, little-endian.
+    pub const INT64: u16 = 2;
+    /// 8 bytes, little-endian, the bits of an `f64`.
+    pub const REAL64: u16 = 3;
+    /// 0 to 1,024 bytes.
+    pub const STRING: u16 = 4;
+    /// 0 to 1,024 bytes.
+    pub const OPAQUE: u16 = 5;
+}
+
+/// The three truth values, in their order. Only a true verdict is delivered.
+#[derive(Debug, Clone, Copy, PartialEq, Eq, PartialOrd, Ord, Hash)]
+pub enum Verdict {
+    False,
+    Bottom,
+    True,
+}
+
+impl Verdict {
+    /// The verdict of a number of the library: false 0, bottom 1, true 2, and no other is promised.
+    fn of_number(number: u8) -> Verdict {
+        match number {
+            0 => Verdict::False,
+            1 => Verdict::Bottom,
+            2 => Verdict::True,
+            _ => unreachable!("a verdict is 0, 1 or 2"),
+        }
+    }
+}
+
+impl fmt::Display for Verdict {
+    fn fmt(&self, f: &mut fmt::Formatter<'_>) -> fmt::Result {
+        f.write_str(match self {
+            Verdict::False => "false",
+            Verdict::Bottom => "bottom",
+            Verdict::True => "true",
+        })
+    }
+}
+
+/// What translating answers: the place is that in the text for 1, 2 and 3, and else 0; the length is
+/// the table's, 0 if refused.
+#[derive(Debug, Clone, Copy, PartialEq, Eq)]
+pub struct Translated {
+    pub number: u8,
+    pub place: usize,
+    pub length: usize,
+}
+
+/// What the check of a notice answers: 0, or 11 with the place of the first fault.
+#[derive(Debug, Clone, Copy, PartialEq, Eq)]
+pub struct Checked {
+    pub number: u8,
+    pub place: usize,
+}
+
+/// What running answers: if refused, the verdict is bottom and the steps are 0.
+#[derive(Debug, Clone, Copy, PartialEq, Eq)]
+pub struct Ran {
+    pub number: u8,
+    pub place: usize,
+    pub verdict: Verdict,
+    pub steps: usize,
+}
+
+/// What reading answers: the field's kind, and its name and value as parts of the notice; if refused,
+/// kind 0 and empty parts.
+#[derive(Debug, Clone, Copy, PartialEq, Eq)]
+pub struct Field<'a> {
+    pub number: u8,
+    pub place: usize,
+    pub kind: u16,
+    pub name: &'a [u8],
+    pub value: &'a [u8],
+}
+
+/// What writing answers: the notice's new length, or the length that was named if refused.
+#[derive(Debug, Clone, Copy, PartialEq, Eq)]
+pub struct Written {
+    pub number: u8,
+    pub place: usize,
+    pub length: usize,
+}
+
+/// Translates a subscription text to a table at the buffer's start. The bytes after the table stay,
+/// and a refusal changes no byte.
+pub fn translate(text: &[u8], buffer: &mut [u8]) -> Translated {
+    let mut place = 0;
+    let mut length = 0;
+    // SAFETY: each pointer and length come from one slice, an empty one's pointer is not null; the
+    // buffer and the two results are borrowed here alone, so that they overlap nothing.
+    let number = unsafe {
+        library::virentolex_translate(
+            text.as_ptr(),
+            text.len(),
+            buffer.as_mut_ptr(),
+            buffer.len(),
+            &mut place,
+            &mut length,
+        )
+    };
+    Translated {
+        number,
+        place,
+        length,
+    }
+}
+
+/// Checks a table: 0, or 12 if its layout or its check fails.
+pub fn check(table: &[u8]) -> u8 {
+    // SAFETY: the pointer and the length come from one slice, which is only read.
+    unsafe { library::virentolex_check(table.as_ptr(), table.len()) }
+}
+
+/// Checks a notice: 0, or 11 and the place of the first fault.
+pub fn check_notice(notice: &[u8]) -> Checked {
+    let mut place = 0;
+    // SAFETY: the pointer and the length come from one slice, which is only read; the result is
+    // borrowed here alone.
+    let number =
+        unsafe { library::virentolex_check_notice(notice.as_ptr(), notice.len(), &mut place) };
+    Checked { number, place }
+}
+
+/// Runs a table on a notice. Both are checked first: 12, then 11.
+pub fn run(table: &[u8], notice: &[u8]) -> Ran {
+    let mut place = 0;
+    let mut verdict = 0;
+    let mut steps = 0;
+    // SAFETY: each pointer and length come from one slice, which is only read; the three results are
+    // borrowed here alone.
+    let number = unsafe {
+        library::virentolex_run(
+            table.as_ptr(),
+            table.len(),
+            notice.as_ptr(),
+            notice.len(),
+            &mut place,
+            &mut verdict,
+            &mut steps,
+        )
+    };
+    Ran {
+        number,
+        place,
+        verdict: Verdict::of_number(verdict),
+        steps,
+    }
+}
+
+/// Reads field k of a notice: 11, then 17 if it has no field k.
+pub fn read(notice: &[u8], k: usize) -> Field<'_> {
+    let mut place = 0;
+    let mut kind = 0;
+    let (mut name, mut value, mut end) = (0, 0, 0);
+    // SAFETY: the pointer and the length come from one slice, which is only read; the five results
+    // are borrowed here alone.
+    let number = unsafe {
+        library::virentolex_read(
+            notice.as_ptr(),
+            notice.len(),
+            k,
+            &mut place,
+            &mut kind,
+            &mut name,
+            &mut value,
+            &mut end,
+        )
+    };
+    Field {
+        number,
+        place,
+        kind,
+        name: &notice[name..value],
+        value: &notice[value..end],
+    }
+}
+
+/// Adds a field, at its name's place, to the notice in the first `length` bytes of the buffer. The
+/// bytes after the new notice stay, and a refusal changes no byte.
+pub fn write(buffer: &mut [u8], length: usize, name: &[u8], kind: u16, value: &[u8]) -> Written {
+    let mut place = 0;
+    let mut new_length = 0;
+    // SAFETY: each pointer and length come from one slice, an empty one's pointer is not null; the
+    // buffer and the two results are borrowed here alone, so that they overlap nothing.
+    let number = unsafe {
+        library::virentolex_write(
+            buffer.as_mut_ptr(),
+            buffer.len(),
+            length,
+            name.as_ptr(),
+            name.len(),
+            kind,
+            value.as_ptr(),
+            value.len(),
+            &mut place,
+            &mut new_length,
+        )
+    };
+    Written {
+        number,
+        place,
+        length: new_length,
+    }
+}
+
+#[cfg(test)]
+mod tests;

@@ -1,0 +1,211 @@
+//! Document 01's examples through the library. Every expected number is the paper's.
+use super::*;
+
+const OP42: [u8; 19] = [
+    0x0F, 0x00, 0x00, 0x00, 0x01, 0x00, 0x01, 0x00, 0x09, 0x00, 0x01, 0x00, 0x02, 0x4F, 0x70, 0x2A,
+    0x00, 0x00, 0x00,
+];
+
+/// `2C 00 00 00 02 00 03 00 02 00`, entries (5,2,0) (1,0,42) (32,0,0), `4F 70`.
+const OP_IS_42: [u8; 48] = [
+    0x2C, 0, 0, 0, 2, 0, 3, 0, 2, 0, //
+    5, 0, 2, 0, 0, 0, 0, 0, 0, 0, 0, 0, //
+    1, 0, 0, 0, 42, 0, 0, 0, 0, 0, 0, 0, //
+    32, 0, 0, 0, 0, 0, 0, 0, 0, 0, 0, 0, //
+    0x4F, 0x70,
+];
+
+/// A text's table.
+fn table(text: &str) -> Vec<u8> {
+    let mut buffer = vec![0; TABLE_MAX];
+    let t = translate(text.as_bytes(), &mut buffer);
+    assert_eq!((t.number, t.place), (0, 0), "{text}");
+    buffer.truncate(t.length);
+    buffer
+}
+
+/// A text's verdict and steps on a notice.
+fn verdict(text: &str, notice: &[u8]) -> (Verdict, usize) {
+    let r = run(&table(text), notice);
+    assert_eq!((r.number, r.place), (0, 0), "{text}");
+    (r.verdict, r.steps)
+}
+
+#[test]
+fn a_table_is_written_and_later_bytes_stay() {
+    let mut buffer = [0xAA; 50];
+    let t = translate(b"Op == 42", &mut buffer);
+    assert_eq!(
+        t,
+        Translated {
+            number: 0,
+            place: 0,
+            length: 48
+        }
+    );
+    assert_eq!(buffer[..48], OP_IS_42);
+    assert_eq!(buffer[48..], [0xAA; 2]);
+}
+
+#[test]
+fn a_refused_text_changes_no_byte() {
+    let cases: [(&str, u8, usize); 9] = [
+        ("pipe=>20", 5, 0),
+        ("Op", 5, 0),
+        ("! Op == 42", 5, 0),
+        ("a -5", 2, 2),
+        ("", 2, 0),
+        ("Op == 42 &&", 2, 11),
+        ("09 == 9", 1, 0),
+        ("int32 ((a))", 4, 0),
+        ("0x80000000 == 0", 3, 0),
+    ];
+    for (text, number, place) in cases {
+        let mut buffer = [0xAA; 64];
+        let t = translate(text.as_bytes(), &mut buffer);
+        assert_eq!((t.number, t.place, t.length), (number, place, 0), "{text}");
+        assert_eq!(buffer, [0xAA; 64], "{text}");
+    }
+}
+
+#[test]
+fn a_buffer_one_byte_short_is_9() {
+    let mut buffer = [0xAA; 47];
+    let t = translate(b"Op == 42", &mut buffer);
+    assert_eq!((t.number, t.place, t.length), (9, 0, 0));
+    assert_eq!(buffer, [0xAA; 47]);
+}
+
+#[test]
+fn the_cases_of_the_meaning() {
+    use Verdict::{Bottom, False, True};
+    assert_eq!(verdict("Op == 42", &OP42), (True, 3));
+    assert_eq!(verdict("Op == 1 && 1 == 2", &EMPTY_NOTICE), (False, 8));
+    assert_eq!(verdict("1 == 2 && Op == 42", &EMPTY_NOTICE), (False, 4));
+    let cases = [
+        ("Op != 42", Bottom),
+        ("1 == 1 ^^ 2 == 2", False),
+        ("2 + 3 * 4 & 6 == 14", True),
+        ("-7 / 2 == -3", True),
+        ("2147483647 + 1 == 2147483648L", True),
+        ("9223372036854775807L + 1 == 0", Bottom),
+        ("-1 >>> 28 == 15", True),
+        ("1 / 0 == 0 || 1 == 1", True),
+    ];
+    for (text, expected) in cases {
+        assert_eq!(verdict(text, &EMPTY_NOTICE).0, expected, "{text}");
+    }
+}
+
+#[test]
+fn tables_and_notices_are_checked() {
+    assert_eq!(check(&OP_IS_42), 0);
+    assert_eq!(check(&OP_IS_42[..47]), 12);
+    let mut cut = OP42;
+    cut[8] = 8;
+    assert_eq!(
+        check_notice(&OP42),
+        Checked {
+            number: 0,
+            place: 0
+        }
+    );
+    assert_eq!(
+        check_notice(&cut),
+        Checked {
+            number: 11,
+            place: 8
+        }
+    );
+}
+
+#[test]
+fn running_is_refused_12_before_11() {
+    let mut cut = OP42;
+    cut[8] = 8;
+    let refused = |number, place| Ran {
+        number,
+        place,
+        verdict: Verdict::Bottom,
+        steps: 0,
+    };
+    assert_eq!(run(&OP_IS_42, &cut), refused(11, 8));
+    assert_eq!(run(&OP_IS_42[..47], &cut), refused(12, 0));
+}
+
+#[test]
+fn a_field_is_read_as_parts_of_the_notice() {
+    let f = read(&OP42, 0);
+    assert_eq!((f.number, f.place, f.kind), (0, 0, kind::INT32));
+    assert_eq!((f.name, f.value), (&b"Op"[..], &[42, 0, 0, 0][..]));
+    assert_eq!(f.name.as_ptr(), OP42[13..].as_ptr());
+    let none = Field {
+        number: 17,
+        place: 0,
+        kind: 0,
+        name: b"",
+        value: b"",
+    };
+    assert_eq!(read(&OP42, 1), none);
+}
+
+#[test]
+fn op42_is_written_from_the_empty_notice() {
+    let mut buffer = [0xAA; 21];
+    buffer[..8].copy_from_slice(&EMPTY_NOTICE);
+    let w = write(&mut buffer, 8, b"Op", kind::INT32, &42i32.to_le_bytes());
+    assert_eq!((w.number, w.place, w.length), (0, 0, 19));
+    assert_eq!(buffer[..19], OP42);
+    assert_eq!(buffer[19..], [0xAA; 2]);
+}
+
+#[test]
+fn a_refused_write_changes_no_byte() {
+    let cases: [(usize, &str, u16, &str, u8); 6] = [
+        (20, "N", kind::STRING, "v", 11),
+        (19, "", kind::STRING, "v", 13),
+        (19, "N", 6, "v", 16),
+        (19, "N", kind::INT32, "v", 16),
+        (19, "Op", kind::STRING, "v", 14),
+        (19, "N", kind::STRING, "v", 15),
+    ];
+    for (length, name, kind, value, number) in cases {
+        let mut buffer = OP42;
+        let w = write(&mut buffer, length, name.as_bytes(), kind, value.as_bytes());
+        assert_eq!((w.number, w.place, w.length), (number, 0, length));
+        assert_eq!(buffer, OP42);
+    }
+}
+
+#[test]
+fn empty_slices_are_answered() {
+    assert_eq!(translate(b"Op == 42", &mut []).number, 9);
+    assert_eq!(check(&[]), 12);
+    assert_eq!(check_notice(&[]).number, 11);
+    assert_eq!(run(&[], &[]).number, 12);
+    assert_eq!(run(&OP_IS_42, &[]).number, 11);
+    assert_eq!(read(&[], 0).number, 11);
+    assert_eq!(write(&mut [], 0, b"", kind::STRING, b"").number, 11);
+}
+
+#[test]
+fn an_empty_slice_may_have_a_null_pointer() {
+    let null = std::ptr::null();
+    let (mut place, mut length) = (9, 9);
+    let mut buffer = [0xAA; 48];
+    // SAFETY: a slice of length 0 may have any pointer; the buffer and the results are borrowed here
+    // alone.
+    let number = unsafe {
+        library::virentolex_translate(
+            null,
+            0,
+            buffer.as_mut_ptr(),
+            buffer.len(),
+            &mut place,
+            &mut length,
+        )
+    };
+    assert_eq!((number, place, length), (2, 0, 0));
+    // SAFETY: a slice of length 0 may have any pointer.
+    assert_eq!(unsafe { library::virentolex_check(null, 0) }, 12);
+}
