@@ -27,18 +27,21 @@ fn fill(f: &mut dyn FnMut(u32), pace: Pace) -> u32 {
     }
 }
 
-fn median(mut v: Vec<f64>) -> f64 {
+pub fn median(mut v: Vec<f64>) -> f64 {
     v.sort_by(f64::total_cmp);
     v[v.len() / 2]
 }
 
-/// Nanoseconds a time of each side: the median over the rounds, the sides in turn.
-pub fn compare(ours: &mut dyn FnMut(u32), expert: &mut dyn FnMut(u32), pace: Pace) -> (f64, f64) {
+/// Nanoseconds a time of each side and their ratio: each the median over the rounds. The sides go in turn, and a ratio is that of
+/// one round, so that other work on the machine, which comes and goes, tells on both.
+pub fn compare(ours: &mut dyn FnMut(u32), expert: &mut dyn FnMut(u32), pace: Pace) -> (f64, f64, f64) {
     let (m, n) = (fill(ours, pace), fill(expert, pace));
-    let (mut a, mut b) = (Vec::new(), Vec::new());
+    let (mut a, mut b, mut r) = (Vec::new(), Vec::new(), Vec::new());
     for _ in 0..pace.rounds {
-        a.push(once(ours, m) / m as f64);
-        b.push(once(expert, n) / n as f64);
+        let (x, y) = (once(ours, m) / m as f64, once(expert, n) / n as f64);
+        a.push(x);
+        b.push(y);
+        r.push(x / y);
     }
-    (median(a), median(b))
+    (median(a), median(b), median(r))
 }

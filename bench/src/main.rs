@@ -78,7 +78,7 @@ fn inner(pace: Pace) {
             // SAFETY: the notice is one of ours, and `agree` has checked it
             let (verdict, steps) = unsafe { expert::run(&p, &notice) };
             assert_eq!(ours::repeat(&table, &notice, 1), 4 * steps as u64 + verdict as u64);
-            let (a, b) = compare(
+            let (a, b, r) = compare(
                 &mut |times| {
                     black_box(ours::repeat(black_box(&table), black_box(&notice), times));
                 },
@@ -90,7 +90,7 @@ fn inner(pace: Pace) {
                 },
                 pace,
             );
-            row(&format!("{name}, {} ({steps} steps)", fields_of(fields)), a, b, a / b);
+            row(&format!("{name}, {} ({steps} steps)", fields_of(fields)), a, b, r);
         }
     }
 }
@@ -101,7 +101,7 @@ fn guarded(pace: Pace) {
         for fields in [1, 8, 64] {
             let notice = load::notice(fields);
             assert_eq!(ours::guarded(&table, &notice), expert::guarded(&table, &notice));
-            let (a, b) = compare(
+            let (a, b, r) = compare(
                 &mut |times| {
                     for _ in 0..times {
                         black_box(ours::guarded(black_box(&table), black_box(&notice)));
@@ -114,7 +114,7 @@ fn guarded(pace: Pace) {
                 },
                 pace,
             );
-            row(&format!("{name}, {}", fields_of(fields)), a, b, a / b);
+            row(&format!("{name}, {}", fields_of(fields)), a, b, r);
         }
     }
 }
@@ -124,7 +124,7 @@ fn checks(pace: Pace) {
     for (name, table) in tables() {
         assert!(ours::check(&table) && expert::check(&table));
         let n = entries_of(&table) as f64;
-        let (a, b) = compare(
+        let (a, b, r) = compare(
             &mut |times| {
                 for _ in 0..times {
                     black_box(ours::check(black_box(&table)));
@@ -137,13 +137,13 @@ fn checks(pace: Pace) {
             },
             pace,
         );
-        row(&name, a / n, b / n, a / b);
+        row(&name, a / n, b / n, r);
     }
     head("notice check, per field", "ns");
     for fields in [1, 8, 64] {
         let notice = load::notice(fields);
         assert_eq!((ours::check_notice(&notice), expert::check_notice(&notice)), (None, None));
-        let (a, b) = compare(
+        let (a, b, r) = compare(
             &mut |times| {
                 for _ in 0..times {
                     black_box(ours::check_notice(black_box(&notice)));
@@ -156,7 +156,7 @@ fn checks(pace: Pace) {
             },
             pace,
         );
-        row(&fields_of(fields), a / fields as f64, b / fields as f64, a / b);
+        row(&fields_of(fields), a / fields as f64, b / fields as f64, r);
     }
 }
 
@@ -177,7 +177,7 @@ fn translation(pace: Pace) {
         assert_eq!(ours::translate(text, &mut x), translate::translate(text, &mut y));
         assert_eq!(x, y);
         let entries = entries_of(&x);
-        let (a, b) = compare(
+        let (a, b, r) = compare(
             &mut |times| {
                 for _ in 0..times {
                     black_box(ours::translate(black_box(text), black_box(&mut x)));
@@ -191,21 +191,21 @@ fn translation(pace: Pace) {
             pace,
         );
         let n = text.len() as f64;
-        row(&format!("{} bytes, {entries} entries", text.len()), a / n, b / n, a / b);
+        row(&format!("{} bytes, {entries} entries", text.len()), a / n, b / n, r);
     }
 }
 
 fn main() {
     let word = std::env::args().nth(1).unwrap_or_default();
     let (pace, records) = match word.as_str() {
-        "" => (Pace { rounds: 15, round: 4e6 }, 1_000_000),
-        "quick" => (Pace { rounds: 7, round: 4e5 }, 100_000),
+        "" => (Pace { rounds: 41, round: 2e6 }, 1_000_000),
+        "quick" => (Pace { rounds: 9, round: 4e5 }, 100_000),
         "agree" => return agree::agree(200_000),
         _ => panic!("bench [quick | agree]"),
     };
     agree::agree(2_000);
     linear();
-    println!("ratio: ours over expert; medians of {} rounds, the sides in turn", pace.rounds);
+    println!("medians of {} rounds, the sides in turn; ratio: ours over expert in the same round", pace.rounds);
     inner(pace);
     guarded(pace);
     checks(pace);

@@ -1,5 +1,6 @@
 //! The program `verdict` beside the expert's: records per second from a file to /dev/null.
 
+use crate::clock::median;
 use crate::{head, load, row};
 use std::fs::File;
 use std::io::{BufWriter, Write};
@@ -34,11 +35,6 @@ fn output(program: &Path, input: &Path) -> Vec<u8> {
     Command::new(program).stdin(File::open(input).unwrap()).output().unwrap().stdout
 }
 
-fn median(mut v: Vec<f64>) -> f64 {
-    v.sort_by(f64::total_cmp);
-    v[v.len() / 2]
-}
-
 pub fn rates(count: usize) {
     let ours = Path::new(env!("CARGO_MANIFEST_DIR")).join("../target/bin/verdict");
     let expert = std::env::current_exe().unwrap().with_file_name("expert_verdict");
@@ -54,14 +50,15 @@ pub fn rates(count: usize) {
         write_input(&file, &records, 1000);
         assert_eq!(output(&ours, &file), output(&expert, &file));
         write_input(&file, &records, count);
-        let (mut a, mut b) = (Vec::new(), Vec::new());
-        for _ in 0..5 {
-            a.push(seconds(&ours, &file));
-            b.push(seconds(&expert, &file));
+        let (mut a, mut b, mut r) = (Vec::new(), Vec::new(), Vec::new());
+        for _ in 0..9 {
+            let (x, y) = (seconds(&ours, &file), seconds(&expert, &file));
+            a.push(x);
+            b.push(y);
+            r.push(x / y);
         }
-        let (a, b) = (median(a), median(b));
         // as with the other rows, a ratio over 1 says that ours takes longer
-        row(&name, count as f64 / a / 1000.0, count as f64 / b / 1000.0, a / b);
+        row(&name, count as f64 / median(a) / 1000.0, count as f64 / median(b) / 1000.0, median(r));
     }
     std::fs::remove_file(&file).unwrap();
 }
