@@ -4,11 +4,66 @@ use crate::load::{self, Dice};
 use bench::{expert, ours, translate};
 
 const TOKENS: [&str; 60] = [
-    "a", "Op", "Subject", "Level", "Cost", "Id", "Key", "none", "1", "0", "-7", "42", "3L", "2147483647", "-2147483648",
-    "9223372036854775807L", "0x1F", "017", "1.5", "-0.0", "2.5e3", "1.0e22", "\"x\"", "'ops'", "\"a\\\"b\"", "(", ")", ",", "==", "!=", "<",
-    "<=", ">", ">=", "&&", "||", "^^", "!", "~", "+", "-", "*", "/", "%", "&", "|", "^", "<<", ">>", ">>>", "size (Subject)",
-    "fold-case (Subject)", "int32 (Op)", "real64 (Cost)", "nan (Cost)", "require (Op)", "contains (Subject, \"e\")", "equals (Op, 1, 42)",
-    "ends-with (fold-case (Event), \"D\", \"x\")", "begins-with (Subject, \"al\")",
+    "a",
+    "Op",
+    "Subject",
+    "Level",
+    "Cost",
+    "Id",
+    "Key",
+    "none",
+    "1",
+    "0",
+    "-7",
+    "42",
+    "3L",
+    "2147483647",
+    "-2147483648",
+    "9223372036854775807L",
+    "0x1F",
+    "017",
+    "1.5",
+    "-0.0",
+    "2.5e3",
+    "1.0e22",
+    "\"x\"",
+    "'ops'",
+    "\"a\\\"b\"",
+    "(",
+    ")",
+    ",",
+    "==",
+    "!=",
+    "<",
+    "<=",
+    ">",
+    ">=",
+    "&&",
+    "||",
+    "^^",
+    "!",
+    "~",
+    "+",
+    "-",
+    "*",
+    "/",
+    "%",
+    "&",
+    "|",
+    "^",
+    "<<",
+    ">>",
+    ">>>",
+    "size (Subject)",
+    "fold-case (Subject)",
+    "int32 (Op)",
+    "real64 (Cost)",
+    "nan (Cost)",
+    "require (Op)",
+    "contains (Subject, \"e\")",
+    "equals (Op, 1, 42)",
+    "ends-with (fold-case (Event), \"D\", \"x\")",
+    "begins-with (Subject, \"al\")",
 ];
 
 const SIZES: [usize; 5] = [1, 2, 8, 32, 64];
@@ -20,17 +75,31 @@ fn value(dice: &mut Dice, depth: usize) -> String {
         2 => format!("~ {}", value(dice, 0)),
         _ => {
             let op = ["+", "-", "*", "/", "%", "&", "|", "^", "<<", ">>", ">>>"][dice.next(11)];
-            format!("({} {op} {})", value(dice, depth - 1), value(dice, depth - 1))
+            format!(
+                "({} {op} {})",
+                value(dice, depth - 1),
+                value(dice, depth - 1)
+            )
         }
     }
 }
 
 fn logic(dice: &mut Dice, depth: usize) -> String {
     match dice.next(if depth == 0 { 2 } else { 6 }) {
-        0 => format!("{} {} {}", value(dice, 2), TOKENS[28 + dice.next(6)], value(dice, 2)),
+        0 => format!(
+            "{} {} {}",
+            value(dice, 2),
+            TOKENS[28 + dice.next(6)],
+            value(dice, 2)
+        ),
         1 => TOKENS[52 + dice.next(8)].to_string(),
         2 => format!("! ({})", logic(dice, depth - 1)),
-        _ => format!("({} {} {})", logic(dice, depth - 1), ["&&", "||", "^^"][dice.next(3)], logic(dice, depth - 1)),
+        _ => format!(
+            "({} {} {})",
+            logic(dice, depth - 1),
+            ["&&", "||", "^^"][dice.next(3)],
+            logic(dice, depth - 1)
+        ),
     }
 }
 
@@ -40,7 +109,9 @@ fn text(dice: &mut Dice) -> Vec<u8> {
         0 => {
             let n = 1 + dice.next(8);
             let words: Vec<&str> = (0..n).map(|_| TOKENS[dice.next(TOKENS.len())]).collect();
-            words.join(if dice.next(2) == 0 { " " } else { "" }).into_bytes()
+            words
+                .join(if dice.next(2) == 0 { " " } else { "" })
+                .into_bytes()
         }
         _ => {
             let depth = 1 + dice.next(5);
@@ -61,7 +132,11 @@ pub fn agree(cases: usize) {
     let (mut accepted, mut passed) = (0, 0);
     for _ in 0..cases {
         let t = text(&mut dice);
-        let room = if dice.next(50) == 0 { dice.next(600) } else { 10250 };
+        let room = if dice.next(50) == 0 {
+            dice.next(600)
+        } else {
+            10250
+        };
         let a = ours::translate(&t, &mut x[..room]);
         let b = translate::translate(&t, &mut y[..room]);
         assert_eq!(a, b, "{}", String::from_utf8_lossy(&t));
@@ -83,7 +158,12 @@ pub fn agree(cases: usize) {
             notice[i] = dice.next(256) as u8;
         }
         assert_eq!(ours::check_notice(&notice), expert::check_notice(&notice));
-        assert_eq!(ours::guarded(&table, &notice), expert::guarded(&table, &notice), "{}", String::from_utf8_lossy(&t));
+        assert_eq!(
+            ours::guarded(&table, &notice),
+            expert::guarded(&table, &notice),
+            "{}",
+            String::from_utf8_lossy(&t)
+        );
     }
     println!("same answers on {cases} random texts, of which {accepted} have a table, and on {passed} tables that pass the check");
 }

@@ -23,7 +23,11 @@ fn fill(f: &mut dyn FnMut(u32), pace: Pace) -> u32 {
         if t >= pace.round || times >= 1 << 28 {
             return times;
         }
-        times = if t * 4.0 < pace.round { times * 4 } else { (times as f64 * pace.round / t * 1.05) as u32 + 1 };
+        times = if t * 4.0 < pace.round {
+            times * 4
+        } else {
+            (times as f64 * pace.round / t * 1.05) as u32 + 1
+        };
     }
 }
 
@@ -34,7 +38,11 @@ pub fn median(mut v: Vec<f64>) -> f64 {
 
 /// Nanoseconds a time of each side and their ratio: each the median over the rounds. The sides go in turn, and a ratio is that of
 /// one round, so that other work on the machine, which comes and goes, tells on both.
-pub fn compare(ours: &mut dyn FnMut(u32), expert: &mut dyn FnMut(u32), pace: Pace) -> (f64, f64, f64) {
+pub fn compare(
+    ours: &mut dyn FnMut(u32),
+    expert: &mut dyn FnMut(u32),
+    pace: Pace,
+) -> (f64, f64, f64) {
     let (m, n) = (fill(ours, pace), fill(expert, pace));
     let (mut a, mut b, mut r) = (Vec::new(), Vec::new(), Vec::new());
     for _ in 0..pace.rounds {

@@ -31,19 +31,24 @@ unsafe fn same_bytes(a: *const u8, b: *const u8, n: usize) -> bool {
     if n >= 8 {
         let mut i = 0;
         while i + 8 <= n {
-            if (a.add(i) as *const u64).read_unaligned() != (b.add(i) as *const u64).read_unaligned() {
+            if (a.add(i) as *const u64).read_unaligned()
+                != (b.add(i) as *const u64).read_unaligned()
+            {
                 return false;
             }
             i += 8;
         }
-        return (a.add(n - 8) as *const u64).read_unaligned() == (b.add(n - 8) as *const u64).read_unaligned();
+        return (a.add(n - 8) as *const u64).read_unaligned()
+            == (b.add(n - 8) as *const u64).read_unaligned();
     }
     if n >= 4 {
         return (a as *const u32).read_unaligned() == (b as *const u32).read_unaligned()
-            && (a.add(n - 4) as *const u32).read_unaligned() == (b.add(n - 4) as *const u32).read_unaligned();
+            && (a.add(n - 4) as *const u32).read_unaligned()
+                == (b.add(n - 4) as *const u32).read_unaligned();
     }
     if n >= 2 {
-        return (a as *const u16).read_unaligned() == (b as *const u16).read_unaligned() && *a.add(n - 1) == *b.add(n - 1);
+        return (a as *const u16).read_unaligned() == (b as *const u16).read_unaligned()
+            && *a.add(n - 1) == *b.add(n - 1);
     }
     n == 0 || *a == *b
 }
@@ -107,7 +112,9 @@ pub struct Program<'a> {
 /// Whether a byte of the word is none of 32..126.
 #[inline(always)]
 fn odd_byte(x: u64) -> bool {
-    (x.wrapping_sub(0x2020_2020_2020_2020) | x.wrapping_add(0x0101_0101_0101_0101) | x) & 0x8080_8080_8080_8080 != 0
+    (x.wrapping_sub(0x2020_2020_2020_2020) | x.wrapping_add(0x0101_0101_0101_0101) | x)
+        & 0x8080_8080_8080_8080
+        != 0
 }
 
 #[inline(always)]
@@ -162,7 +169,11 @@ fn check_decode<const DECODE: bool>(table: &[u8], code: &mut Code) -> usize {
     for i in 0..n {
         let (op, a, b) = unsafe {
             let at = 10 + 12 * i;
-            (u16_at(table, at), u16_at(table, at + 2), u64_at(table, at + 4))
+            (
+                u16_at(table, at),
+                u16_at(table, at + 2),
+                u64_at(table, at + 4),
+            )
         };
         shapes[i].write(c);
         macro_rules! plain {
@@ -342,7 +353,10 @@ pub fn decode<'a>(table: &'a [u8], code: &'a mut Code) -> Option<Program<'a>> {
     if n == 0 {
         return None;
     }
-    Some(Program { code: &code[..n], pool: &table[10 + 12 * n..] })
+    Some(Program {
+        code: &code[..n],
+        pool: &table[10 + 12 * n..],
+    })
 }
 
 /// The program that `decode` last made of this table; none of an empty one.
@@ -354,7 +368,10 @@ pub unsafe fn decoded<'a>(table: &'a [u8], code: &'a Code) -> Option<Program<'a>
         return None;
     }
     let n = u16_at(table, 6) as usize;
-    Some(Program { code: &code[..n], pool: &table[10 + 12 * n..] })
+    Some(Program {
+        code: &code[..n],
+        pool: &table[10 + 12 * n..],
+    })
 }
 
 // ---- notices
@@ -428,14 +445,21 @@ unsafe fn lookup(notice: &[u8], key: &[u8]) -> Slot {
         let head = *notice.get_unchecked(at + 5);
         if head == first {
             let name_len = *notice.get_unchecked(at + 4) as usize;
-            if name_len == key.len() && same_bytes(notice.as_ptr().add(at + 5), key.as_ptr(), name_len) {
+            if name_len == key.len()
+                && same_bytes(notice.as_ptr().add(at + 5), key.as_ptr(), name_len)
+            {
                 let start = at + 5 + name_len;
                 let len = at + 2 + u16_at(notice, at) as usize - start;
                 return match u16_at(notice, at + 2) {
                     1 => Slot::Int32(u32_at(notice, start) as i32),
                     2 => Slot::Int64(u64_at(notice, start) as i64),
                     3 => Slot::Real(f64::from_bits(u64_at(notice, start))),
-                    4 => Slot::Text(Piece { at: start as u16, len: len as u16, in_pool: false, folded: false }),
+                    4 => Slot::Text(Piece {
+                        at: start as u16,
+                        len: len as u16,
+                        in_pool: false,
+                        folded: false,
+                    }),
                     _ => Slot::Opaque(len as u16),
                 };
             }
@@ -469,6 +493,8 @@ pub enum Slot {
     Opaque(u16),
 }
 
+const _: () = assert!(std::mem::size_of::<Ins>() == 16 && std::mem::size_of::<Slot>() == 16);
+
 const EXACT: i64 = 1 << 53;
 
 #[inline(always)]
@@ -496,7 +522,12 @@ fn of_bool(b: bool) -> u8 {
 }
 
 #[inline(always)]
-fn order(x: Slot, y: Slot, ints: impl Fn(i64, i64) -> bool, reals: impl Fn(f64, f64) -> bool) -> u8 {
+fn order(
+    x: Slot,
+    y: Slot,
+    ints: impl Fn(i64, i64) -> bool,
+    reals: impl Fn(f64, f64) -> bool,
+) -> u8 {
     if let (Slot::Int32(a), Slot::Int32(b)) = (x, y) {
         return of_bool(ints(a as i64, b as i64));
     }
@@ -532,7 +563,9 @@ fn same_text(s: &[u8], s_mark: bool, t: &[u8], t_mark: bool) -> bool {
     if !s_mark && !t_mark {
         return unsafe { same_bytes(s.as_ptr(), t.as_ptr(), s.len()) };
     }
-    s.iter().zip(t).all(|(&a, &b)| fold(s_mark, a) == fold(t_mark, b))
+    s.iter()
+        .zip(t)
+        .all(|(&a, &b)| fold(s_mark, a) == fold(t_mark, b))
 }
 
 fn fits(how: u8, s: &[u8], s_mark: bool, t: &[u8], t_mark: bool) -> bool {
@@ -548,7 +581,9 @@ fn fits(how: u8, s: &[u8], s_mark: bool, t: &[u8], t_mark: bool) -> bool {
             }
             let first = fold(t_mark, t[0]);
             for i in 0..=s.len() - t.len() {
-                if fold(s_mark, s[i]) == first && same_text(&s[i + 1..i + t.len()], s_mark, &t[1..], t_mark) {
+                if fold(s_mark, s[i]) == first
+                    && same_text(&s[i + 1..i + t.len()], s_mark, &t[1..], t_mark)
+                {
                     return true;
                 }
             }
@@ -563,7 +598,12 @@ unsafe fn equal(pool: &[u8], notice: &[u8], x: Slot, y: Slot) -> u8 {
         if p.len != q.len {
             return FALSE;
         }
-        return of_bool(same_text(bytes(pool, notice, p), p.folded, bytes(pool, notice, q), q.folded));
+        return of_bool(same_text(
+            bytes(pool, notice, p),
+            p.folded,
+            bytes(pool, notice, q),
+            q.folded,
+        ));
     }
     order(x, y, |a, b| a == b, |a, b| a == b)
 }
@@ -630,7 +670,12 @@ fn bitwise(x: Slot, y: Slot, f: impl Fn(i64, i64) -> i64) -> Slot {
 }
 
 #[inline(always)]
-fn shift(x: Slot, y: Slot, small: impl Fn(i32, u32) -> i32, large: impl Fn(i64, u32) -> i64) -> Slot {
+fn shift(
+    x: Slot,
+    y: Slot,
+    small: impl Fn(i32, u32) -> i32,
+    large: impl Fn(i64, u32) -> i64,
+) -> Slot {
     let Some(k) = as_int(y) else {
         return Slot::Missing;
     };
@@ -702,41 +747,93 @@ pub unsafe fn run(p: &Program, notice: &[u8]) -> (u8, usize) {
             Ins::Int32(x) => push!(Slot::Int32(x)),
             Ins::Int64(x) => push!(Slot::Int64(x)),
             Ins::Real(x) => push!(Slot::Real(x)),
-            Ins::Text(start, len) => push!(Slot::Text(Piece { at: start, len, in_pool: true, folded: false })),
-            Ins::Name(start, len) => push!(lookup(notice, pool.get_unchecked(start as usize..start as usize + len as usize))),
-            Ins::Fold => unary!(x, match x {
-                Slot::Text(p) => Slot::Text(Piece { folded: true, ..p }),
-                _ => Slot::Missing,
-            }),
-            Ins::Size => unary!(x, match x {
-                Slot::Text(p) => Slot::Int32(p.len as i32),
-                Slot::Opaque(n) => Slot::Int32(n as i32),
-                _ => Slot::Missing,
-            }),
-            Ins::Complement => unary!(x, match x {
-                Slot::Int32(a) => Slot::Int32(!a),
-                Slot::Int64(a) => Slot::Int64(!a),
-                _ => Slot::Missing,
-            }),
+            Ins::Text(start, len) => push!(Slot::Text(Piece {
+                at: start,
+                len,
+                in_pool: true,
+                folded: false
+            })),
+            Ins::Name(start, len) => push!(lookup(
+                notice,
+                pool.get_unchecked(start as usize..start as usize + len as usize)
+            )),
+            Ins::Fold => unary!(
+                x,
+                match x {
+                    Slot::Text(p) => Slot::Text(Piece { folded: true, ..p }),
+                    _ => Slot::Missing,
+                }
+            ),
+            Ins::Size => unary!(
+                x,
+                match x {
+                    Slot::Text(p) => Slot::Int32(p.len as i32),
+                    Slot::Opaque(n) => Slot::Int32(n as i32),
+                    _ => Slot::Missing,
+                }
+            ),
+            Ins::Complement => unary!(
+                x,
+                match x {
+                    Slot::Int32(a) => Slot::Int32(!a),
+                    Slot::Int64(a) => Slot::Int64(!a),
+                    _ => Slot::Missing,
+                }
+            ),
             Ins::Shl => binary!(x, y, shift(x, y, |a, k| a << k, |a, k| a << k)),
             Ins::Sar => binary!(x, y, shift(x, y, |a, k| a >> k, |a, k| a >> k)),
-            Ins::Shr => binary!(x, y, shift(x, y, |a, k| (a as u32 >> k) as i32, |a, k| (a as u64 >> k) as i64)),
+            Ins::Shr => binary!(
+                x,
+                y,
+                shift(
+                    x,
+                    y,
+                    |a, k| (a as u32 >> k) as i32,
+                    |a, k| (a as u64 >> k) as i64
+                )
+            ),
             Ins::BitAnd => binary!(x, y, bitwise(x, y, |a, b| a & b)),
             Ins::BitXor => binary!(x, y, bitwise(x, y, |a, b| a ^ b)),
             Ins::BitOr => binary!(x, y, bitwise(x, y, |a, b| a | b)),
-            Ins::Mul => binary!(x, y, arithmetic(x, y, |a, b| a * b, i64::checked_mul, |a, b| Some(a * b))),
-            Ins::Div => binary!(x, y, if is_zero(y) {
-                Slot::Missing
-            } else {
-                arithmetic(x, y, |a, b| a / b, i64::checked_div, |a, b| Some(a / b))
-            }),
-            Ins::Rem => binary!(x, y, if is_zero(y) {
-                Slot::Missing
-            } else {
-                arithmetic(x, y, |a, b| a % b, |a, b| Some(a.wrapping_rem(b)), |_, _| None)
-            }),
-            Ins::Add => binary!(x, y, arithmetic(x, y, |a, b| a + b, i64::checked_add, |a, b| Some(a + b))),
-            Ins::Sub => binary!(x, y, arithmetic(x, y, |a, b| a - b, i64::checked_sub, |a, b| Some(a - b))),
+            Ins::Mul => binary!(
+                x,
+                y,
+                arithmetic(x, y, |a, b| a * b, i64::checked_mul, |a, b| Some(a * b))
+            ),
+            Ins::Div => binary!(
+                x,
+                y,
+                if is_zero(y) {
+                    Slot::Missing
+                } else {
+                    arithmetic(x, y, |a, b| a / b, i64::checked_div, |a, b| Some(a / b))
+                }
+            ),
+            Ins::Rem => binary!(
+                x,
+                y,
+                if is_zero(y) {
+                    Slot::Missing
+                } else {
+                    arithmetic(
+                        x,
+                        y,
+                        |a, b| a % b,
+                        |a, b| Some(a.wrapping_rem(b)),
+                        |_, _| None,
+                    )
+                }
+            ),
+            Ins::Add => binary!(
+                x,
+                y,
+                arithmetic(x, y, |a, b| a + b, i64::checked_add, |a, b| Some(a + b))
+            ),
+            Ins::Sub => binary!(
+                x,
+                y,
+                arithmetic(x, y, |a, b| a - b, i64::checked_sub, |a, b| Some(a - b))
+            ),
             Ins::Eq => binary!(x, y, Slot::Truth(equal(pool, notice, x, y))),
             Ins::Ne => binary!(x, y, Slot::Truth(2 - equal(pool, notice, x, y))),
             Ins::Lt => binary!(x, y, Slot::Truth(order(x, y, |a, b| a < b, |a, b| a < b))),
@@ -749,7 +846,15 @@ pub unsafe fn run(p: &Program, notice: &[u8]) -> (u8, usize) {
             }
             Ins::And => truths!(x, y, x.min(y)),
             Ins::Or => truths!(x, y, x.max(y)),
-            Ins::Xor => truths!(x, y, if x == BOTTOM || y == BOTTOM { BOTTOM } else { x ^ y }),
+            Ins::Xor => truths!(
+                x,
+                y,
+                if x == BOTTOM || y == BOTTOM {
+                    BOTTOM
+                } else {
+                    x ^ y
+                }
+            ),
             Ins::SkipFalse(to) => {
                 if truth(top.sub(1).read()) == FALSE {
                     at = to as usize;
@@ -762,23 +867,32 @@ pub unsafe fn run(p: &Program, notice: &[u8]) -> (u8, usize) {
                     continue;
                 }
             }
-            Ins::IsKind(k) => unary!(x, Slot::Truth(match x {
-                Slot::Missing => BOTTOM,
-                Slot::Int32(_) => of_bool(k == 1),
-                Slot::Int64(_) => of_bool(k == 2),
-                Slot::Real(_) => of_bool(k == 3),
-                Slot::Text(_) => of_bool(k == 4),
-                _ => of_bool(k == 5),
-            })),
-            Ins::Nan => unary!(x, Slot::Truth(match x {
-                Slot::Missing => BOTTOM,
-                Slot::Real(r) => of_bool(r.is_nan()),
-                _ => FALSE,
-            })),
-            Ins::Require => unary!(x, Slot::Truth(match x {
-                Slot::Missing => BOTTOM,
-                _ => TRUE,
-            })),
+            Ins::IsKind(k) => unary!(
+                x,
+                Slot::Truth(match x {
+                    Slot::Missing => BOTTOM,
+                    Slot::Int32(_) => of_bool(k == 1),
+                    Slot::Int64(_) => of_bool(k == 2),
+                    Slot::Real(_) => of_bool(k == 3),
+                    Slot::Text(_) => of_bool(k == 4),
+                    _ => of_bool(k == 5),
+                })
+            ),
+            Ins::Nan => unary!(
+                x,
+                Slot::Truth(match x {
+                    Slot::Missing => BOTTOM,
+                    Slot::Real(r) => of_bool(r.is_nan()),
+                    _ => FALSE,
+                })
+            ),
+            Ins::Require => unary!(
+                x,
+                Slot::Truth(match x {
+                    Slot::Missing => BOTTOM,
+                    _ => TRUE,
+                })
+            ),
             Ins::Begins(n) => many!(n, x, later, fit(pool, notice, 0, x, later)),
             Ins::Contains(n) => many!(n, x, later, fit(pool, notice, 1, x, later)),
             Ins::Ends(n) => many!(n, x, later, fit(pool, notice, 2, x, later)),

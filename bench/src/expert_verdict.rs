@@ -42,7 +42,11 @@ fn put_notice(out: &mut Vec<u8>, program: Option<&expert::Program>, notice: &[u8
 
 fn main() {
     let mut stdin = std::io::stdin().lock();
-    let mut stdout = std::fs::File::from(std::os::fd::AsFd::as_fd(&std::io::stdout()).try_clone_to_owned().unwrap());
+    let mut stdout = std::fs::File::from(
+        std::os::fd::AsFd::as_fd(&std::io::stdout())
+            .try_clone_to_owned()
+            .unwrap(),
+    );
     let mut input = vec![0u8; 65536];
     let (mut from, mut end) = (0, 0);
     let mut out = Vec::with_capacity(65536 + 128);
@@ -52,7 +56,11 @@ fn main() {
     loop {
         // the record that stands first, if it has come whole
         let have = end - from;
-        let len = if have >= 4 { u32::from_le_bytes(input[from..from + 4].try_into().unwrap()) as usize } else { 2 };
+        let len = if have >= 4 {
+            u32::from_le_bytes(input[from..from + 4].try_into().unwrap()) as usize
+        } else {
+            2
+        };
         if !(2..=16380).contains(&len) {
             out.extend_from_slice(b"E\n");
             break;

@@ -80,7 +80,16 @@ pub const NAMES: [(&str, u16); 64] = [
     ("Zone", 4),
 ];
 
-const WORDS: [&str; 8] = ["alert: disk full", "build", "Error in line 7", "mail.example.org", "ops", "search results", "tickertape", "x"];
+const WORDS: [&str; 8] = [
+    "alert: disk full",
+    "build",
+    "Error in line 7",
+    "mail.example.org",
+    "ops",
+    "search results",
+    "tickertape",
+    "x",
+];
 
 /// A notice of so many fields: `Op` alone, or `Op` among others spread over the names.
 pub fn notice(fields: usize) -> Vec<u8> {
@@ -89,7 +98,11 @@ pub fn notice(fields: usize) -> Vec<u8> {
     let mut count = 0u16;
     let mut dice = Dice(0x9e37_79b9_7f4a_7c15);
     for (i, (name, kind)) in NAMES.iter().enumerate() {
-        let chosen = if fields == 1 { *name == "Op" } else { i % step == 38 % step };
+        let chosen = if fields == 1 {
+            *name == "Op"
+        } else {
+            i % step == 38 % step
+        };
         if !chosen {
             continue;
         }
@@ -123,7 +136,10 @@ fn clause(dice: &mut Dice) -> (String, usize) {
     let word = WORDS[dice.next(WORDS.len())];
     match kind {
         1 => match dice.next(4) {
-            0 => (format!("{name} + {} {order} {}", dice.next(9), dice.next(19)), 5),
+            0 => (
+                format!("{name} + {} {order} {}", dice.next(9), dice.next(19)),
+                5,
+            ),
             1 => (format!("{name} & 3 == {}", dice.next(4)), 5),
             _ => (format!("{name} {order} {}", dice.next(10)), 3),
         },
@@ -131,8 +147,17 @@ fn clause(dice: &mut Dice) -> (String, usize) {
         3 => (format!("{name} {order} {}.5", dice.next(125)), 3),
         4 => match dice.next(6) {
             0 => (format!("begins-with ({name}, \"{}\")", &word[..1]), 3),
-            1 => (format!("contains ({name}, \"{}\")", &word[word.len() / 2..]), 3),
-            2 => (format!("begins-with (fold-case ({name}), \"{}\")", word.to_lowercase()), 4),
+            1 => (
+                format!("contains ({name}, \"{}\")", &word[word.len() / 2..]),
+                3,
+            ),
+            2 => (
+                format!(
+                    "begins-with (fold-case ({name}), \"{}\")",
+                    word.to_lowercase()
+                ),
+                4,
+            ),
             _ => (format!("{name} == \"{word}\""), 3),
         },
         _ => (format!("size ({name}) {order} {}", dice.next(24)), 4),

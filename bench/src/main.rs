@@ -24,7 +24,12 @@ fn entries_of(table: &[u8]) -> usize {
 }
 
 pub fn head(title: &str, unit: &str) {
-    println!("\n{title:<56}{:>12}{:>12}{:>8}", format!("ours {unit}"), "expert", "ratio");
+    println!(
+        "\n{title:<56}{:>12}{:>12}{:>8}",
+        format!("ours {unit}"),
+        "expert",
+        "ratio"
+    );
 }
 
 pub fn row(name: &str, ours: f64, expert: f64, ratio: f64) {
@@ -32,7 +37,11 @@ pub fn row(name: &str, ours: f64, expert: f64, ratio: f64) {
 }
 
 fn fields_of(n: usize) -> String {
-    if n == 1 { "1 field".to_string() } else { format!("{n} fields") }
+    if n == 1 {
+        "1 field".to_string()
+    } else {
+        format!("{n} fields")
+    }
 }
 
 /// The subscriptions that are run: name and table.
@@ -77,7 +86,10 @@ fn inner(pace: Pace) {
             let p = expert::decode(&table, &mut code).unwrap();
             // SAFETY: the notice is one of ours, and `agree` has checked it
             let (verdict, steps) = unsafe { expert::run(&p, &notice) };
-            assert_eq!(ours::repeat(&table, &notice, 1), 4 * steps as u64 + verdict as u64);
+            assert_eq!(
+                ours::repeat(&table, &notice, 1),
+                4 * steps as u64 + verdict as u64
+            );
             let (a, b, r) = compare(
                 &mut |times| {
                     black_box(ours::repeat(black_box(&table), black_box(&notice), times));
@@ -90,7 +102,12 @@ fn inner(pace: Pace) {
                 },
                 pace,
             );
-            row(&format!("{name}, {} ({steps} steps)", fields_of(fields)), a, b, r);
+            row(
+                &format!("{name}, {} ({steps} steps)", fields_of(fields)),
+                a,
+                b,
+                r,
+            );
         }
     }
 }
@@ -100,7 +117,10 @@ fn guarded(pace: Pace) {
     for (name, table) in tables() {
         for fields in [1, 8, 64] {
             let notice = load::notice(fields);
-            assert_eq!(ours::guarded(&table, &notice), expert::guarded(&table, &notice));
+            assert_eq!(
+                ours::guarded(&table, &notice),
+                expert::guarded(&table, &notice)
+            );
             let (a, b, r) = compare(
                 &mut |times| {
                     for _ in 0..times {
@@ -142,7 +162,10 @@ fn checks(pace: Pace) {
     head("notice check, per field", "ns");
     for fields in [1, 8, 64] {
         let notice = load::notice(fields);
-        assert_eq!((ours::check_notice(&notice), expert::check_notice(&notice)), (None, None));
+        assert_eq!(
+            (ours::check_notice(&notice), expert::check_notice(&notice)),
+            (None, None)
+        );
         let (a, b, r) = compare(
             &mut |times| {
                 for _ in 0..times {
@@ -174,7 +197,10 @@ fn translation(pace: Pace) {
     for text in texts {
         let text = text.as_bytes();
         let (mut x, mut y) = (vec![0u8; 10250], vec![0u8; 10250]);
-        assert_eq!(ours::translate(text, &mut x), translate::translate(text, &mut y));
+        assert_eq!(
+            ours::translate(text, &mut x),
+            translate::translate(text, &mut y)
+        );
         assert_eq!(x, y);
         let entries = entries_of(&x);
         let (a, b, r) = compare(
@@ -191,21 +217,41 @@ fn translation(pace: Pace) {
             pace,
         );
         let n = text.len() as f64;
-        row(&format!("{} bytes, {entries} entries", text.len()), a / n, b / n, r);
+        row(
+            &format!("{} bytes, {entries} entries", text.len()),
+            a / n,
+            b / n,
+            r,
+        );
     }
 }
 
 fn main() {
     let word = std::env::args().nth(1).unwrap_or_default();
     let (pace, records) = match word.as_str() {
-        "" => (Pace { rounds: 41, round: 2e6 }, 1_000_000),
-        "quick" => (Pace { rounds: 9, round: 4e5 }, 100_000),
+        "" => (
+            Pace {
+                rounds: 41,
+                round: 2e6,
+            },
+            1_000_000,
+        ),
+        "quick" => (
+            Pace {
+                rounds: 9,
+                round: 4e5,
+            },
+            100_000,
+        ),
         "agree" => return agree::agree(200_000),
         _ => panic!("bench [quick | agree]"),
     };
     agree::agree(2_000);
     linear();
-    println!("medians of {} rounds, the sides in turn; ratio: ours over expert in the same round", pace.rounds);
+    println!(
+        "medians of {} rounds, the sides in turn; ratio: ours over expert in the same round",
+        pace.rounds
+    );
     inner(pace);
     guarded(pace);
     checks(pace);

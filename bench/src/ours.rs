@@ -11,7 +11,11 @@ mod c {
             length: *mut usize,
         ) -> u8;
         pub fn virentolex_check(table: *const u8, table_len: usize) -> u8;
-        pub fn virentolex_check_notice(notice: *const u8, notice_len: usize, place: *mut usize) -> u8;
+        pub fn virentolex_check_notice(
+            notice: *const u8,
+            notice_len: usize,
+            place: *mut usize,
+        ) -> u8;
         pub fn virentolex_run(
             table: *const u8,
             table_len: usize,
@@ -21,7 +25,13 @@ mod c {
             verdict: *mut u8,
             steps: *mut usize,
         ) -> u8;
-        pub fn repeat_run(table: *const u8, table_len: usize, notice: *const u8, notice_len: usize, times: u32) -> u64;
+        pub fn repeat_run(
+            table: *const u8,
+            table_len: usize,
+            notice: *const u8,
+            notice_len: usize,
+            times: u32,
+        ) -> u64;
     }
 }
 
@@ -30,7 +40,14 @@ pub fn translate(text: &[u8], buffer: &mut [u8]) -> (u8, usize, usize) {
     let (mut place, mut length) = (0, 0);
     // SAFETY: each pointer is lent with its length for the call
     let number = unsafe {
-        c::virentolex_translate(text.as_ptr(), text.len(), buffer.as_mut_ptr(), buffer.len(), &mut place, &mut length)
+        c::virentolex_translate(
+            text.as_ptr(),
+            text.len(),
+            buffer.as_mut_ptr(),
+            buffer.len(),
+            &mut place,
+            &mut length,
+        )
     };
     (number, place, length)
 }
@@ -71,5 +88,13 @@ pub fn guarded(table: &[u8], notice: &[u8]) -> (u8, usize, u8, usize) {
 /// The inner run so many times: the sum of the runs' steps, each four times, and of their verdicts; 0 if the table fails the check.
 pub fn repeat(table: &[u8], notice: &[u8], times: u32) -> u64 {
     // SAFETY: as above
-    unsafe { c::repeat_run(table.as_ptr(), table.len(), notice.as_ptr(), notice.len(), times) }
+    unsafe {
+        c::repeat_run(
+            table.as_ptr(),
+            table.len(),
+            notice.as_ptr(),
+            notice.len(),
+            times,
+        )
+    }
 }

@@ -248,12 +248,18 @@ fn number(s: &[u8], at: usize) -> Result<(u8, u64, usize), u8> {
 }
 
 const POWERS: [f64; 23] = [
-    1e0, 1e1, 1e2, 1e3, 1e4, 1e5, 1e6, 1e7, 1e8, 1e9, 1e10, 1e11, 1e12, 1e13, 1e14, 1e15, 1e16, 1e17, 1e18, 1e19, 1e20,
-    1e21, 1e22,
+    1e0, 1e1, 1e2, 1e3, 1e4, 1e5, 1e6, 1e7, 1e8, 1e9, 1e10, 1e11, 1e12, 1e13, 1e14, 1e15, 1e16,
+    1e17, 1e18, 1e19, 1e20, 1e21, 1e22,
 ];
 
 /// From the point on; `v` is the whole part.
-fn real(s: &[u8], negative: bool, point: usize, v: u64, over: bool) -> Result<(u8, u64, usize), u8> {
+fn real(
+    s: &[u8],
+    negative: bool,
+    point: usize,
+    v: u64,
+    over: bool,
+) -> Result<(u8, u64, usize), u8> {
     let mut v = v;
     let mut over = over;
     let mut i = point + 1;
@@ -298,7 +304,11 @@ fn real(s: &[u8], negative: bool, point: usize, v: u64, over: bool) -> Result<(u
     if long || over || v >= 1_000_000_000_000_000 || !(-22..=22).contains(&e) {
         return Err(3);
     }
-    let x = if e < 0 { v as f64 / POWERS[-e as usize] } else { v as f64 * POWERS[e as usize] };
+    let x = if e < 0 {
+        v as f64 / POWERS[-e as usize]
+    } else {
+        v as f64 * POWERS[e as usize]
+    };
     let x = if negative { -x } else { x };
     Ok((3, x.to_bits(), i))
 }
@@ -505,11 +515,21 @@ impl Parser<'_> {
         self.forms &= match f {
             6 => count == 1 && first != Form::Other,
             7 | 48..=54 => count == 1 && first == Form::Name,
-            56..=58 => (2..=9).contains(&count) && texts && matches!(first, Form::Name | Form::Fold),
+            56..=58 => {
+                (2..=9).contains(&count) && texts && matches!(first, Form::Name | Form::Fold)
+            }
             59 => (2..=9).contains(&count) && first == Form::Name,
             _ => false,
         };
-        self.put(f as u16, if f >= 56 { (count as u16).wrapping_sub(1) } else { 0 }, 0);
+        self.put(
+            f as u16,
+            if f >= 56 {
+                (count as u16).wrapping_sub(1)
+            } else {
+                0
+            },
+            0,
+        );
         self.depth = before;
         self.push();
         Ok((if f == 6 { Form::Fold } else { Form::Other }, f >= 32))
@@ -532,7 +552,11 @@ pub fn translate(text: &[u8], out: &mut [u8]) -> (u8, usize, usize) {
         }
         match scan(text, at) {
             Ok((kind, value, end)) => {
-                tokens[n].write(Token { value, start: at as u16, kind });
+                tokens[n].write(Token {
+                    value,
+                    start: at as u16,
+                    kind,
+                });
                 n += 1;
                 at = end;
                 row = if kind == 40 || kind == 8 { row + 1 } else { 0 };
@@ -549,7 +573,11 @@ pub fn translate(text: &[u8], out: &mut [u8]) -> (u8, usize, usize) {
     if deep {
         return (6, 0, 0);
     }
-    let end = Token { value: 0, start: text.len() as u16, kind: END };
+    let end = Token {
+        value: 0,
+        start: text.len() as u16,
+        kind: END,
+    };
     tokens[n].write(end);
     tokens[n + 1].write(end);
     let mut p = Parser {
@@ -594,7 +622,11 @@ pub fn translate(text: &[u8], out: &mut [u8]) -> (u8, usize, usize) {
     unsafe {
         let to = out.as_mut_ptr().add(10);
         std::ptr::copy_nonoverlapping(p.entries.as_ptr() as *const u8, to, 12 * p.count);
-        std::ptr::copy_nonoverlapping(p.pool.as_ptr() as *const u8, to.add(12 * p.count), p.pool_len);
+        std::ptr::copy_nonoverlapping(
+            p.pool.as_ptr() as *const u8,
+            to.add(12 * p.count),
+            p.pool_len,
+        );
     }
     (0, 0, len)
 }
