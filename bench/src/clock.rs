@@ -1,6 +1,29 @@
 //! Times of two sides, taken in turn.
 
-use std::time::Instant;
+/// The C library's, which every Rust program on Linux links.
+#[repr(C)]
+struct Timespec {
+    seconds: i64,
+    nanoseconds: i64,
+}
+
+extern "C" {
+    fn clock_gettime(clock: i32, time: *mut Timespec) -> i32;
+}
+
+const CLOCK_THREAD_CPUTIME_ID: i32 = 3;
+
+/// Nanoseconds of processor time of this thread: what other programs take of the processor does not count.
+pub fn now() -> f64 {
+    let mut t = Timespec {
+        seconds: 0,
+        nanoseconds: 0,
+    };
+    // SAFETY: the clock is known, and the time is lent for the call
+    let status = unsafe { clock_gettime(CLOCK_THREAD_CPUTIME_ID, &mut t) };
+    assert_eq!(status, 0);
+    t.seconds as f64 * 1e9 + t.nanoseconds as f64
+}
 
 #[derive(Clone, Copy)]
 pub struct Pace {
@@ -10,9 +33,9 @@ pub struct Pace {
 }
 
 fn once(f: &mut dyn FnMut(u32), times: u32) -> f64 {
-    let start = Instant::now();
+    let start = now();
     f(times);
-    start.elapsed().as_nanos() as f64
+    now() - start
 }
 
 /// How many times fill a round.

@@ -62,9 +62,9 @@ fn tables() -> Vec<(String, Vec<u8>)> {
 fn linear() {
     let (table, notice) = (table_of(&load::subscription(50)), load::notice(8));
     let time = |times: u32| {
-        let start = std::time::Instant::now();
+        let start = clock::now();
         black_box(ours::repeat(black_box(&table), black_box(&notice), times));
-        start.elapsed().as_nanos() as f64
+        clock::now() - start
     };
     // the least of many, in turn, since other work on the machine only adds
     let (mut few, mut many) = (f64::INFINITY, f64::INFINITY);
