@@ -9,6 +9,7 @@ use borrow.Author.Tests.{ne-eqb}
 use lib.Dec.{eqb}
 use lib.ListN.{length, take, drop, length-drop}
 use lib.Seq.{sets, sets-eq, length-sets, length-take-le, take-all, take-append-seam, drop-drop}
+use Rattle.word.specs.Word.{Bytes}
 use Rattle.record.specs.declared.Record.{Record}
 use Rattle.record.specs.declared.Record.the-variants.{End, Whole, Cut, Wrong}
 use Rattle.record.specs.Record.{recordOf, waitsOf}
@@ -22,8 +23,9 @@ use Rattle.session.specs.declared.Stop.{Stop}
 use Rattle.session.specs.declared.Stop.the-variants.{Full, Waiting, Ended}
 use Rattle.session.specs.declared.Answered.{Answered}
 use Rattle.session.specs.declared.Served.{Served}
-use Rattle.session.specs.Session.{textOf, translatedLine, ranLine, lineOf, tableAfter, onRecord}
+use Rattle.session.specs.Session.{textOf, translatedLine, ranLine, lineOf, tableAfter, Sound, onRecord}
 use Rattle.session.specs.Serving.{bufferAfter, Serving, stopped, prepend, pickServing, servingOf, Answers, Serves}
+use Rattle.session.proofs.Kept.{text-sound}
 
 -- ---- one record
 
@@ -49,9 +51,9 @@ stored-front xs d h =
     let z : 0 + length xs ≤ length d = omega arith in
     ap (λ (l : List ℕ). take (length xs) l) (sets-eq xs d 0 z) ∙ take-append-seam xs (drop (0 + length xs) d)
 
-pub text-answers : (r t b out b′ out′ x : List ℕ) (at next : ℕ) (y : Translated) → x ≡ textOf r → Translates (translationOf x (length b)) b b′ y
+pub text-answers : (r t b out b′ out′ x : List ℕ) (at next : ℕ) (y : Translated) → Bytes r → x ≡ textOf r → Translates (translationOf x (length b)) b b′ y
     → Put out at (textLine (y .number) (y .place) (y .length)) out′ next → next ≤ at + 80 → Answers 3 r t b out at b′ out′ (record { held = y .length; next = next })
-text-answers r t b out b′ out′ x at next y ex q p h =
+text-answers r t b out b′ out′ x at next y br ex q p h =
     let o : Outcome = translationOf (textOf r) (length b) in
     let eo : translationOf x (length b) ≡ o = ap (λ (l : List ℕ). translationOf l (length b)) ex in
     let ey : y ≡ answerOf o = q .answer ∙ ap answerOf eo in
@@ -60,9 +62,11 @@ text-answers r t b out b′ out′ x at next y ex q p h =
     let l : length b′ ≡ length b = ap length eb ∙ length-sets b 0 (o .table) in
     let f : length (o .table) ≤ length b = fits-room (textOf r) (length b) in
     let w : y .length ≤ length b′ = omega arith in
+    let et : take (y .length) b′ ≡ o .table = ap₂ (λ (k : ℕ) (d : List ℕ). take k d) n eb ∙ stored-front (o .table) b f in
     record {
       within = w;
-      table = ap₂ (λ (k : ℕ) (d : List ℕ). take k d) n eb ∙ stored-front (o .table) b f;
+      table = et;
+      sound = subst Sound (sym et) (text-sound r (length b) br);
       buffer = eb;
       line = renamed (ap (λ (v : Translated). textLine (v .number) (v .place) (v .length)) ey) p;
       short = h;
@@ -71,18 +75,18 @@ text-answers r t b out b′ out′ x at next y ex q p h =
 pub at-kind : (k j : ℕ) (r t b out b′ out′ : List ℕ) (at : ℕ) (a : Answered) → j ≡ k → Answers k r t b out at b′ out′ a → Answers j r t b out at b′ out′ a
 at-kind k j r t b out b′ out′ at a e h = subst (λ (i : ℕ). Answers i r t b out at b′ out′ a) (sym e) h
 
-pub notice-answers : (r b out out′ x : List ℕ) (held at next : ℕ) → held ≤ length b → x ≡ take held b → Put out at (ranLine (runningOf x r)) out′ next → next ≤ at + 80
+pub notice-answers : (r b out out′ x : List ℕ) (held at next : ℕ) → held ≤ length b → Sound (take held b) → x ≡ take held b → Put out at (ranLine (runningOf x r)) out′ next → next ≤ at + 80
     → Answers 1 r (take held b) b out at b out′ (record { held = held; next = next })
-notice-answers r b out out′ x held at next w e p h =
-    record { within = w; table = refl; buffer = refl; line = renamed (ap (λ (l : List ℕ). ranLine (runningOf l r)) e) p; short = h }
+notice-answers r b out out′ x held at next w d e p h =
+    record { within = w; table = refl; sound = d; buffer = refl; line = renamed (ap (λ (l : List ℕ). ranLine (runningOf l r)) e) p; short = h }
 
-pub other-answers : (k : ℕ) (r b out out′ : List ℕ) (held at next : ℕ) → (k ≡ 3 → ⊥) → (k ≡ 1 → ⊥) → held ≤ length b → Put out at (kindLine k) out′ next → next ≤ at + 80
+pub other-answers : (k : ℕ) (r b out out′ : List ℕ) (held at next : ℕ) → (k ≡ 3 → ⊥) → (k ≡ 1 → ⊥) → held ≤ length b → Sound (take held b) → Put out at (kindLine k) out′ next → next ≤ at + 80
     → Answers k r (take held b) b out at b out′ (record { held = held; next = next })
-other-answers k r b out out′ held at next h3 h1 w p h =
+other-answers k r b out out′ held at next h3 h1 w d p h =
     let et : take held b ≡ tableAfter (length b) (take held b) k r = simp (ne-eqb k 3 h3) in
     let eb : b ≡ bufferAfter b k r = simp (ne-eqb k 3 h3) in
     let el : kindLine k ≡ lineOf (length b) (take held b) k r = simp (ne-eqb k 3 h3, ne-eqb k 1 h1) in
-    record { within = w; table = et; buffer = eb; line = renamed el p; short = h }
+    record { within = w; table = et; sound = d; buffer = eb; line = renamed el p; short = h }
 
 -- ---- a stretch of the input
 
@@ -148,21 +152,23 @@ pub record Along (input : List ℕ) (last : Bool) (b₀ : List ℕ) (held₀ : �
   pub lines : List ℕ
   pub placed : at ≤ length input
   pub within : held ≤ length b
+  pub sound : Sound (take held b)
   pub room : written + 80 * left ≤ length out
   pub same-buffer : length b ≡ length b₀
   pub same-out : length out ≡ length out₀
   pub stored : Put out₀ 0 lines out written
   pub whole : prepend lines at (servingOf left last (take held b) b (drop at input)) ≡ servingOf turns last (take held₀ b₀) b₀ input
 
-pub along-first : (input : List ℕ) (last : Bool) (b : List ℕ) (held : ℕ) (out : List ℕ) (turns : ℕ) → held ≤ length b → 80 * turns ≤ length out
+pub along-first : (input : List ℕ) (last : Bool) (b : List ℕ) (held : ℕ) (out : List ℕ) (turns : ℕ) → held ≤ length b → Sound (take held b) → 80 * turns ≤ length out
     → Along input last b held out turns b out 0 held 0 turns
-along-first input last b held out turns w h =
+along-first input last b held out turns w d h =
     let p : 0 ≤ length input = omega arith in
     let r : 0 + 80 * turns ≤ length out = omega arith in
     record {
       lines = [];
       placed = p;
       within = w;
+      sound = d;
       room = r;
       same-buffer = refl;
       same-out = refl;
@@ -196,6 +202,7 @@ along-more {input} {last} {b₀} {held₀} {out₀} {turns} {b} {out} {at} {held
       lines = l .lines ++ line;
       placed = h;
       within = q .within;
+      sound = q .sound;
       room = room′;
       same-buffer = lb ∙ l .same-buffer;
       same-out = lo ∙ l .same-out;
@@ -207,15 +214,16 @@ along-more {input} {last} {b₀} {held₀} {out₀} {turns} {b} {out} {at} {held
     }
 
 -- the end: the lines m come last
-finish : (w : Serving) (input l m t b out out′ : List ℕ) (at held written : ℕ) (stop : Stop) → prepend l at (stopped stop m t b) ≡ w → held ≤ length b → at ≤ length input → written ≤ length out′
+finish : (w : Serving) (input l m t b out out′ : List ℕ) (at held written : ℕ) (stop : Stop) → prepend l at (stopped stop m t b) ≡ w → held ≤ length b → Sound (take held b) → at ≤ length input → written ≤ length out′
     → take held b ≡ t → Put out 0 (l ++ m) out′ written → Serves w input out b out′ (record { taken = at; held = held; written = written; stop = stop })
-finish w input l m t b out out′ at held written stop e h i r et p =
+finish w input l m t b out out′ at held written stop e h d i r et p =
     let z : at ≡ at + 0 = omega arith in
     record {
       within = h;
       inside = i;
       short = r;
       table = et ∙ ap (λ (σ : Serving). σ .table) e;
+      sound = d;
       buffer = ap (λ (σ : Serving). σ .buffer) e;
       lines = renamed (ap (λ (σ : Serving). σ .lines) e) p;
       taken = z ∙ ap (λ (σ : Serving). σ .taken) e;
@@ -230,7 +238,7 @@ module _ {input : List ℕ} {last : Bool} {b₀ : List ℕ} {held₀ : ℕ} {out
   stops stop e =
       let r : written ≤ length out = omega (arith, l .room) in
       finish (servingOf turns last (take held₀ b₀) b₀ input) input (l .lines) [] (take held b) b out₀ out at held written stop
-      (ap (λ (σ : Serving). prepend (l .lines) at σ) (sym e) ∙ l .whole) (l .within) (l .placed) r refl (renamed (sym (append-nil (l .lines))) (l .stored))
+      (ap (λ (σ : Serving). prepend (l .lines) at σ) (sym e) ∙ l .whole) (l .within) (l .sound) (l .placed) r refl (renamed (sym (append-nil (l .lines))) (l .stored))
 
   pub along-full : left ≤ 0 → Serves (servingOf turns last (take held₀ b₀) b₀ input) input out₀ b out (record { taken = at; held = held; written = written; stop = Full })
   unfolding servingOf
@@ -251,4 +259,4 @@ module _ {input : List ℕ} {last : Bool} {b₀ : List ℕ} {held₀ : ℕ} {out
       let e : servingOf left last (take held b) b (drop at input) ≡ stopped Ended errorLine (take held b) b =
       ap (λ (k : ℕ). servingOf k last (take held b) b (drop at input)) en ∙ serving-error (left - 1) last (take held b) b (drop at input) w h in
       finish (servingOf turns last (take held₀ b₀) b₀ input) input (l .lines) errorLine (take held b) b out₀ out′ at held end Ended
-      (ap (λ (σ : Serving). prepend (l .lines) at σ) (sym e) ∙ l .whole) (l .within) (l .placed) r refl (joined (l .lines) errorLine (l .stored) q)
+      (ap (λ (σ : Serving). prepend (l .lines) at σ) (sym e) ∙ l .whole) (l .within) (l .sound) (l .placed) r refl (joined (l .lines) errorLine (l .stored) q)

@@ -12,7 +12,7 @@ use Rattle.session.specs.declared.Stop.{Stop}
 use Rattle.session.specs.declared.Stop.the-variants.{Full, Waiting, Ended}
 use Rattle.session.specs.declared.Answered.{Answered}
 use Rattle.session.specs.declared.Served.{Served}
-use Rattle.session.specs.Session.{lineOf, tableAfter, onRecord}
+use Rattle.session.specs.Session.{lineOf, tableAfter, Sound, onRecord}
 
 -- the lent buffer after a record: a table is stored at its start, and no byte changes where there is none
 abbrev pub bufferAfter : List ℕ → ℕ → List ℕ → List ℕ
@@ -47,20 +47,22 @@ servingOf (suc n) last table buffer s =
     (servingOf n last (tableAfter (length buffer) table kind (take size s)) (bufferAfter buffer kind (take size s)) (drop size s)))
     (λ _. stopped Ended errorLine table buffer))
 
--- what a record of a kind leaves: the table and its length, every byte of its buffer, and the line stored in the lent output, whose other bytes stay
+-- what a record of a kind leaves: the table and its length, a sound table, every byte of its buffer, and the line stored in the lent output, whose other bytes stay
 pub record Answers (kind : ℕ) (r t b out : List ℕ) (at : ℕ) (b′ out′ : List ℕ) (a : Answered) : Type 0 where
   pub within : a .held ≤ length b′
   pub table : take (a .held) b′ ≡ tableAfter (length b) t kind r
+  pub sound : Sound (take (a .held) b′)
   pub buffer : b′ ≡ bufferAfter b kind r
   pub line : Put out at (lineOf (length b) t kind r) out′ (a .next)
   pub short : a .next ≤ at + 80
 
--- what a stretch leaves: no more was taken than there is, and the lines have room
+-- what a stretch leaves: a sound table, no more was taken than there is, and the lines have room
 pub record Serves (σ : Serving) (input out b′ out′ : List ℕ) (a : Served) : Type 0 where
   pub within : a .held ≤ length b′
   pub inside : a .taken ≤ length input
   pub short : a .written ≤ length out′
   pub table : take (a .held) b′ ≡ σ .table
+  pub sound : Sound (take (a .held) b′)
   pub buffer : b′ ≡ σ .buffer
   pub lines : Put out 0 (σ .lines) out′ (a .written)
   pub taken : a .taken ≡ σ .taken

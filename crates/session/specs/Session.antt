@@ -3,12 +3,15 @@
 use Prim.Native.Nat.{ℕ, zero, suc}
 use mathlib.Core.Bool.{Bool, true, false}
 use mathlib.Core.List.{List, [], _++_}
+use mathlib.Core.Logic.{_⊎_}
+use mathlib.Core.Path.{_≡_}
 use lib.Dec.{eqb}
 use lib.ListN.{length, take, drop}
 use Rattle.record.specs.declared.Record.{Record}
 use Rattle.record.specs.declared.Record.the-variants.{End, Whole, Cut, Wrong}
 use Rattle.record.specs.Record.{recordOf}
 use Rattle.record.specs.Line.{pick, textLine, noticeLine, kindLine, errorLine}
+use Rattle.table.specs.Check.{checkOf}
 use Rattle.translator.specs.Translation.{Outcome, translationOf}
 use Rattle.interpreter.specs.Running.{runningOf}
 use Rattle.interpreter.specs.declared.Ran.{Ran}
@@ -32,6 +35,10 @@ lineOf room table kind r =
 -- "a subscription text, which replaces the last one even if refused": a refused one leaves no table
 abbrev pub tableAfter : ℕ → List ℕ → ℕ → List ℕ → List ℕ
 tableAfter room table kind r = pick (eqb kind 3) (λ _. translationOf (textOf r) room .table) (λ _. table)
+
+-- what is kept of the texts: no table, or one that passes the check, as the table of every accepted text does
+abbrev pub Sound : List ℕ → Type 0
+Sound table = (table ≡ []) ⊎ (checkOf table ≡ true)
 
 abbrev pub onRecord : {A : Type 0} → Record → (Unit {0} → A) → (ℕ → ℕ → A) → (Unit {0} → A) → A
 onRecord End none whole error = none tt

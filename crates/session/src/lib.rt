@@ -5,10 +5,13 @@ ghost use Prim.Native.Nat.{ℕ, _+_, _-_, _/_, _≤_};
 ghost use lib.ListN.{length, take, drop};
 ghost use lib.Seq.{sets};
 ghost use Rattle.record.specs.Line.{Put};
-ghost use Rattle.interpreter.specs.Running.{runningOf};
-ghost use Rattle.session.specs.Session.{ranLine};
+ghost use Rattle.interpreter.specs.Running.{refused as refusedWith, runningOf};
+ghost use Rattle.session.specs.Session.{ranLine, Sound};
 ghost use Rattle.session.specs.Serving.{Answers, Serves, servingOf};
+use interpreter::Ran;
+use notice::Layout;
 use record::Record;
+use truth::Truth;
 
 // What a record leaves: the length of the table, 0 where there is none, and the place after the line.
 pub struct Answered {
@@ -29,12 +32,38 @@ fn answer_text(bytes: &[u8], table: &mut [u8], out: &mut [u8], at: usize) -> Ans
     }
 }
 
-// Kind 1: the table on the notice. It asks for room for a line.
+fn refused(number: u8, place: usize) -> Ran
+    ensures { λ r. ⌜ r ≡ refusedWith number place ⌝ }
+{
+    Ran {
+        number: number,
+        place: place,
+        verdict: Truth::Bottom,
+        steps: 0,
+    }
+}
+
+// What the guarded run answers, with no table check: an empty table fails it, and any other that is kept passes it.
+fn run_kept<'a>(table: &'a [u8], notice: &'a [u8]) -> Ran
+    requires { ⌜ Sound (now table) ⌝ }
+    ensures { λ r. ⌜ r ≡ runningOf (now (table .entry)) (now (notice .entry)) ⌝ }
+{
+    if table.len() == 0 {
+        return refused(12, 0);
+    }
+    let layout = notice::check(notice);
+    match layout {
+        Layout::WellFormed => interpreter::run_whole(table, notice),
+        Layout::Fault(place) => refused(11, place),
+    }
+}
+
+// Kind 1: the table on the notice. It asks for a table that is kept and for room for a line.
 fn put_verdict<'a>(table: &'a [u8], notice: &'a [u8], out: &mut [u8], at: usize) -> usize
-    requires { ⌜ at + 80 ≤ length (now out) ⌝ }
+    requires { ⌜ Sound (now table) × (at + 80 ≤ length (now out)) ⌝ }
     ensures { λ r. ⌜ Put (now (out .entry)) at (ranLine (runningOf (now (table .entry)) (now (notice .entry)))) (now (out .exit)) r × (r ≤ at + 80) ⌝ }
 {
-    let a = interpreter::run(table, notice);
+    let a = run_kept(table, notice);
     let verdict = a.verdict;
     record::put_notice_line(
         out,
@@ -47,7 +76,7 @@ fn put_verdict<'a>(table: &'a [u8], notice: &'a [u8], out: &mut [u8], at: usize)
 }
 
 // What the whole record `bytes` of a kind means: the line is stored in `out` from `at` on, and a text's table in `table`, of which `held` bytes are the last text's.
-// It asks for a record's length and kind, which the record reader found, and for room for a line.
+// It asks for a record's length and kind, which the record reader found, for a sound table, and for room for a line.
 pub fn answer(
     bytes: &[u8],
     kind: u16,
@@ -56,7 +85,7 @@ pub fn answer(
     out: &mut [u8],
     at: usize,
 ) -> Answered
-    requires { ⌜ (6 ≤ length (now bytes)) × (held ≤ length (now table)) × (at + 80 ≤ length (now out)) ⌝ }
+    requires { ⌜ (6 ≤ length (now bytes)) × (held ≤ length (now table)) × Sound (take held (now table)) × (at + 80 ≤ length (now out)) ⌝ }
     ensures { λ r. ⌜ Answers kind (now (bytes .entry)) (take held (now (table .entry))) (now (table .entry)) (now (out .entry)) at (now (table .exit)) (now (out .exit)) r ⌝ }
 {
     if kind == 3 {
@@ -95,9 +124,9 @@ pub struct Served {
 }
 
 // Answers the records of a stretch of the input, as many as `out` has room for lines of 80 bytes. `last`: the input ends with the stretch.
-// It asks that the table lies in its buffer.
+// It asks that the table lies in its buffer and is sound, as one that it left is, and as none is.
 pub fn serve(input: &[u8], last: bool, table: &mut [u8], held: usize, out: &mut [u8]) -> Served
-    requires { ⌜ held ≤ length (now table) ⌝ }
+    requires { ⌜ (held ≤ length (now table)) × Sound (take held (now table)) ⌝ }
     ensures { λ r. ⌜ Serves (servingOf (length (now (out .entry)) / 80) last (take held (now (table .entry))) (now (table .entry)) (now (input .entry))) (now (input .entry)) (now (out .entry)) (now (table .exit)) (now (out .exit)) r ⌝ }
 {
     let mut at = 0;

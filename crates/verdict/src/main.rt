@@ -1,6 +1,8 @@
 // The program `verdict`. Document 01, "Examples": "reads records (u32 length, u16 kind) from standard input". Only reading and writing is here; what is answered is `session::serve`.
+ghost use mathlib.Core.Path.{_≡_};
 ghost use Prim.Native.Nat.{_+_, _≤_};
-ghost use lib.ListN.{length};
+ghost use lib.ListN.{length, take};
+ghost use Rattle.session.specs.Session.{Sound};
 ghost use Rattle.verdict.specs.State.{Ready};
 use libc::STDIN_FILENO;
 use libc::STDOUT_FILENO;
@@ -28,7 +30,7 @@ fn read_on(input: &mut [u8], end: usize) -> usize
 // Reads behind what is not answered yet. That is moved to the buffer's start first where a longest record would have no room behind it: then three quarters of the buffer have been answered, so each byte is moved seldom.
 fn more(input: &mut [u8; 65536], s: State) -> State
     requires { ⌜ Ready s ⌝ }
-    ensures { λ r. ⌜ Ready r ⌝ }
+    ensures { λ r. ⌜ Ready r × (r .held ≡ s .held) ⌝ }
 {
     let from = s.from;
     let end = s.end;
@@ -63,8 +65,8 @@ fn answer(
     held: usize,
     out: &mut [u8],
 ) -> Served
-    requires { ⌜ (from ≤ end) × (end ≤ length (now input)) × (held ≤ length (now table)) ⌝ }
-    ensures { λ r. ⌜ (from + r .taken ≤ end) × (r .held ≤ length (now (table .entry))) × (r .written ≤ length (now (out .entry))) ⌝ }
+    requires { ⌜ (from ≤ end) × (end ≤ length (now input)) × (held ≤ length (now table)) × Sound (take held (now table)) ⌝ }
+    ensures { λ r. ⌜ (from + r .taken ≤ end) × (r .held ≤ length (now (table .entry))) × (r .written ≤ length (now (out .entry))) × Sound (take (r .held) (now (table .exit))) ⌝ }
 {
     session::serve(&input[from..end], last, table, held, out)
 }
@@ -77,8 +79,8 @@ fn put(out: &[u8], n: usize) -> bool
 
 // Answers what is there, writes the lines, and reads on where the next record has not come whole.
 fn turn(input: &mut [u8; 65536], table: &mut [u8; 10250], out: &mut [u8; 65536], s: State) -> State
-    requires { ⌜ Ready s ⌝ }
-    ensures { λ r. ⌜ Ready r ⌝ }
+    requires { ⌜ Ready s × Sound (take (s .held) (now table)) ⌝ }
+    ensures { λ r. ⌜ Ready r × Sound (take (r .held) (now (table .exit))) ⌝ }
 {
     let from = s.from;
     let end = s.end;
@@ -107,7 +109,7 @@ fn turn(input: &mut [u8; 65536], table: &mut [u8; 10250], out: &mut [u8; 65536],
 
 fn halted(s: State) -> State
     requires { ⌜ Ready s ⌝ }
-    ensures { λ r. ⌜ Ready r ⌝ }
+    ensures { λ r. ⌜ Ready r × (r .held ≡ s .held) ⌝ }
 {
     State {
         from: s.from,

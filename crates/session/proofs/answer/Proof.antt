@@ -1,5 +1,7 @@
-use mathlib.Core.Path.{refl}
+use mathlib.Core.Path.{sym, subst}
+use native.Mathlib.Omega.{arith}
 use lib.ListN.{take}
+use Rattle.session.specs.Session.{Sound}
 use Rattle.session.proofs.Laws.{from-start, at-kind, notice-answers, other-answers}
 use borrow.Author.Needs.{needs}
 use Rattle.session.proofs.answer.Statement.{statement}
@@ -43,7 +45,9 @@ part-put-verdict-end c = search needs
 
 -- src/lib.rt:52:13
 put-verdict-requires : tie.Need-put-verdict-requires
-put-verdict-requires c κs = search needs
+put-verdict-requires c κs =
+    let s = c .before .before .before .before .before .before .before .before in
+    (subst Sound (sym (from-start (s .args .table .now) (s .args .held))) (s .pre .2), omega (arith, s .pre .3))
 
 -- src/lib.rt:53:9
 same-length-3 : tie.Need-same-length-3
@@ -59,7 +63,7 @@ returns-2 c =
     let a = c .before .before .before .before .before .before .before .before .before .before .before .args in
     let p = c .before .before .put-verdict in
     at-kind 1 (a .kind) (a .bytes .now) (take (a .held) (a .table .now)) (a .table .now) (a .out .now) _ _ (a .at) _ (c .before .before .before .before .before .before .if2 .taken)
-    (notice-answers (a .bytes .now) (a .table .now) (a .out .now) _ _ (a .held) (a .at) (p .result) (c .before .before .before .before .before .before .before .before .before .before .before .pre .1) (from-start (a .table .now) (a .held)) (p .ensures .0) (p .ensures .1))
+    (notice-answers (a .bytes .now) (a .table .now) (a .out .now) _ _ (a .held) (a .at) (p .result) (c .before .before .before .before .before .before .before .before .before .before .before .pre .1) (c .before .before .before .before .before .before .before .before .before .before .before .pre .2) (from-start (a .table .now) (a .held)) (p .ensures .0) (p .ensures .1))
 
 -- src/lib.rt:58:9
 put-kind-line-requires : tie.Need-put-kind-line-requires
@@ -74,7 +78,7 @@ returns-3 : tie.Need-returns-3
 returns-3 c =
     let a = c .before .before .before .before .before .before .before .before .before .args in
     let p = c .before .before .put-kind-line in
-    other-answers (a .kind) (a .bytes .now) (a .table .now) (a .out .now) _ (a .held) (a .at) (p .result) (c .before .before .before .before .before .if1 .left) (c .before .before .before .before .if2 .left) (c .before .before .before .before .before .before .before .before .before .pre .1) (p .ensures .0) (p .ensures .1)
+    other-answers (a .kind) (a .bytes .now) (a .table .now) (a .out .now) _ (a .held) (a .at) (p .result) (c .before .before .before .before .before .if1 .left) (c .before .before .before .before .if2 .left) (c .before .before .before .before .before .before .before .before .before .pre .1) (c .before .before .before .before .before .before .before .before .before .pre .2) (p .ensures .0) (p .ensures .1)
 
 pub answer-spec : {M : Type 1} → statement M
 answer-spec =

@@ -44,7 +44,7 @@ same-length-2 c = search needs
 returns : tie.Need-returns
 returns c =
     λ t. text-answers (c .before .before .before .before .before .before .before .before .before .before .before .before .before .args .bytes .now) t (c .before .before .before .before .before .before .before .before .before .before .before .before .before .args .table .now) (c .before .before .before .before .before .before .before .before .before .before .before .before .before .args .out .now) _ _ _ (c .before .before .before .before .before .before .before .before .before .before .before .before .before .args .at) (c .before .before .put-text-line .result)
-    (c .before .before .before .before .before .before .before .translate .result) (to-end (c .before .before .before .before .before .before .before .before .before .before .before .before .before .args .bytes .now) 6) (c .before .before .before .before .before .before .before .translate .ensures)
+    (c .before .before .before .before .before .before .before .translate .result) (λ i. c .before .before .before .before .before .before .before .before .before .before .before .before .shared-slice-known .given i .fits) (to-end (c .before .before .before .before .before .before .before .before .before .before .before .before .before .args .bytes .now) 6) (c .before .before .before .before .before .before .before .translate .ensures)
     (c .before .before .put-text-line .ensures .0) (c .before .before .put-text-line .ensures .1)
 
 pub answer-text-spec : {M : Type 1} → statement M

@@ -6,12 +6,12 @@ use Rattle.session.proofs.put_verdict.Statement.{statement}
 use Rattle.session.proofs.put_verdict.Tie as tie
 use Rattle.session.proofs.put_verdict.Reads as reads
 use Rattle.session.proofs.put_verdict.Lts as lts
-use Rattle.interpreter.proofs.run.Reads as run-reads
+use Rattle.session.proofs.run_kept.Reads as run-kept-reads
 use Rattle.record.proofs.put_notice_line.Reads as put-notice-line-reads
 
 -- src/lib.rt:37:9
-run-requires : tie.Need-run-requires
-run-requires c κs = search needs
+run-kept-requires : tie.Need-run-kept-requires
+run-kept-requires c κs = search needs
 
 -- src/lib.rt:39:38
 cast-put-notice-line : tie.Need-cast-put-notice-line
@@ -28,9 +28,9 @@ same-length c = search needs
 -- src/lib.rt:33:1
 returns : tie.Need-returns
 returns c =
-    (renamed (ap ranLine (c .before .before .before .before .before .run .ensures)) (c .before .before .put-notice-line .ensures .0), c .before .before .put-notice-line .ensures .1)
+    (renamed (ap ranLine (c .before .before .before .before .before .run-kept .ensures)) (c .before .before .put-notice-line .ensures .0), c .before .before .put-notice-line .ensures .1)
 
 pub put-verdict-spec : {M : Type 1} → statement M
 put-verdict-spec =
     tie.close
-    (tie.spec run-requires cast-put-notice-line put-notice-line-requires same-length returns)
+    (tie.spec run-kept-requires cast-put-notice-line put-notice-line-requires same-length returns)

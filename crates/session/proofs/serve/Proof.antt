@@ -46,7 +46,7 @@ lies c =
 -- src/lib.rt:93:5
 loop-holds : tie.Need-loop-holds Inv-loop μ-loop
 loop-holds c =
-    let a = c .before .before .before .args in along-first (a .input .now) (a .last) (a .table .now) (a .held) (a .out .now) (length (a .out .now) / 80) (c .before .before .before .pre) (omega arith)
+    let a = c .before .before .before .args in along-first (a .input .now) (a .last) (a .table .now) (a .held) (a .out .now) (length (a .out .now) / 80) (c .before .before .before .pre .0) (c .before .before .before .pre .1) (omega arith)
 
 -- src/lib.rt:94:41
 sub-next-record : tie.Need-sub-next-record Inv-loop μ-loop
@@ -132,7 +132,7 @@ answer-requires : tie.Need-answer-requires Inv-loop μ-loop
 answer-requires c κs =
     let k = c .before .before .before in
     let n = between-length (c .before .before .before .before .before .before .before .before .before .before .before .before .before .before .before .args .input .now) (c .before .before .before .before .before .before .before .before .before .before .before .loop .at) (k .before .found .given .0 .1 .0) (lies k .1) in
-    (omega (arith, lies k, n), c .before .before .before .before .before .before .before .before .before .before .before .loop .inv .within, omega (arith, c .before .before .before .before .before .before .before .before .before .before .before .loop .inv .room, c .before .before .before .before .before .before .before .before .before .before .loop-test .taken))
+    (omega (arith, lies k, n), c .before .before .before .before .before .before .before .before .before .before .before .loop .inv .within, c .before .before .before .before .before .before .before .before .before .before .before .loop .inv .sound, omega (arith, c .before .before .before .before .before .before .before .before .before .before .before .loop .inv .room, c .before .before .before .before .before .before .before .before .before .before .loop-test .taken))
 
 -- src/lib.rt:117:9
 sub-left : tie.Need-sub-left Inv-loop μ-loop

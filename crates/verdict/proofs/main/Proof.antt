@@ -1,3 +1,7 @@
+use mathlib.Core.Logic.{inl}
+use mathlib.Core.Path.{refl}
+use lib.ListN.{take}
+use Rattle.session.specs.Session.{Sound}
 use native.Mathlib.Omega.{arith}
 use borrow.Author.Needs.{needs}
 use Rattle.verdict.specs.State.{Ready}
@@ -9,14 +13,14 @@ use Rattle.verdict.proofs.main.Lts as lts
 use Rattle.verdict.proofs.turn.Reads as turn-reads
 
 abbrev Inv-loop : tie.InvT-loop
-Inv-loop input₀ table₀ out₀ state₀ turns₀ input table out state turns = Ready state
+Inv-loop input₀ table₀ out₀ state₀ turns₀ input table out state turns = Ready state × Sound (take (state .held) table)
 
 abbrev μ-loop : tie.MeasureT-loop
 μ-loop input₀ table₀ out₀ state₀ turns₀ input table out state turns = turns
 
 -- src/main.rt:126:5
 loop-holds : tie.Need-loop-holds Inv-loop μ-loop
-loop-holds c = record { order = omega arith; input = omega arith; table = omega arith }
+loop-holds c = (record { order = omega arith; input = omega arith; table = omega arith }, inl refl)
 
 -- src/main.rt:127:9
 turn-requires : tie.Need-turn-requires Inv-loop μ-loop
