@@ -1,6 +1,7 @@
-use mathlib.Core.Path.{_≡_, refl}
-use Prim.Native.Nat.{_-_}
-use lib.ListN.{length, length-set}
+use mathlib.Core.Path.{_≡_, refl, sym}
+use Prim.Native.Nat.{_+_, _-_}
+use lib.ListN.{length, getD, length-set}
+use lib.Seq.{getD-set-same}
 use native.Mathlib.Omega.{arith}
 use borrow.Author.Tests.{not-true, not-false}
 use Rattle.table.proofs.Laid.{laid, inside}
@@ -16,10 +17,10 @@ use Rattle.table.proofs.flow.Reads as flow-reads
 use Rattle.table.proofs.pool.Reads as pool-reads
 
 abbrev Inv-loop : tie.InvT-loop
-Inv-loop table n shapes₀ strings i₀ shapes i = Passed table shapes i × (length shapes ≡ length shapes₀)
+Inv-loop table n shapes₀ strings c₀ i₀ shapes c i = Passed table shapes i × (length shapes ≡ length shapes₀) × (c ≡ getD shapes i 0)
 
 abbrev μ-loop : tie.MeasureT-loop
-μ-loop table n shapes₀ strings i₀ shapes i = n - i
+μ-loop table n shapes₀ strings c₀ i₀ shapes c i = n - i
 
 pool-requires : tie.Need-pool-requires Inv-loop μ-loop
 pool-requires c κs = let l = laid (c .before .before .args .table .now) (c .before .before .pre .0) in (l .head, omega arith)
@@ -30,14 +31,14 @@ slice-write-shapes c = search needs
 loop-holds : tie.Need-loop-holds Inv-loop μ-loop
 loop-holds c =
     let s = c .before .before .before .args .table .now in
-    (pass-start s (c .before .before .before .args .shapes .now) (omega (arith, c .before .before .before .pre .1)), refl)
+    (pass-start s (c .before .before .before .args .shapes .now) (omega (arith, c .before .before .before .pre .1)), refl, sym (getD-set-same (c .before .before .before .args .shapes .now) 0 1 0 (omega (arith, c .before .before .before .pre .1))))
 
 entry-at-requires : tie.Need-entry-at-requires Inv-loop μ-loop
 entry-at-requires c κs =
     inside (c .before .before .before .before .before .args .table .now) (c .before .before .before .before .before .pre .0) (c .before .loop .i) (omega (arith, c .before .before .before .before .before .pre .1))
 
-op-of-requires : tie.Need-op-of-requires Inv-loop μ-loop
-op-of-requires c κs = search needs
+group-of-requires : tie.Need-group-of-requires Inv-loop μ-loop
+group-of-requires c κs = search needs
 
 entry-right-requires : tie.Need-entry-right-requires Inv-loop μ-loop
 entry-right-requires c κs = search needs
@@ -50,26 +51,20 @@ returns c =
     let l = c .before .before .before .before .before .loop in
     let e = c .before .before .before .entry-at in
     pass-wrong (c .before .before .before .before .before .before .before .before .before .args .table .now) (l .shapes) (l .i) (l .inv .0) (omega (arith, c .before .before .before .before .before .before .before .before .before .pre .1)) (e .result) (e .ensures)
-    _ _ (c .before .before .before .before .before .before .pool .ensures) (right-by _ _ (e .result) _ (c .before .before .op-of .ensures) (c .before .entry-right .ensures)) (not-true _ (c .if1 .taken))
-
-mul-flow : tie.Need-mul-flow Inv-loop μ-loop
-mul-flow c = search needs
-
-slice-read-flow : tie.Need-slice-read-flow Inv-loop μ-loop
-slice-read-flow c = search needs
+    _ _ (c .before .before .before .before .before .before .pool .ensures) (right-by _ _ (e .result) _ (c .before .before .group-of .ensures) (c .before .entry-right .ensures)) (not-true _ (c .if1 .taken))
 
 flow-requires : tie.Need-flow-requires Inv-loop μ-loop
 flow-requires c κs = search needs
 
 same-length-2 : tie.Need-same-length-2 Inv-loop μ-loop
-same-length-2 c = simp length-set at (c .before .before .before .before .before .before .before .before .loop .inv .1)
+same-length-2 c = simp length-set at (c .before .before .before .before .before .before .before .loop .inv .1)
 
 returns-2 : tie.Need-returns-2 Inv-loop μ-loop
 returns-2 c =
-    let l = c .before .before .before .before .before .before .before .before .loop in
-    let e = c .before .before .before .before .before .before .entry-at in
+    let l = c .before .before .before .before .before .before .before .loop in
+    let e = c .before .before .before .before .before .entry-at in
     let f = c .before .flow in
-    pass-stuck (c .before .before .before .before .before .before .before .before .before .before .before .before .args .table .now) (l .shapes) (l .i) (l .inv .0) (omega (arith, c .before .before .before .before .before .before .before .before .before .before .before .before .pre .1)) (e .result) (e .ensures) (f .result) (flow-by _ (e .result) _ _ (c .before .before .before .before .before .op-of .ensures) (f .ensures)) (c .if2 .taken)
+    pass-stuck (c .before .before .before .before .before .before .before .before .before .before .before .args .table .now) (l .shapes) (l .i) (l .inv .0) (omega (arith, c .before .before .before .before .before .before .before .before .before .before .before .pre .1)) (e .result) (e .ensures) (f .result) (flow-by _ (e .result) _ _ _ (l .inv .2) (c .before .before .before .before .group-of .ensures) (f .ensures)) (c .if2 .taken)
 
 add-i : tie.Need-add-i Inv-loop μ-loop
 add-i c = search needs
@@ -85,12 +80,13 @@ loop-less c = search needs
 
 loop-again : tie.Need-loop-again Inv-loop μ-loop
 loop-again c =
-    let l = c .before .before .before .before .before .before .before .before .loop in
-    let e = c .before .before .before .before .before .before .entry-at in
+    let l = c .before .before .before .before .before .before .before .loop in
+    let e = c .before .before .before .before .before .entry-at in
     let f = c .before .flow in (
-      pass-more (c .before .before .before .before .before .before .before .before .before .before .before .before .args .table .now) (l .shapes) (l .i) (l .inv .0) (omega (arith, c .before .before .before .before .before .before .before .before .before .before .before .before .pre .1)) (e .result) (e .ensures) (f .result) (flow-by _ (e .result) _ _ (c .before .before .before .before .before .op-of .ensures) (f .ensures))
-          _ _ (c .before .before .before .before .before .before .before .before .before .pool .ensures) (right-by _ _ (e .result) _ (c .before .before .before .before .before .op-of .ensures) (c .before .before .before .before .entry-right .ensures)) (not-false _ (c .before .before .before .if1 .left)) (c .if2 .left),
+      pass-more (c .before .before .before .before .before .before .before .before .before .before .before .args .table .now) (l .shapes) (l .i) (l .inv .0) (omega (arith, c .before .before .before .before .before .before .before .before .before .before .before .pre .1)) (e .result) (e .ensures) (f .result) (flow-by _ (e .result) _ _ _ (l .inv .2) (c .before .before .before .before .group-of .ensures) (f .ensures))
+          _ _ (c .before .before .before .before .before .before .before .before .pool .ensures) (right-by _ _ (e .result) _ (c .before .before .before .before .group-of .ensures) (c .before .before .before .entry-right .ensures)) (not-false _ (c .before .before .if1 .left)) (c .if2 .left),
       simp length-set (simp length-set at (l .inv .1)),
+      sym (getD-set-same (l .shapes) (l .i + 1) (f .result) 0 (let w = l .inv .0 .long in omega arith)),
     )
 
 same-length-3 : tie.Need-same-length-3 Inv-loop μ-loop
@@ -110,12 +106,10 @@ shapes-right-spec =
     slice-write-shapes
     loop-holds
     entry-at-requires
-    op-of-requires
+    group-of-requires
     entry-right-requires
     same-length
     returns
-    mul-flow
-    slice-read-flow
     flow-requires
     same-length-2
     returns-2
