@@ -1,6 +1,6 @@
 // Tables: layout, decoding and the check. Document 01, "Table". Every function takes a slice that is exactly the table, wherever it lies.
 ghost use mathlib.Core.Path.{_≡_};
-ghost use mathlib.Core.Bool.{true, _&&_};
+ghost use mathlib.Core.Bool.{true, not, _&&_, _||_};
 ghost use mathlib.Core.List.{List};
 ghost use mathlib.Core.Option.{Option};
 ghost use Prim.Native.Nat.{suc, _+_, _*_, _≤_, _<_};
@@ -248,6 +248,17 @@ fn lands_right(shapes: &[u64], n: usize, i: usize, a: u16) -> bool
     shapes[to] == shapes[i]
 }
 
+// An entry that is no skip, or whose skip lands right. It asks for the same.
+fn skip_right(shapes: &[u64], n: usize, i: usize, e: Entry) -> bool
+    requires { ⌜ (i < n) × (n ≤ 512) × (n < length (now shapes)) ⌝ }
+    ensures { λ r. ⌜ r ≡ (not (isSkip e) || (leb (i + e .a + 1) n && eqb (getD (now (shapes .entry)) (i + e .a + 1) 0) (getD (now (shapes .entry)) i 0))) ⌝ }
+{
+    if !is_skip(e) {
+        return true;
+    }
+    lands_right(shapes, n, i, e.a)
+}
+
 // Each skip, in one pass over the kept numbers: it asks for the layout and for those.
 fn skips_right(table: &[u8], n: usize, shapes: &[u64]) -> bool
     requires { ⌜ (layoutOf (now table) ≡ true) × (n ≡ countOf (now table)) × (n < length (now shapes)) × Stored (now table) (now shapes) ⌝ }
@@ -256,7 +267,7 @@ fn skips_right(table: &[u8], n: usize, shapes: &[u64]) -> bool
     let mut i = 0;
     while i < n {
         let e = entry_at(table, i);
-        if is_skip(e) & !lands_right(shapes, n, i, e.a) {
+        if !skip_right(shapes, n, i, e) {
             return false;
         }
         i += 1;
@@ -289,9 +300,13 @@ pub fn check(table: &[u8]) -> bool
         return false;
     }
     let n = count(table);
-    if n < 64 {
-        let mut few = [0u64; 64];
+    if n < 16 {
+        let mut few = [0u64; 16];
         return kinds_right(table, n, &mut few);
+    }
+    if n < 64 {
+        let mut some = [0u64; 64];
+        return kinds_right(table, n, &mut some);
     }
     let mut shapes = [0u64; 513];
     kinds_right(table, n, &mut shapes)
