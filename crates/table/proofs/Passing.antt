@@ -24,13 +24,13 @@ use Rattle.table.proofs.Reading.{length-entries, entry-of}
 use Rattle.table.proofs.Passes.{all-right, one-wrong}
 
 -- what the code finds by the group of an entry's operator, in terms of the entry
-pub right-by : (names : List ℕ) (g : Group) (x : Entry) (r : Bool) → g ≡ groupOf (opOf (x .op)) → r ≡ rightBy names g x → r ≡ entryRight names x
-right-by names g x r e f = f ∙ ap (λ (h : Group). rightBy names h x) e ∙ right-grouped names (opOf (x .op)) x
+pub right-by : (names : List ℕ) (g : Group) (x : Entry) (o : ℕ) (r : Bool) → o ≡ x .op → g ≡ groupOf (opOf o) → r ≡ rightBy names g x → r ≡ entryRight names x
+right-by names g x o r q e f = f ∙ ap (λ (h : Group). rightBy names h x) (e ∙ ap (λ (n : ℕ). groupOf (opOf n)) q) ∙ right-grouped names (opOf (x .op)) x
 
-pub flow-by : (g : Group) (x : Entry) (b d c : ℕ) → b ≡ d → g ≡ groupOf (opOf (x .op))
-    → ((t : Option (List Kind)) → b ≡ numberOf t → c ≡ numberOf (push (givesBy g) (pop (takesBy g (x .a)) t)))
+pub flow-by : (g : Group) (x : Entry) (o a b d c : ℕ) → o ≡ x .op → a ≡ x .a → b ≡ d → g ≡ groupOf (opOf o)
+    → ((t : Option (List Kind)) → b ≡ numberOf t → c ≡ numberOf (push (givesBy g) (pop (takesBy g a) t)))
     → (t : Option (List Kind)) → d ≡ numberOf t → c ≡ numberOf (after x t)
-flow-by g x b d c z e f t h = f t (z ∙ h) ∙ rw (e, takes-grouped (opOf (x .op)) (x .a), gives-grouped (opOf (x .op)))
+flow-by g x o a b d c p q z e f t h = f t (z ∙ h) ∙ rw (e, p, q, takes-grouped (opOf (x .op)) (x .a), gives-grouped (opOf (x .op)))
 
 there : (s : Option (List Kind)) → (numberOf s ≡ 0 → ⊥) → exists s ≡ true
 there none h = absurd (h refl)

@@ -45,6 +45,21 @@ pub fn entry_at(table: &[u8], i: usize) -> Entry
     Entry { op: op, a: a, b: b }
 }
 
+// The op and the a of the entry i alone: where the check needs no b, it is not read.
+fn op_at(table: &[u8], i: usize) -> u16
+    requires { ⌜ 22 + 12 * i ≤ length (now table) ⌝ }
+    ensures { λ r. ⌜ r ≡ entryAt (now (table .entry)) i .op ⌝ }
+{
+    word::read_u16(table, 10 + 12 * i)
+}
+
+fn a_at(table: &[u8], i: usize) -> u16
+    requires { ⌜ 22 + 12 * i ≤ length (now table) ⌝ }
+    ensures { λ r. ⌜ r ≡ entryAt (now (table .entry)) i .a ⌝ }
+{
+    word::read_u16(table, 12 + 12 * i)
+}
+
 // The pool, as a part of the table. It asks that the entries lie in the table, which the layout says.
 pub fn pool(table: &[u8]) -> &[u8]
     requires { ⌜ (10 ≤ length (now table)) × (10 + 12 * countOf (now table) ≤ length (now table)) ⌝ }
@@ -101,23 +116,51 @@ fn name_right(pool: &[u8], e: Entry) -> bool
     notice::name_right(&pool[start..end])
 }
 
-// An entry whose operator is of the group `g`, which is found once for this and for `flow`.
-fn entry_right(pool: &[u8], g: Group, e: Entry) -> bool
-    ensures { λ r. ⌜ r ≡ rightBy (now (pool .entry)) g e ⌝ }
+// "Unused a and b are zero."
+fn unused(e: Entry) -> bool
+    ensures { λ r. ⌜ r ≡ (eqb (e .a) 0 && eqb (e .b) 0) ⌝ }
+{
+    (e.a == 0) & (e.b == 0)
+}
+
+fn int32_right(e: Entry) -> bool
+    ensures { λ r. ⌜ r ≡ (eqb (e .a) 0 && inRange (e .b)) ⌝ }
+{
+    (e.a == 0) & in_range(e.b)
+}
+
+// "a: literals or values, 1..8"
+fn many_right(e: Entry) -> bool
+    ensures { λ r. ⌜ r ≡ ((leb 1 (e .a) && leb (e .a) 8) && eqb (e .b) 0) ⌝ }
+{
+    ((1 <= e.a) & (e.a <= 8)) & (e.b == 0)
+}
+
+// "a: entries passed over, at least 1"
+fn passes_some(e: Entry) -> bool
+    ensures { λ r. ⌜ r ≡ (leb 1 (e .a) && eqb (e .b) 0) ⌝ }
+{
+    (1 <= e.a) & (e.b == 0)
+}
+
+// The entry i, whose operator is of the group `g`, by itself. Each arm reads the entry: were it read once for all arms, b would be put together from single bytes.
+fn entry_right<'a>(table: &'a [u8], pool: &'a [u8], g: Group, i: usize) -> bool
+    requires { ⌜ 22 + 12 * i ≤ length (now table) ⌝ }
+    ensures { λ r. ⌜ r ≡ rightBy (now (pool .entry)) g (entryAt (now (table .entry)) i) ⌝ }
 {
     match g {
-        Group::Int32 => (e.a == 0) & in_range(e.b),
-        Group::Wide => e.a == 0,
-        Group::Text => part_right(pool, e),
-        Group::Name => name_right(pool, e),
-        Group::Change => (e.a == 0) & (e.b == 0),
-        Group::Not => (e.a == 0) & (e.b == 0),
-        Group::Test => (e.a == 0) & (e.b == 0),
-        Group::Combine => (e.a == 0) & (e.b == 0),
-        Group::Compare => (e.a == 0) & (e.b == 0),
-        Group::Connect => (e.a == 0) & (e.b == 0),
-        Group::Many => ((1 <= e.a) & (e.a <= 8)) & (e.b == 0),
-        Group::Skip => (1 <= e.a) & (e.b == 0),
+        Group::Int32 => int32_right(entry_at(table, i)),
+        Group::Wide => entry_at(table, i).a == 0,
+        Group::Text => part_right(pool, entry_at(table, i)),
+        Group::Name => name_right(pool, entry_at(table, i)),
+        Group::Change => unused(entry_at(table, i)),
+        Group::Not => unused(entry_at(table, i)),
+        Group::Test => unused(entry_at(table, i)),
+        Group::Combine => unused(entry_at(table, i)),
+        Group::Compare => unused(entry_at(table, i)),
+        Group::Connect => unused(entry_at(table, i)),
+        Group::Many => many_right(entry_at(table, i)),
+        Group::Skip => passes_some(entry_at(table, i)),
         Group::Unknown => false,
     }
 }
@@ -212,12 +255,13 @@ fn shapes_right(table: &[u8], n: usize, shapes: &mut [u64]) -> bool
     let mut c = 1;
     let mut i = 0;
     while i < n {
-        let e = entry_at(table, i);
-        let g = groups::group_of(e.op);
-        if !entry_right(strings, g, e) {
+        let op = op_at(table, i);
+        let a = a_at(table, i);
+        let g = groups::group_of(op);
+        if !entry_right(table, strings, g, i) {
             return false;
         }
-        c = flow(g, e.a, c);
+        c = flow(g, a, c);
         if c == 0 {
             return false;
         }
