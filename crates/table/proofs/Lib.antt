@@ -5,6 +5,7 @@ pub mod Skips
 pub mod Reading
 pub mod Laid
 pub mod Passes
+pub mod Grouped
 pub mod Passing
 pub mod Answer
 pub mod Encoding

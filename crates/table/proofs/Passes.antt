@@ -71,16 +71,12 @@ module _ (s shapes : List ℕ) (st : Stored s shapes) where
       go true e = rw (st .each (i + entryAt s i .a + 1) (leb-true _ _ e), st .each i (omega arith)) (number-test (shapeAt (entriesOf s) (i + entryAt s i .a + 1)) (shapeAt (entriesOf s) i))
       go false e = refl
 
-not-lost : (a b t : Bool) → (a && not b) ≡ t → (not a || b) ≡ not t
-not-lost true true t e = rw (sym e)
-not-lost true false t e = rw (sym e)
-not-lost false b t e = rw (sym e)
-
--- what the code finds at the entry i: x is the entry, a whether it is a skip, b whether it lands right
+-- what the code finds at the entry i: x is the entry, r whether it is no skip or lands right
 module _ (s shapes : List ℕ) (st : Stored s shapes) (i : ℕ) (h : i < countOf s) where
-  pub skip-number : (x : Entry) (a b : Bool) → x ≡ entryAt s i → a ≡ isSkip x
-      → b ≡ (leb (i + x .a + 1) (countOf s) && eqb (getD shapes (i + x .a + 1) 0) (getD shapes i 0)) → (t : Bool) → (a && not b) ≡ t → skipRight (entriesOf s) i ≡ not t
-  skip-number x a b e f g t q =
-      let p : isSkip (getD (entriesOf s) i blank) ≡ a = ap isSkip (entry-of s i h ∙ sym e) ∙ sym f in
-      let l : landsRight (entriesOf s) i ≡ b = sym (lands-number s shapes st i h) ∙ ap (λ (y : Entry). leb (i + y .a + 1) (countOf s) && eqb (getD shapes (i + y .a + 1) 0) (getD shapes i 0)) (sym e) ∙ sym g in
-      rw (p, l) (not-lost a b t q)
+  pub skip-number : (x : Entry) (r : Bool) → x ≡ entryAt s i
+      → r ≡ (not (isSkip x) || (leb (i + x .a + 1) (countOf s) && eqb (getD shapes (i + x .a + 1) 0) (getD shapes i 0))) → skipRight (entriesOf s) i ≡ r
+  skip-number x r e g =
+      let p : isSkip (getD (entriesOf s) i blank) ≡ isSkip x = ap isSkip (entry-of s i h ∙ sym e) in
+      let l : landsRight (entriesOf s) i ≡ (leb (i + x .a + 1) (countOf s) && eqb (getD shapes (i + x .a + 1) 0) (getD shapes i 0)) =
+      sym (lands-number s shapes st i h) ∙ ap (λ (y : Entry). leb (i + y .a + 1) (countOf s) && eqb (getD shapes (i + y .a + 1) 0) (getD shapes i 0)) (sym e) in
+      rw (p, l) (sym g)

@@ -11,23 +11,26 @@ use borrow.Author.Count.{below-more}
 use lib.ListN.{length, getD, set, length-set}
 use lib.Seq.{getD-set-same, getD-set-other}
 use Rattle.opcode.specs.Opcode.{opOf, Kind}
-use Rattle.opcode.specs.declared.Op.{Op}
 use Rattle.table.specs.Table.{Entry, countOf, entryAt, entriesOf, poolOf}
-use Rattle.table.specs.Check.{opRight, entryRight, entriesRight, flowBy, after, shapeFrom, shapeAt}
+use Rattle.table.specs.Check.{entryRight, entriesRight, pop, push, after, shapeFrom, shapeAt}
+use Rattle.table.specs.Groups.{groupOf, rightBy, takesBy, givesBy}
+use Rattle.table.specs.declared.groups.Group.{Group}
 use Rattle.table.specs.Number.{numberOf, exists, Shaped}
 use Rattle.table.proofs.Tests.{no-way, are-true}
+use Rattle.table.proofs.Grouped.{right-grouped, takes-grouped, gives-grouped}
 use Rattle.table.proofs.Numbers.{shapes-same}
 use Rattle.table.proofs.Shapes.{from-next, from-stuck}
 use Rattle.table.proofs.Reading.{length-entries, entry-of}
 use Rattle.table.proofs.Passes.{all-right, one-wrong}
 
--- what the code finds by an operator that it has decoded once, in terms of the entry
-pub right-by : (names : List ℕ) (op : Op) (x : Entry) (r : Bool) → op ≡ opOf (x .op) → r ≡ opRight names op x → r ≡ entryRight names x
-right-by names op x r e f = f ∙ ap (λ (o : Op). opRight names o x) e
+-- what the code finds by the group of an entry's operator, in terms of the entry
+pub right-by : (names : List ℕ) (g : Group) (x : Entry) (o : ℕ) (r : Bool) → o ≡ x .op → g ≡ groupOf (opOf o) → r ≡ rightBy names g x → r ≡ entryRight names x
+right-by names g x o r q e f = f ∙ ap (λ (h : Group). rightBy names h x) (e ∙ ap (λ (n : ℕ). groupOf (opOf n)) q) ∙ right-grouped names (opOf (x .op)) x
 
-pub flow-by : (op : Op) (x : Entry) (b c : ℕ) → op ≡ opOf (x .op) → ((t : Option (List Kind)) → b ≡ numberOf t → c ≡ numberOf (flowBy op (x .a) t))
-    → (t : Option (List Kind)) → b ≡ numberOf t → c ≡ numberOf (after x t)
-flow-by op x b c e f t g = f t g ∙ ap (λ (o : Op). numberOf (flowBy o (x .a) t)) e
+pub flow-by : (g : Group) (x : Entry) (o a b d c : ℕ) → o ≡ x .op → a ≡ x .a → b ≡ d → g ≡ groupOf (opOf o)
+    → ((t : Option (List Kind)) → b ≡ numberOf t → c ≡ numberOf (push (givesBy g) (pop (takesBy g a) t)))
+    → (t : Option (List Kind)) → d ≡ numberOf t → c ≡ numberOf (after x t)
+flow-by g x o a b d c p q z e f t h = f t (z ∙ h) ∙ rw (e, p, q, takes-grouped (opOf (x .op)) (x .a), gives-grouped (opOf (x .op)))
 
 there : (s : Option (List Kind)) → (numberOf s ≡ 0 → ⊥) → exists s ≡ true
 there none h = absurd (h refl)

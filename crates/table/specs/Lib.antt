@@ -1,5 +1,6 @@
 pub mod Table
 pub mod Check
+pub mod Groups
 pub mod Ways
 pub mod Number
 pub mod Theorems

@@ -1,21 +1,20 @@
 // Tables: layout, decoding and the check. Document 01, "Table". Every function takes a slice that is exactly the table, wherever it lies.
 ghost use mathlib.Core.Path.{_≡_};
-ghost use mathlib.Core.Bool.{true, _&&_};
+ghost use mathlib.Core.Bool.{true, not, _&&_, _||_};
 ghost use mathlib.Core.List.{List};
 ghost use mathlib.Core.Option.{Option};
-ghost use Prim.Native.Nat.{ℕ, _+_, _*_, _≤_, _<_};
+ghost use Prim.Native.Nat.{suc, _+_, _*_, _≤_, _<_};
 ghost use lib.Dec.{leb, eqb};
-ghost use lib.ListN.{length, getD};
-ghost use Rattle.opcode.specs.Opcode.{Kind, unaryTakes, unaryGives, binaryTakes, binaryGives};
+ghost use lib.ListN.{length, getD, replicate};
+ghost use Rattle.opcode.specs.Opcode.{Kind, logic, value};
 ghost use Rattle.table.specs.Table.{countOf, entriesOf, entryAt, poolOf, layoutOf};
-ghost use Rattle.table.specs.Check.{inRange, partRight, loadRight, opRight, popOne, push, flowBy, isSkip, skipsRight, checkOf};
+ghost use Rattle.table.specs.Check.{inRange, partRight, loadRight, popOne, pop, push, isSkip, skipsRight, checkOf};
+ghost use Rattle.table.specs.Groups.{rightBy, takesBy, givesBy};
 ghost use Rattle.table.specs.Number.{bitOf, numberOf, Stored, Shaped};
-use opcode::Binary;
+use groups::Group;
 use opcode::Load;
-use opcode::Many;
-use opcode::Op;
-use opcode::Skip;
-use opcode::Unary;
+
+mod groups;
 
 // "Entry: u16 op, u16 a, u64 b."
 pub struct Entry {
@@ -44,6 +43,21 @@ pub fn entry_at(table: &[u8], i: usize) -> Entry
     let a = word::read_u16(table, 12 + at);
     let b = word::read_u64(table, 14 + at);
     Entry { op: op, a: a, b: b }
+}
+
+// The op and the a of the entry i alone: where the check needs no b, it is not read.
+fn op_at(table: &[u8], i: usize) -> u16
+    requires { ⌜ 22 + 12 * i ≤ length (now table) ⌝ }
+    ensures { λ r. ⌜ r ≡ entryAt (now (table .entry)) i .op ⌝ }
+{
+    word::read_u16(table, 10 + 12 * i)
+}
+
+fn a_at(table: &[u8], i: usize) -> u16
+    requires { ⌜ 22 + 12 * i ≤ length (now table) ⌝ }
+    ensures { λ r. ⌜ r ≡ entryAt (now (table .entry)) i .a ⌝ }
+{
+    word::read_u16(table, 12 + 12 * i)
 }
 
 // The pool, as a part of the table. It asks that the entries lie in the table, which the layout says.
@@ -102,29 +116,52 @@ fn name_right(pool: &[u8], e: Entry) -> bool
     notice::name_right(&pool[start..end])
 }
 
-fn load_right(pool: &[u8], l: Load, e: Entry) -> bool
-    ensures { λ r. ⌜ r ≡ loadRight (now (pool .entry)) l e ⌝ }
+// "Unused a and b are zero."
+fn unused(e: Entry) -> bool
+    ensures { λ r. ⌜ r ≡ (eqb (e .a) 0 && eqb (e .b) 0) ⌝ }
 {
-    match l {
-        Load::Int32 => (e.a == 0) & in_range(e.b),
-        Load::Int64 => e.a == 0,
-        Load::Real64 => e.a == 0,
-        Load::Text => part_right(pool, e),
-        Load::Name => name_right(pool, e),
-    }
+    (e.a == 0) & (e.b == 0)
 }
 
-// An entry whose operator is `op`, which is decoded once for this and for `flow`.
-fn entry_right(pool: &[u8], op: Op, e: Entry) -> bool
-    ensures { λ r. ⌜ r ≡ opRight (now (pool .entry)) op e ⌝ }
+fn int32_right(e: Entry) -> bool
+    ensures { λ r. ⌜ r ≡ (eqb (e .a) 0 && inRange (e .b)) ⌝ }
 {
-    match op {
-        Op::Load(l) => load_right(pool, l, e),
-        Op::Unary(_) => (e.a == 0) & (e.b == 0),
-        Op::Binary(_) => (e.a == 0) & (e.b == 0),
-        Op::Many(_) => ((1 <= e.a) & (e.a <= 8)) & (e.b == 0),
-        Op::Skip(_) => (1 <= e.a) & (e.b == 0),
-        Op::Unknown => false,
+    (e.a == 0) & in_range(e.b)
+}
+
+// "a: literals or values, 1..8"
+fn many_right(e: Entry) -> bool
+    ensures { λ r. ⌜ r ≡ ((leb 1 (e .a) && leb (e .a) 8) && eqb (e .b) 0) ⌝ }
+{
+    ((1 <= e.a) & (e.a <= 8)) & (e.b == 0)
+}
+
+// "a: entries passed over, at least 1"
+fn passes_some(e: Entry) -> bool
+    ensures { λ r. ⌜ r ≡ (leb 1 (e .a) && eqb (e .b) 0) ⌝ }
+{
+    (1 <= e.a) & (e.b == 0)
+}
+
+// The entry i, whose operator is of the group `g`, by itself. Each arm reads the entry: were it read once for all arms, b would be put together from single bytes.
+fn entry_right<'a>(table: &'a [u8], pool: &'a [u8], g: Group, i: usize) -> bool
+    requires { ⌜ 22 + 12 * i ≤ length (now table) ⌝ }
+    ensures { λ r. ⌜ r ≡ rightBy (now (pool .entry)) g (entryAt (now (table .entry)) i) ⌝ }
+{
+    match g {
+        Group::Int32 => int32_right(entry_at(table, i)),
+        Group::Wide => entry_at(table, i).a == 0,
+        Group::Text => part_right(pool, entry_at(table, i)),
+        Group::Name => name_right(pool, entry_at(table, i)),
+        Group::Change => unused(entry_at(table, i)),
+        Group::Not => unused(entry_at(table, i)),
+        Group::Test => unused(entry_at(table, i)),
+        Group::Combine => unused(entry_at(table, i)),
+        Group::Compare => unused(entry_at(table, i)),
+        Group::Connect => unused(entry_at(table, i)),
+        Group::Many => many_right(entry_at(table, i)),
+        Group::Skip => passes_some(entry_at(table, i)),
+        Group::Unknown => false,
     }
 }
 
@@ -157,71 +194,25 @@ fn push_one(c: u64, bit: u64) -> u64
     2 * c + bit
 }
 
-fn unary_takes(u: Unary) -> u64
-    ensures { λ r. ⌜ r ≡ bitOf (unaryTakes u) ⌝ }
+// A result in the place of one operand.
+fn one_flow(c: u64, takes: u64, gives: u64) -> u64
+    requires { ⌜ gives < 2 ⌝ }
+    ensures { λ r. ⌜ ((t g : Kind) (s : Option (List Kind)) → takes ≡ bitOf t → gives ≡ bitOf g → c ≡ numberOf s → r ≡ numberOf (push g (popOne t s))) ⌝ }
 {
-    match u {
-        Unary::Not => 0,
-        Unary::Change(_) => 1,
-        Unary::Test(_) => 1,
-    }
+    push_one(pop_one(c, takes), gives)
 }
 
-fn unary_gives(u: Unary) -> u64
-    ensures { λ r. ⌜ (r ≡ bitOf (unaryGives u)) × (r < 2) ⌝ }
+// A result in the place of two operands.
+fn two_flow(c: u64, takes: u64, gives: u64) -> u64
+    requires { ⌜ gives < 2 ⌝ }
+    ensures { λ r. ⌜ ((t g : Kind) (s : Option (List Kind)) → takes ≡ bitOf t → gives ≡ bitOf g → c ≡ numberOf s → r ≡ numberOf (push g (popOne t (popOne t s)))) ⌝ }
 {
-    match u {
-        Unary::Not => 0,
-        Unary::Change(_) => 1,
-        Unary::Test(_) => 0,
-    }
-}
-
-fn binary_takes(b: Binary) -> u64
-    ensures { λ r. ⌜ r ≡ bitOf (binaryTakes b) ⌝ }
-{
-    match b {
-        Binary::Combine(_) => 1,
-        Binary::Compare(_) => 1,
-        Binary::Connect(_) => 0,
-    }
-}
-
-fn binary_gives(b: Binary) -> u64
-    ensures { λ r. ⌜ (r ≡ bitOf (binaryGives b)) × (r < 2) ⌝ }
-{
-    match b {
-        Binary::Combine(_) => 1,
-        Binary::Compare(_) => 0,
-        Binary::Connect(_) => 0,
-    }
-}
-
-fn load_flow(c: u64) -> u64
-    ensures { λ r. ⌜ ((l : Load) (a : ℕ) (s : Option (List Kind)) → c ≡ numberOf s → r ≡ numberOf (flowBy (Op.Load l) a s)) ⌝ }
-{
-    push_one(c, 1)
-}
-
-fn unary_flow(u: Unary, c: u64) -> u64
-    ensures { λ r. ⌜ ((a : ℕ) (s : Option (List Kind)) → c ≡ numberOf s → r ≡ numberOf (flowBy (Op.Unary u) a s)) ⌝ }
-{
-    let t = unary_takes(u);
-    let g = unary_gives(u);
-    push_one(pop_one(c, t), g)
-}
-
-fn binary_flow(b: Binary, c: u64) -> u64
-    ensures { λ r. ⌜ ((a : ℕ) (s : Option (List Kind)) → c ≡ numberOf s → r ≡ numberOf (flowBy (Op.Binary b) a s)) ⌝ }
-{
-    let t = binary_takes(b);
-    let g = binary_gives(b);
-    push_one(pop_one(pop_one(c, t), t), g)
+    push_one(pop_one(pop_one(c, takes), takes), gives)
 }
 
 // "a: literals or values .. taken from the stack with the first"
 fn many_flow(a: u16, c: u64) -> u64
-    ensures { λ r. ⌜ ((m : Many) (s : Option (List Kind)) → c ≡ numberOf s → r ≡ numberOf (flowBy (Op.Many m) a s)) ⌝ }
+    ensures { λ r. ⌜ ((s : Option (List Kind)) → c ≡ numberOf s → r ≡ numberOf (push logic (pop (replicate (suc a) value) s))) ⌝ }
 {
     let mut d = pop_one(c, 1);
     let mut left = a;
@@ -232,24 +223,24 @@ fn many_flow(a: u16, c: u64) -> u64
     push_one(d, 0)
 }
 
-// "A skip keeps its operand."
-fn skip_flow(c: u64) -> u64
-    ensures { λ r. ⌜ ((k : Skip) (a : ℕ) (s : Option (List Kind)) → c ≡ numberOf s → r ≡ numberOf (flowBy (Op.Skip k) a s)) ⌝ }
+// The kinds after an operator of a group with its a, of those before it. "A skip keeps its operand." An unknown op, which is not right by itself, takes nothing.
+fn flow(g: Group, a: u16, c: u64) -> u64
+    ensures { λ r. ⌜ ((s : Option (List Kind)) → c ≡ numberOf s → r ≡ numberOf (push (givesBy g) (pop (takesBy g a) s))) ⌝ }
 {
-    push_one(pop_one(c, 0), 0)
-}
-
-// The kinds after an operator with its a, of those before it. An unknown op, which is not right by itself, takes nothing.
-fn flow(op: Op, a: u16, c: u64) -> u64
-    ensures { λ r. ⌜ ((s : Option (List Kind)) → c ≡ numberOf s → r ≡ numberOf (flowBy op a s)) ⌝ }
-{
-    match op {
-        Op::Load(_) => load_flow(c),
-        Op::Unary(u) => unary_flow(u, c),
-        Op::Binary(b) => binary_flow(b, c),
-        Op::Many(_) => many_flow(a, c),
-        Op::Skip(_) => skip_flow(c),
-        Op::Unknown => push_one(c, 0),
+    match g {
+        Group::Int32 => push_one(c, 1),
+        Group::Wide => push_one(c, 1),
+        Group::Text => push_one(c, 1),
+        Group::Name => push_one(c, 1),
+        Group::Change => one_flow(c, 1, 1),
+        Group::Not => one_flow(c, 0, 0),
+        Group::Test => one_flow(c, 1, 0),
+        Group::Combine => two_flow(c, 1, 1),
+        Group::Compare => two_flow(c, 1, 0),
+        Group::Connect => two_flow(c, 0, 0),
+        Group::Many => many_flow(a, c),
+        Group::Skip => one_flow(c, 0, 0),
+        Group::Unknown => push_one(c, 0),
     }
 }
 
@@ -261,14 +252,16 @@ fn shapes_right(table: &[u8], n: usize, shapes: &mut [u64]) -> bool
 {
     let strings = pool(table);
     shapes[0] = 1;
+    let mut c = 1;
     let mut i = 0;
     while i < n {
-        let e = entry_at(table, i);
-        let op = opcode::op_of(e.op);
-        if !entry_right(strings, op, e) {
+        let op = op_at(table, i);
+        let a = a_at(table, i);
+        let g = groups::group_of(op);
+        if !entry_right(table, strings, g, i) {
             return false;
         }
-        let c = flow(op, e.a, shapes[i]);
+        c = flow(g, a, c);
         if c == 0 {
             return false;
         }
@@ -299,6 +292,17 @@ fn lands_right(shapes: &[u64], n: usize, i: usize, a: u16) -> bool
     shapes[to] == shapes[i]
 }
 
+// An entry that is no skip, or whose skip lands right. It asks for the same.
+fn skip_right(shapes: &[u64], n: usize, i: usize, e: Entry) -> bool
+    requires { ⌜ (i < n) × (n ≤ 512) × (n < length (now shapes)) ⌝ }
+    ensures { λ r. ⌜ r ≡ (not (isSkip e) || (leb (i + e .a + 1) n && eqb (getD (now (shapes .entry)) (i + e .a + 1) 0) (getD (now (shapes .entry)) i 0))) ⌝ }
+{
+    if !is_skip(e) {
+        return true;
+    }
+    lands_right(shapes, n, i, e.a)
+}
+
 // Each skip, in one pass over the kept numbers: it asks for the layout and for those.
 fn skips_right(table: &[u8], n: usize, shapes: &[u64]) -> bool
     requires { ⌜ (layoutOf (now table) ≡ true) × (n ≡ countOf (now table)) × (n < length (now shapes)) × Stored (now table) (now shapes) ⌝ }
@@ -307,7 +311,7 @@ fn skips_right(table: &[u8], n: usize, shapes: &[u64]) -> bool
     let mut i = 0;
     while i < n {
         let e = entry_at(table, i);
-        if is_skip(e) & !lands_right(shapes, n, i, e.a) {
+        if !skip_right(shapes, n, i, e) {
             return false;
         }
         i += 1;
@@ -340,9 +344,13 @@ pub fn check(table: &[u8]) -> bool
         return false;
     }
     let n = count(table);
-    if n < 64 {
-        let mut few = [0u64; 64];
+    if n < 16 {
+        let mut few = [0u64; 16];
         return kinds_right(table, n, &mut few);
+    }
+    if n < 64 {
+        let mut some = [0u64; 64];
+        return kinds_right(table, n, &mut some);
     }
     let mut shapes = [0u64; 513];
     kinds_right(table, n, &mut shapes)

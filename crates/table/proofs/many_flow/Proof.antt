@@ -46,7 +46,7 @@ push-one-requires c κs = omega arith
 
 returns : tie.Need-returns Inv-loop μ-loop
 returns c =
-    λ m s e.
+    λ s e.
     let p = c .before .before .loop .inv s e in
     let z : c .before .before .loop .left ≡ 0 = omega arith in
     c .push-one .ensures logic (p .stack) refl (p .is) ∙ rw (rw z at (p .rest))

@@ -1,7 +1,8 @@
-use mathlib.Core.Path.{_≡_, sym}
-use mathlib.Core.Bool.{true, false}
+use mathlib.Core.Path.{_≡_, sym, _∙_}
+use mathlib.Core.Bool.{true}
 use Prim.Native.Nat.{ℕ, _≤_, _<_, _-_}
 use native.Mathlib.Omega.{arith}
+use borrow.Author.Tests.{not-true, not-false}
 use borrow.Author.Count.{below-none, below-more}
 use Rattle.table.specs.Table.{countOf, entriesOf}
 use Rattle.table.specs.Check.{skipRight}
@@ -13,8 +14,7 @@ use Rattle.table.proofs.skips_right.Tie as tie
 use Rattle.table.proofs.skips_right.Reads as reads
 use Rattle.table.proofs.skips_right.Lts as lts
 use Rattle.table.proofs.entry_at.Reads as entry-at-reads
-use Rattle.table.proofs.is_skip.Reads as is-skip-reads
-use Rattle.table.proofs.lands_right.Reads as lands-right-reads
+use Rattle.table.proofs.skip_right.Reads as skip-right-reads
 
 abbrev Inv-loop : tie.InvT-loop
 Inv-loop table n shapes i₀ i = (i ≤ n) × ((k : ℕ) → k < i → skipRight (entriesOf table) k ≡ true)
@@ -29,19 +29,16 @@ entry-at-requires : tie.Need-entry-at-requires Inv-loop μ-loop
 entry-at-requires c κs =
     inside (c .before .before .before .before .args .table .now) (c .before .before .before .before .pre .0) (c .before .loop .i) (omega (arith, c .before .before .before .before .pre .1))
 
-is-skip-requires : tie.Need-is-skip-requires Inv-loop μ-loop
-is-skip-requires c κs = search needs
-
-lands-right-requires : tie.Need-lands-right-requires Inv-loop μ-loop
-lands-right-requires c κs =
-    (omega arith, let l = laid (c .before .before .before .before .before .before .args .table .now) (c .before .before .before .before .before .before .pre .0) in omega (arith, c .before .before .before .before .before .before .pre .1), c .before .before .before .before .before .before .pre .2)
+skip-right-requires : tie.Need-skip-right-requires Inv-loop μ-loop
+skip-right-requires c κs =
+    (omega arith, let l = laid (c .before .before .before .before .before .args .table .now) (c .before .before .before .before .before .pre .0) in omega (arith, c .before .before .before .before .before .pre .1), c .before .before .before .before .before .pre .2)
 
 returns : tie.Need-returns Inv-loop μ-loop
 returns c =
-    let t = c .before .before .before .before .before .before .before .before .args .table .now in
-    let h : c .before .before .before .before .before .loop .i < countOf t = omega (arith, c .before .before .before .before .before .before .before .before .pre .1) in
-    let lost = skip-number t (c .before .before .before .before .before .before .before .before .args .shapes .now) (c .before .before .before .before .before .before .before .before .pre .3) (c .before .before .before .before .before .loop .i) h _ _ _ (c .before .before .before .entry-at .ensures) (c .before .before .is-skip .ensures) (rw (c .before .before .before .before .before .before .before .before .pre .1) at (c .before .lands-right .ensures)) true (c .if1 .taken) in
-    sym (one-lost (entriesOf t) (c .before .before .before .before .before .before .before .before .args .n) (c .before .before .before .before .before .loop .i) (omega arith) lost)
+    let t = c .before .before .before .before .before .before .before .args .table .now in
+    let h : c .before .before .before .before .loop .i < countOf t = omega (arith, c .before .before .before .before .before .before .before .pre .1) in
+    let lost = skip-number t (c .before .before .before .before .before .before .before .args .shapes .now) (c .before .before .before .before .before .before .before .pre .3) (c .before .before .before .before .loop .i) h _ _ (c .before .before .entry-at .ensures) (rw (c .before .before .before .before .before .before .before .pre .1) at (c .before .skip-right .ensures)) in
+    sym (one-lost (entriesOf t) (c .before .before .before .before .before .before .before .args .n) (c .before .before .before .before .loop .i) (omega arith) (lost ∙ not-true _ (c .if1 .taken)))
 
 add-i : tie.Need-add-i Inv-loop μ-loop
 add-i c = search needs
@@ -51,10 +48,10 @@ loop-less c = search needs
 
 loop-again : tie.Need-loop-again Inv-loop μ-loop
 loop-again c =
-    let t = c .before .before .before .before .before .before .before .before .args .table .now in
-    let h : c .before .before .before .before .before .loop .i < countOf t = omega (arith, c .before .before .before .before .before .before .before .before .pre .1) in
-    let lands = skip-number t (c .before .before .before .before .before .before .before .before .args .shapes .now) (c .before .before .before .before .before .before .before .before .pre .3) (c .before .before .before .before .before .loop .i) h _ _ _ (c .before .before .before .entry-at .ensures) (c .before .before .is-skip .ensures) (rw (c .before .before .before .before .before .before .before .before .pre .1) at (c .before .lands-right .ensures)) false (c .if1 .left) in
-    (omega arith, below-more _ _ (c .before .before .before .before .before .loop .inv .1) lands)
+    let t = c .before .before .before .before .before .before .before .args .table .now in
+    let h : c .before .before .before .before .loop .i < countOf t = omega (arith, c .before .before .before .before .before .before .before .pre .1) in
+    let lands = skip-number t (c .before .before .before .before .before .before .before .args .shapes .now) (c .before .before .before .before .before .before .before .pre .3) (c .before .before .before .before .loop .i) h _ _ (c .before .before .entry-at .ensures) (rw (c .before .before .before .before .before .before .before .pre .1) at (c .before .skip-right .ensures)) in
+    (omega arith, below-more _ _ (c .before .before .before .before .loop .inv .1) (lands ∙ not-false _ (c .if1 .left)))
 
 returns-2 : tie.Need-returns-2 Inv-loop μ-loop
 returns-2 c =
@@ -68,8 +65,7 @@ skips-right-spec =
     μ-loop
     loop-holds
     entry-at-requires
-    is-skip-requires
-    lands-right-requires
+    skip-right-requires
     returns
     add-i
     loop-less
