@@ -194,3 +194,17 @@ begin {s} notice n budget c e p = record {
   long = length-replicate 32 blank;
   goes = refl;
 }
+
+-- what is left where the steps are held to a budget: the budget less the steps
+abbrev pub Within : List ℕ → List ℕ → List ℕ → ℕ → State → ℕ → Machine → Type 0
+Within s pool notice n w budget m = Left s pool notice n w m (budget - m .steps) × (m .steps ≤ budget)
+
+module _ {budget steps : ℕ} (low : steps ≤ budget) (more : steps ≡ budget → ⊥) where
+  pub some-left : budget - steps ≡ 0 → ⊥
+  some-left z = more (omega arith)
+
+  pub within : {s pool notice : List ℕ} {n : ℕ} {w : State} {r : Machine} → Left s pool notice n w r (budget - steps - 1) → r .steps ≡ steps + 1 → Within s pool notice n w budget r
+  within {r = r} l e =
+      let p : steps ≡ budget → ⊥ = more in
+      let q : budget - steps - 1 ≡ budget - r .steps = omega arith in
+      (rw q at l, omega arith)

@@ -61,7 +61,7 @@ fn stride(skip: Skip, a: u16, top: Held) -> usize
 }
 
 // The inner run: at most `budget` visits, or as many as there are. It asks for a table that passes the check, so that a caller checks a table once and runs it often; the notice may be any bytes.
-// The stack is updated in place. The arms of the operators that answer only say where the answer goes and what it is.
+// The stack is updated in place. The arms of the operators that answer only say where the answer goes and what it is. The steps are held to the budget: no second count is kept.
 pub fn run_checked<'a>(table: &'a [u8], notice: &'a [u8], budget: usize) -> Machine
     requires { ⌜ checkOf (now table) ≡ true ⌝ }
     ensures { λ r. ⌜ (stateOf (poolOf (now (table .entry))) (now (notice .entry)) r ≡ after (decode (now (table .entry))) (now (notice .entry)) budget) × (r .depth ≤ 32) ⌝ }
@@ -69,12 +69,10 @@ pub fn run_checked<'a>(table: &'a [u8], notice: &'a [u8], budget: usize) -> Mach
     let n = table::count(table);
     let pool = table::pool(table);
     let mut m = fresh();
-    let mut left = budget;
     while m.next < n {
-        if left == 0 {
+        if m.steps == budget {
             return m;
         }
-        left = left - 1;
         let at = m.next;
         let depth = m.depth;
         m.steps = m.steps + 1;

@@ -24,12 +24,12 @@ pub enum Origin {
     Notice,
 }
 
-// A part of the pool or of the notice, "a folded one with a mark beside it".
+// A part of the pool or of the notice, "a folded one with a mark beside it". The two marks stand before the numbers: a piece then ends where a value's 64-bit numbers begin, so that the compiler keeps its parts in registers.
 pub struct Piece {
     pub origin: Origin,
+    pub folded: bool,
     pub start: u16,
     pub len: u16,
-    pub folded: bool,
 }
 
 pub enum Typed {

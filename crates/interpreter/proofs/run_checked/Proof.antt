@@ -1,7 +1,7 @@
 -- `interpreter::run_checked` meets its contract: at each turn the machine is sound for its table, and what the visits that are left make of it is what the whole budget makes of the start.
 -- The inner loop's invariant: what is known with the later operands below j, and with those that are left, is the whole. Assumes nothing.
 use Prim.Native.Nat.{_+_, _-_, _<_, _≤_}
-use mathlib.Core.Path.{_≡_, sym, ap, _∙_}
+use mathlib.Core.Path.{_≡_, refl, sym, ap, _∙_}
 use mathlib.Core.List.{reverse}
 use native.Mathlib.Nat.{sub-zero}
 use native.Mathlib.Omega.{arith}
@@ -21,25 +21,25 @@ use Rattle.interpreter.specs.declared.Machine.{Machine}
 use Rattle.interpreter.specs.Run.{after}
 use Rattle.interpreter.specs.Machine.{blank, stackOf}
 use Rattle.interpreter.proofs.Stack.{stack-up}
-use Rattle.interpreter.proofs.Visits.{Left, begin, spent, ended, low, few, entry-fits, counted, room, many-room, skip-room, load-law, unary-law, binary-law, many-law, skip-law, no-unknown}
+use Rattle.interpreter.proofs.Visits.{Within, begin, spent, ended, low, few, entry-fits, counted, room, many-room, skip-room, load-law, unary-law, binary-law, many-law, skip-law, no-unknown, some-left, within}
 use borrow.Author.Needs.{needs}
 use Rattle.interpreter.proofs.run_checked.Statement.{statement}
 use Rattle.interpreter.proofs.run_checked.Tie as tie
 
 abbrev Inv-loop2 : tie.InvT-loop2
-Inv-loop2 table notice budget n pool m left at depth i k a x t₀ j₀ t j =
+Inv-loop2 table notice budget n pool m at depth i k a x t₀ j₀ t j =
     (i < j) × (j ≤ depth)
     × (tallyOf k (itemOf pool notice x) t (reverse (take (depth - j) (stackOf (itemOf pool notice) (m .stack) depth)))
     ≡ tallyOf k (itemOf pool notice x) (startOf k (itemOf pool notice x)) (reverse (take a (stackOf (itemOf pool notice) (m .stack) depth))))
 
 abbrev μ-loop2 : tie.MeasureT-loop2
-μ-loop2 table notice budget n pool m left at depth i k a x t₀ j₀ t j = depth - j
+μ-loop2 table notice budget n pool m at depth i k a x t₀ j₀ t j = depth - j
 
 abbrev Inv-loop : tie.InvT-loop
-Inv-loop table notice budget n pool m₀ left₀ m left = Left table pool notice n (after (decode table) notice budget) m left
+Inv-loop table notice budget n pool m₀ m = Within table pool notice n (after (decode table) notice budget) budget m
 
 abbrev μ-loop : tie.MeasureT-loop
-μ-loop table notice budget n pool m₀ left₀ m left = left
+μ-loop table notice budget n pool m₀ m = budget - m .steps
 
 abbrev at : tie.After-op-of Inv-loop2 μ-loop2 Inv-loop μ-loop → Machine
 at d = d .before .before .before .before .loop .m
@@ -53,20 +53,20 @@ op-is d e = sym (ap (λ (x : Entry). opOf (x .op)) (d .before .entry-at .ensures
 unary-fits : (c : tie.After-op2 Inv-loop2 μ-loop2 Inv-loop μ-loop) → (1 ≤ at (c .before .before) .depth) × (at (c .before .before) .depth ≤ 32)
 unary-fits c =
     let d = c .before .before in
-    let l = d .before .before .before .before .loop .inv in
+    let l = d .before .before .before .before .loop .inv .0 in
     (room l (d .before .before .before .loop-test .taken) (Op.Unary (c .op2 .given .0 .0)) (op-is d (c .op2 .given .1)) .0, low l)
 
 binary-fits : (c : tie.After-op3 Inv-loop2 μ-loop2 Inv-loop μ-loop) → (2 ≤ at (c .before .before) .depth) × (at (c .before .before) .depth ≤ 32)
 binary-fits c =
     let d = c .before .before in
-    let l = d .before .before .before .before .loop .inv in
+    let l = d .before .before .before .before .loop .inv .0 in
     (room l (d .before .before .before .loop-test .taken) (Op.Binary (c .op3 .given .0 .0)) (op-is d (c .op3 .given .1)) .0, low l)
 
 many-fits : (c : tie.After-op4 Inv-loop2 μ-loop2 Inv-loop μ-loop)
     → (c .before .before .before .entry-at .result .a + 1 ≤ at (c .before .before) .depth) × (at (c .before .before) .depth ≤ 32)
 many-fits c =
     let d = c .before .before in
-    let l = d .before .before .before .before .loop .inv in
+    let l = d .before .before .before .before .loop .inv .0 in
     let e = d .before .entry-at in
     (many-room l (d .before .before .before .loop-test .taken) (e .result .a) (ap (λ (x : Entry). x .a) (e .ensures)) (op-is d (c .op4 .given .1)) .0, low l)
 
@@ -74,33 +74,35 @@ skip-fits : (c : tie.After-op5 Inv-loop2 μ-loop2 Inv-loop μ-loop)
     → (1 ≤ at (c .before .before) .depth) × (at (c .before .before) .depth ≤ 32) × (at (c .before .before) .next + c .before .before .before .entry-at .result .a + 1 ≤ 512)
 skip-fits c =
     let d = c .before .before in
-    let l = d .before .before .before .before .loop .inv in
+    let l = d .before .before .before .before .loop .inv .0 in
     let b = d .before .before .before .loop-test .taken in
     let o = op-is d (c .op5 .given .1) in
     (room l b (Op.Skip (c .op5 .given .0 .0)) o .0, low l, omega (arith, skip-room l b o, ap (λ (e : Entry). e .a) (d .before .entry-at .ensures)))
 
 -- where the arms that answer meet: the machine after the store is the rule's next
 met : (c : tie.At-match-came Inv-loop2 μ-loop2 Inv-loop μ-loop)
-    → Left (now (c .before .before .before .before .before .before .before .before .before .before .before .args .table))
+    → Within (now (c .before .before .before .before .before .before .before .before .before .before .before .args .table))
     (now (c .before .before .before .before .before .before .before .pool .result))
     (now (c .before .before .before .before .before .before .before .before .before .before .before .args .notice))
     (c .before .before .before .before .before .before .before .before .count .result)
     (after (decode (now (c .before .before .before .before .before .before .before .before .before .before .before .args .table)))
     (now (c .before .before .before .before .before .before .before .before .before .before .before .args .notice))
     (c .before .before .before .before .before .before .before .before .before .before .before .args .budget))
+    (c .before .before .before .before .before .before .before .before .before .before .before .args .budget)
     (record {
       stack = set (at (c .before) .stack) (c .match .i) (record { held = c .match .h });
       depth = c .match .i + 1;
       next = at (c .before) .next + 1;
       steps = at (c .before) .steps + 1;
     })
-    (c .before .before .before .before .before .loop .left - 1)
     × (c .match .i < 32)
 met c =
     let d = c .before in
-    let l = d .before .before .before .before .loop .inv in
+    let l = d .before .before .before .before .loop .inv .0 in
     let b = d .before .before .before .loop-test .taken in
-    let z = d .before .before .if1 .left in
+    let u = d .before .before .before .before .loop .inv .1 in
+    let v = d .before .before .if1 .left in
+    let z = some-left u v in
     let e = d .before .entry-at in
     let p = now (c .before .before .before .before .before .before .before .pool .result) in
     let q = now (c .before .before .before .before .before .before .before .before .before .before .before .args .notice) in
@@ -110,20 +112,20 @@ met c =
     let k = w .1 .given .0 .0 in
     let own : itemOf p q (w .3 .result) ≡ loadOf p q k (e .result .a) (e .result .b) = w .3 .ensures in
     rw (w .4, w .5)
-    (rw sub-zero at (load-law l b z (w .3 .result) o (own ∙ ap (λ (x : Entry). loadOf p q k (x .a) (x .b)) (e .ensures))), rw sub-zero at (room l b (Op.Load k) o .1)))
+    (within u v (rw sub-zero at (load-law l b z (w .3 .result) o (own ∙ ap (λ (x : Entry). loadOf p q k (x .a) (x .b)) (e .ensures)))) refl, rw sub-zero at (room l b (Op.Load k) o .1)))
     (⊎-elim
     (λ w.
     let o = op-is d (w .1 .given .1) in
-    rw (w .5, w .6) (unary-law l b z (w .4 .result) o (w .4 .ensures), room l b (Op.Unary (w .1 .given .0 .0)) o .1))
+    rw (w .5, w .6) (within u v (unary-law l b z (w .4 .result) o (w .4 .ensures)) refl, room l b (Op.Unary (w .1 .given .0 .0)) o .1))
     (⊎-elim
     (λ w.
     let o = op-is d (w .1 .given .1) in
-    rw (w .6, w .7) (binary-law l b z (w .5 .result) o (w .5 .ensures), room l b (Op.Binary (w .1 .given .0 .0)) o .1))
+    rw (w .6, w .7) (within u v (binary-law l b z (w .5 .result) o (w .5 .ensures)) refl, room l b (Op.Binary (w .1 .given .0 .0)) o .1))
     (λ w.
     let o = op-is d (w .1 .given .1) in
     let is = ap (λ (x : Entry). x .a) (e .ensures) in
     let none : at d .depth - w .6 .j ≡ 0 = omega (arith, w .6 .inv .1, w .7 .left) in
-    rw (w .8, w .9) (many-law l b z (e .result .a) is o (rw none at (w .6 .inv .2)), many-room l b (e .result .a) is o .1))))
+    rw (w .8, w .9) (within u v (many-law l b z (e .result .a) is o (rw none at (w .6 .inv .2))) refl, many-room l b (e .result .a) is o .1))))
     (c .match .came)
 
 count-requires : tie.Need-count-requires Inv-loop2 μ-loop2 Inv-loop μ-loop
@@ -139,19 +141,16 @@ fresh-requires c κs = tt
 
 loop-holds : tie.Need-loop-holds Inv-loop2 μ-loop2 Inv-loop μ-loop
 loop-holds c =
-    rw (c .fresh .ensures) (begin (c .before .before .before .before .before .args .notice .now) (c .before .before .count .result) (c .before .before .before .before .before .args .budget) (c .before .before .before .before .before .pre) (c .before .before .count .ensures .0) (c .before .pool .ensures))
+    rw (c .fresh .ensures) (rw sub-zero (begin (c .before .before .before .before .before .args .notice .now) (c .before .before .count .result) (c .before .before .before .before .before .args .budget) (c .before .before .before .before .before .pre) (c .before .before .count .ensures .0) (c .before .pool .ensures)), omega arith)
 
 returns : tie.Need-returns Inv-loop2 μ-loop2 Inv-loop μ-loop
-returns c = let l = c .before .before .loop .inv in (spent l (c .if1 .taken), low l)
-
-sub-left : tie.Need-sub-left Inv-loop2 μ-loop2 Inv-loop μ-loop
-sub-left c = omega arith
+returns c = let l = c .before .before .loop .inv .0 in (spent l (omega (arith, c .if1 .taken)), low l)
 
 add-m : tie.Need-add-m Inv-loop2 μ-loop2 Inv-loop μ-loop
-add-m c = omega (arith, counted (c .before .before .loop .inv) (c .before .loop-test .taken))
+add-m c = omega (arith, counted (c .before .before .loop .inv .0) (c .before .loop-test .taken))
 
 entry-at-requires : tie.Need-entry-at-requires Inv-loop2 μ-loop2 Inv-loop μ-loop
-entry-at-requires c κs = entry-fits (c .before .before .loop .inv) (c .before .loop-test .taken)
+entry-at-requires c κs = entry-fits (c .before .before .loop .inv .0) (c .before .loop-test .taken)
 
 op-of-requires : tie.Need-op-of-requires Inv-loop2 μ-loop2 Inv-loop μ-loop
 op-of-requires c κs = tt
@@ -281,26 +280,27 @@ loop-less c = omega arith
 loop-again : tie.Need-loop-again Inv-loop2 μ-loop2 Inv-loop μ-loop
 loop-again c =
     let d = c .before .before .before .before .before in
-    let l = c .before .before .before .before .before .before .before .before .before .loop .inv in
+    let i = c .before .before .before .before .before .before .before .before .before .loop .inv in
+    let v = c .before .before .before .before .before .before .before .if1 .left in
     rw (c .stride .ensures .0 (now (c .before .before .before .before .before .before .before .before .before .before .before .pool .result)) (now (c .before .before .before .before .before .before .before .before .before .before .before .before .before .before .before .args .notice)), d .before .entry-at .ensures)
-    (skip-law l (c .before .before .before .before .before .before .before .before .loop-test .taken) (c .before .before .before .before .before .before .before .if1 .left) (op-is d (c .before .before .before .op5 .given .1)))
+    (within (i .1) v (skip-law (i .0) (c .before .before .before .before .before .before .before .before .loop-test .taken) (some-left (i .1) v) (op-is d (c .before .before .before .op5 .given .1))) refl)
 
 enum-told : tie.Need-enum-told Inv-loop2 μ-loop2 Inv-loop μ-loop
 enum-told c = search needs
 
 add-m-3 : tie.Need-add-m-3 Inv-loop2 μ-loop2 Inv-loop μ-loop
 add-m-3 c =
-    absurd (no-unknown (c .before .before .before .before .before .before .loop .inv) (c .before .before .before .before .before .loop-test .taken) (op-is (c .before .before) (c .enum-told .given .1)))
+    absurd (no-unknown (c .before .before .before .before .before .before .loop .inv .0) (c .before .before .before .before .before .loop-test .taken) (op-is (c .before .before) (c .enum-told .given .1)))
 
 loop-less-2 : tie.Need-loop-less-2 Inv-loop2 μ-loop2 Inv-loop μ-loop
 loop-less-2 c = omega arith
 
 loop-again-2 : tie.Need-loop-again-2 Inv-loop2 μ-loop2 Inv-loop μ-loop
 loop-again-2 c =
-    absurd (no-unknown (c .before .before .before .before .before .before .loop .inv) (c .before .before .before .before .before .loop-test .taken) (op-is (c .before .before) (c .enum-told .given .1)))
+    absurd (no-unknown (c .before .before .before .before .before .before .loop .inv .0) (c .before .before .before .before .before .loop-test .taken) (op-is (c .before .before) (c .enum-told .given .1)))
 
-mul-t38 : tie.Need-mul-t38 Inv-loop2 μ-loop2 Inv-loop μ-loop
-mul-t38 c = omega (arith, met (c .before) .1)
+mul-t37 : tie.Need-mul-t37 Inv-loop2 μ-loop2 Inv-loop μ-loop
+mul-t37 c = omega (arith, met (c .before) .1)
 
 element-set-from-m : tie.Need-element-set-from-m Inv-loop2 μ-loop2 Inv-loop μ-loop
 element-set-from-m c = omega (arith, met (c .before) .1)
@@ -309,7 +309,7 @@ add-m-4 : tie.Need-add-m-4 Inv-loop2 μ-loop2 Inv-loop μ-loop
 add-m-4 c = omega (arith, met (c .before) .1)
 
 add-m-5 : tie.Need-add-m-5 Inv-loop2 μ-loop2 Inv-loop μ-loop
-add-m-5 c = omega (arith, few (c .before .before .before .before .before .before .loop .inv))
+add-m-5 c = omega (arith, few (c .before .before .before .before .before .before .loop .inv .0))
 
 loop-less-3 : tie.Need-loop-less-3 Inv-loop2 μ-loop2 Inv-loop μ-loop
 loop-less-3 c = omega arith
@@ -318,7 +318,7 @@ loop-again-3 : tie.Need-loop-again-3 Inv-loop2 μ-loop2 Inv-loop μ-loop
 loop-again-3 c = met (c .before) .0
 
 returns-2 : tie.Need-returns-2 Inv-loop2 μ-loop2 Inv-loop μ-loop
-returns-2 c = let l = c .before .loop .inv in (ended l (c .loop-test .left), low l)
+returns-2 c = let l = c .before .loop .inv .0 in (ended l (c .loop-test .left), low l)
 
 pub run-checked-spec : {M : Type 1} → statement M
 run-checked-spec =
@@ -333,7 +333,6 @@ run-checked-spec =
     fresh-requires
     loop-holds
     returns
-    sub-left
     add-m
     entry-at-requires
     op-of-requires
@@ -379,7 +378,7 @@ run-checked-spec =
     add-m-3
     loop-less-2
     loop-again-2
-    mul-t38
+    mul-t37
     element-set-from-m
     add-m-4
     add-m-5
