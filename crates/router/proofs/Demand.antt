@@ -3,6 +3,7 @@ use Prim.Native.Nat.{ℕ, zero, suc, _+_, _^_, _≤_, _<_}
 use native.Mathlib.Omega.{arith}
 use mathlib.Core.Path.{_≡_, refl, sym, ap, _∙_, subst}
 use mathlib.Core.Bool.{Bool, true, false}
+use mathlib.Core.Logic.{_⊎_, inl, inr}
 use mathlib.Core.List.{List, [], _∷_, map}
 use mathlib.Core.Option.{some}
 use lib.Dec.{eqb}
@@ -17,9 +18,7 @@ use Rattle.notice.specs.Field.{Field}
 use Rattle.notice.specs.Write.{writtenOf, writtenBytes, refusalOf as refusalIn}
 use Rattle.lexer.proofs.Theorems.{stored}
 use Rattle.grammar.specs.Tree.{Tree}
-use Rattle.lexer.specs.Token.{kindOf, pick, Lexed, tokens, refused, tokensOf}
-use Rattle.grammar.specs.Nesting.{tooDeep}
-use Rattle.grammar.specs.Parse.{Result, ok, bad, parseAll}
+use Rattle.grammar.specs.Parse.{ok, parseAll}
 use Rattle.grammar.specs.Size.{entriesOf, poolOf as poolSize}
 use Rattle.grammar.proofs.Theorems.{parses}
 use Rattle.table.specs.Table.{Program, encode, decode, poolOf}
@@ -33,13 +32,13 @@ use Rattle.interpreter.proofs.Stack.{stack-length}
 use Rattle.interpreter.proofs.Theorems.{stack-small}
 use Rattle.meaning.specs.Meaning.{meaning, textMeaning}
 use Rattle.translator.specs.Compile.{codeOf, compile}
-use Rattle.translator.specs.Translation.{Outcome, refusal, refusalOf, ofTree, ofResult, ofTokens, ofLexed, translationOf, Answers}
+use Rattle.translator.specs.Translation.{Outcome, translationOf, Answers}
 use Rattle.translator.specs.Theorems.{Accepted}
 use Rattle.translator.specs.declared.Translated.{Translated}
 use Rattle.table.proofs.Tests.{no-way as impossible}
 use Rattle.translator.proofs.Sound.{size}
 use Rattle.translator.proofs.Lexed.{lexed-text}
-use Rattle.translator.proofs.Fits.{fits-room}
+use Rattle.translator.proofs.Fits.{fits-room, refused-empty}
 use Rattle.translator.proofs.Theorems.{writes-table, accepts-exactly, decodes, passes-check, pool-small}
 use Rattle.router.specs.Agree.{Made}
 use Rattle.router.specs.Demand.{Met, Calls, DemandThree, AcceptedText, RefusalKeeps, refused as refusedWith, ranOf, RunsTable, Matches}
@@ -98,32 +97,12 @@ accepted-text text =
 
 -- ---- a refusal changes no byte
 
-abbrev Keeps : Outcome → Type 0
-Keeps o = (o .number ≡ 0 → ⊥) → o .table ≡ []
-
-keeps-by : (b : Bool) (k : ℕ) (table : List ℕ) → Keeps (pick b (λ _. record { number = 0; place = 0; table = table }) (λ _. refusal k 0))
-keeps-by true k table h = absurd (h refl)
-keeps-by false k table h = refl
-
-keeps-deep : (b : Bool) (o : Outcome) → Keeps o → Keeps (pick b (λ _. refusal 6 0) (λ _. o))
-keeps-deep true o k h = refl
-keeps-deep false o k h = k h
-
-keeps-result : (long : ℕ) (starts : List ℕ) (room : ℕ) (r : Result) → Keeps (ofResult long starts room r)
-unfolding ofResult ofTree
-keeps-result long starts room (ok t n) h = keeps-by (eqb (refusalOf t room) 0) (refusalOf t room) (encode (compile t)) h
-keeps-result long starts room (bad p) h = refl
-
-keeps-lexed : (long room : ℕ) (x : Lexed) → Keeps (ofLexed long room x)
-unfolding ofLexed ofTokens
-keeps-lexed long room (tokens ps) h =
-    keeps-deep (tooDeep (map (λ p. kindOf (p .token)) ps)) (ofResult long (map (λ p. p .start) ps) room (parseAll (map (λ p. p .token) ps)))
-    (keeps-result long (map (λ p. p .start) ps) room (parseAll (map (λ p. p .token) ps))) h
-keeps-lexed long room (refused k place ps) h = refl
-
-no-table : (text : List ℕ) (room : ℕ) → Keeps (translationOf text room)
-unfolding translationOf
-no-table text room h = keeps-lexed (length text) room (tokensOf text) h
+no-table : (text : List ℕ) (room : ℕ) → (translationOf text room .number ≡ 0 → ⊥) → translationOf text room .table ≡ []
+no-table text room h = go (refused-empty text room)
+  where
+    go : (translationOf text room .number ≡ 0) ⊎ (translationOf text room .table ≡ []) → translationOf text room .table ≡ []
+    go (inl e) = absurd (h e)
+    go (inr e) = e
 
 unwritten : (buffer : List ℕ) (len : ℕ) (f : Field) → (writtenOf buffer len f .number ≡ 0 → ⊥) → writtenBytes buffer len f ≡ buffer
 unwritten buffer len f h = rw (ne-eqb (refusalIn buffer len f) 0 h)

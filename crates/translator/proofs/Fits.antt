@@ -1,6 +1,7 @@
--- The table that is answered lies in the buffer. Assumes nothing.
+-- The table that is answered lies in the buffer, and a refused text has none. Assumes nothing.
 use mathlib.Core.Bool.{Bool, true, false, cond, not, _&&_}
 use mathlib.Core.Path.{_≡_, refl}
+use mathlib.Core.Logic.{_⊎_, inl, inr}
 use mathlib.Core.List.{List, [], map}
 use Prim.Native.Nat.{ℕ, _≤_}
 use native.Mathlib.Omega.{arith}
@@ -16,7 +17,7 @@ use Rattle.grammar.specs.Size.{entriesOf, depthOf}
 use Rattle.table.specs.Table.{encode}
 use Rattle.translator.specs.Compile.{compile}
 use Rattle.translator.specs.Translation.{Outcome, refusal, refusalOf, ofTree, ofResult, ofTokens, ofLexed, translationOf}
-use Rattle.translator.specs.Theorems.{FitsRoom}
+use Rattle.translator.specs.Theorems.{FitsRoom, RefusedEmpty}
 
 -- a tree's refusal by its tests
 abbrev numberBy : Bool → Bool → Bool → Bool → Bool → ℕ
@@ -58,3 +59,32 @@ fits-lexed long room (refused number place ps) = omega arith
 pub fits-room : FitsRoom
 unfolding translationOf
 fits-room s room = fits-lexed (length s) room (tokensOf s)
+
+-- ---- a refused text
+
+abbrev Empty : Outcome → Type 0
+Empty o = (o .number ≡ 0) ⊎ (o .table ≡ [])
+
+empty-by : (b : Bool) (k : ℕ) (table : List ℕ) → Empty (pick b (λ _. record { number = 0; place = 0; table = table }) (λ _. refusal k 0))
+empty-by true k table = inl refl
+empty-by false k table = inr refl
+
+empty-result : (long : ℕ) (starts : List ℕ) (room : ℕ) (r : Result) → Empty (ofResult long starts room r)
+unfolding ofResult ofTree
+empty-result long starts room (ok t n) = empty-by (eqb (refusalOf t room) 0) (refusalOf t room) (encode (compile t))
+empty-result long starts room (bad p) = inr refl
+
+empty-either : (b : Bool) (o : Outcome) → Empty o → Empty (pick b (λ _. refusal 6 0) (λ _. o))
+empty-either true o h = inr refl
+empty-either false o h = h
+
+empty-lexed : (long room : ℕ) (x : Lexed) → Empty (ofLexed long room x)
+unfolding ofLexed ofTokens
+empty-lexed long room (tokens ps) =
+    empty-either (tooDeep (map (λ p. kindOf (p .token)) ps)) (ofResult long (map (λ p. p .start) ps) room (parseAll (map (λ p. p .token) ps)))
+    (empty-result long (map (λ p. p .start) ps) room (parseAll (map (λ p. p .token) ps)))
+empty-lexed long room (refused number place ps) = inr refl
+
+pub refused-empty : RefusedEmpty
+unfolding translationOf
+refused-empty s room = empty-lexed (length s) room (tokensOf s)

@@ -2,8 +2,8 @@
 use Prim.Native.Nat.{ℕ, _≤_}
 use mathlib.Core.Path.{_≡_}
 use mathlib.Core.Bool.{true, false}
-use mathlib.Core.List.{List, map}
-use mathlib.Core.Logic.{_↔_}
+use mathlib.Core.List.{List, [], map}
+use mathlib.Core.Logic.{_↔_, _⊎_}
 use lib.ListN.{length}
 use Rattle.word.specs.Word.{Bytes}
 use Rattle.table.specs.Table.{encode, decode}
@@ -57,3 +57,7 @@ TableSizes = (s : List ℕ) (t : Tree) → Bytes s → Accepted s t → (length 
 -- The table that is answered, none where the text is refused, lies in the buffer.
 abbrev pub FitsRoom : Type 0
 FitsRoom = (s : List ℕ) (room : ℕ) → length (translationOf s room .table) ≤ room
+
+-- A refused text has no table: so a refusal changes no byte.
+abbrev pub RefusedEmpty : Type 0
+RefusedEmpty = (s : List ℕ) (room : ℕ) → (translationOf s room .number ≡ 0) ⊎ (translationOf s room .table ≡ [])
