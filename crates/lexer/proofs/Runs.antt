@@ -1,6 +1,6 @@
 -- Steps and ends of the loops over runs: what the rest gives from a place on is what the whole gives. Assumes nothing.
 use mathlib.Core.Path.{_≡_, refl, sym, ap, _∙_}
-use mathlib.Core.Bool.{Bool, true, false, not, _&&_, and-false}
+use mathlib.Core.Bool.{Bool, true, false, not, _&&_, and-false, and-assoc}
 use mathlib.Core.List.{List, [], _∷_, _++_}
 use Prim.Native.Nat.{ℕ, zero, suc, _+_, _-_, _≤_, _<_}
 use native.Mathlib.Nat.{add-zero}
@@ -50,22 +50,28 @@ module _ (s : List ℕ) (i : ℕ) where
     pub escape-later : (getD s i 0 ≡ 92 → ⊥) → hasEscape (drop (i + 1) s) ≡ hasEscape (drop i s)
     escape-later f = rw (add-one, drop-cons s i 0 h, ne-eqb (getD s i 0) 92 f)
 
-    pub dropped : (t : Bool) → takes t (getD s i 0) ≡ true → unescaped true (drop (i + 1) s) ≡ unescaped t (drop i s)
-    dropped t e = rw (add-one, drop-cons s i 0 h, e)
+    -- the run without escapes
+    pub plain-stop : (q : ℕ) (t : Bool) → (not t && ends q (getD s i 0)) ≡ true → unescaped t (runFrom q t (drop i s)) ≡ []
+    plain-stop q t e = rw (drop-cons s i 0 h, e)
 
-    pub kept : (t : Bool) → takes t (getD s i 0) ≡ false → getD s i 0 ∷ unescaped false (drop (i + 1) s) ≡ unescaped t (drop i s)
-    kept t e = rw (add-one, drop-cons s i 0 h, e)
+    module _ (q : ℕ) (t : Bool) (e : (not t && ends q (getD s i 0)) ≡ false) where
+      pub dropped : takes t (getD s i 0) ≡ true → unescaped true (runFrom q true (drop (i + 1) s)) ≡ unescaped t (runFrom q t (drop i s))
+      dropped f = rw (add-one, drop-cons s i 0 h, e, f)
 
-    pub copied : (t : Bool) (p part : List ℕ) (n : ℕ) → takes t (getD s i 0) ≡ false → p ≡ set part n (getD s i 0)
-        → sets p (n + 1) (unescaped false (drop (i + 1) s)) ≡ sets part n (unescaped t (drop i s))
-    copied t p part n e f = rw (← kept t e, f, add-one n)
+      pub kept : takes t (getD s i 0) ≡ false → getD s i 0 ∷ unescaped false (runFrom q false (drop (i + 1) s)) ≡ unescaped t (runFrom q t (drop i s))
+      kept f = rw (add-one, drop-cons s i 0 h, e, f)
 
-    -- the bytes of a name
-    pub illegal : (t : Bool) → legalByte t (getD s i 0) ≡ false → false ≡ legalName t (drop i s)
-    illegal t e = rw (drop-cons s i 0 h, e)
+      pub copied : (p part : List ℕ) (n : ℕ) → takes t (getD s i 0) ≡ false → p ≡ set part n (getD s i 0)
+          → sets p (n + 1) (unescaped false (runFrom q false (drop (i + 1) s))) ≡ sets part n (unescaped t (runFrom q t (drop i s)))
+      copied p part n f g = rw (← kept f, g, add-one n)
 
-    pub legal-so-far : (t : Bool) → legalByte t (getD s i 0) ≡ true → legalName (takes t (getD s i 0)) (drop (i + 1) s) ≡ legalName t (drop i s)
-    legal-so-far t e = rw (add-one, drop-cons s i 0 h, e)
+      -- the bytes of a name
+      pub legal-so-far : (l u : Bool) → takes t (getD s i 0) ≡ u
+          → (l && legalByte t (getD s i 0)) && legalName u (runFrom q u (drop (i + 1) s)) ≡ l && legalName t (runFrom q t (drop i s))
+      legal-so-far l u f = and-assoc l (legalByte t (getD s i 0)) (legalName u (runFrom q u (drop (i + 1) s))) ∙ rw (add-one, drop-cons s i 0 h, e, f)
+
+    pub legal-stop : (q : ℕ) (t : Bool) → (not t && ends q (getD s i 0)) ≡ true → legalName t (runFrom q t (drop i s)) ≡ not t
+    legal-stop q t e = rw (drop-cons s i 0 h, e)
 
   module _ (h : length s ≤ i) where
     pub run-end : (q : ℕ) (t : Bool) → length (runFrom q t (drop i s)) ≡ 0
@@ -74,11 +80,11 @@ module _ (s : List ℕ) (i : ℕ) where
     pub no-escape : false ≡ hasEscape (drop i s)
     no-escape = rw (drop-of-length-le s h)
 
-    pub unescaped-end : (t : Bool) → unescaped t (drop i s) ≡ []
-    unescaped-end t = rw (drop-of-length-le s h)
+    pub plain-end : (q : ℕ) (t : Bool) → unescaped t (runFrom q t (drop i s)) ≡ []
+    plain-end q t = rw (drop-of-length-le s h)
 
-    pub legal-end : (t : Bool) → not t ≡ legalName t (drop i s)
-    legal-end t = rw (drop-of-length-le s h)
+    pub legal-end : (q : ℕ) (t : Bool) → legalName t (runFrom q t (drop i s)) ≡ not t
+    legal-end q t = rw (drop-of-length-le s h)
 
 -- what stands first
 abbrev pub First : List ℕ → List ℕ → Type 0

@@ -1,5 +1,6 @@
 // Tokens. Document 01, "Tokens", and "Refusals by number", 10, 1 and 3.
 ghost use mathlib.Core.Path.{_≡_};
+ghost use Prim.Native.Nat.{_≤_};
 ghost use lib.ListN.{length};
 ghost use lib.Seq.{sets};
 ghost use Rattle.lexer.specs.Token.{scanName, scanNumber, scanString, scanSymbol, scanOf, tokensOf, kindsOf, startsOf, nameAt, escapedAt, nameIs, stringAt, integerAt, realAt};
@@ -23,12 +24,12 @@ use real::is_real;
 use real::real_fits;
 use run::body;
 use run::byte_at;
+use run::copy_plain;
 use run::has_escape;
-use run::legal_name;
+use run::measure_name;
+use run::plain_length;
 use run::rest;
 use run::run;
-use run::unescape;
-use run::unescaped_length;
 use symbol::symbol;
 use symbol::symbol_length;
 
@@ -41,13 +42,13 @@ enum Scanned {
 fn scan_name(s: &[u8]) -> Scanned
     ensures { λ r. ⌜ r ≡ scannedOf (scanName (now (s .entry))) ⌝ }
 {
-    let bytes = run(s, 0, 0);
-    if !legal_name(bytes) {
+    let m = measure_name(s);
+    if !m.legal {
         return Scanned::Bad(1);
     }
-    let n = unescaped_length(bytes);
+    let n = m.plain;
     if (1 <= n) & (n <= 64) {
-        return Scanned::Good(5, bytes.len());
+        return Scanned::Good(5, m.bytes);
     }
     Scanned::Bad(3)
 }
@@ -122,8 +123,10 @@ pub enum Lexing {
     Refused(u8, usize),
 }
 
-// The tokens' kind numbers and starts go to the front of the lent arrays, as far as the tokens are legal; the arrays' other elements stay.
-pub fn lex(text: &[u8], kinds: &mut [u8; 4096], starts: &mut [u16; 4096]) -> Lexing
+// The tokens' kind numbers and starts go to the front of the lent slices, as far as the tokens are legal; their other elements stay.
+// It asks for an element for each byte, if the text is not too long.
+pub fn lex(text: &[u8], kinds: &mut [u8], starts: &mut [u16]) -> Lexing
+    requires { ⌜ (length (now text) ≤ 4096 → length (now text) ≤ length (now kinds)) × (length (now text) ≤ 4096 → length (now text) ≤ length (now starts)) ⌝ }
     ensures { λ r. ⌜ r ≡ lexingOf (tokensOf (now (text .entry))) ⌝ }
     ensures { λ _. ⌜ now (kinds .exit) ≡ sets (now (kinds .entry)) 0 (kindsOf (tokensOf (now (text .entry)))) ⌝ }
     ensures { λ _. ⌜ now (starts .exit) ≡ sets (now (starts .entry)) 0 (startsOf (tokensOf (now (text .entry)))) ⌝ }
@@ -155,7 +158,7 @@ pub fn lex(text: &[u8], kinds: &mut [u8; 4096], starts: &mut [u16; 4096]) -> Lex
 pub fn name_length(text: &[u8], at: usize) -> usize
     ensures { λ r. ⌜ r ≡ length (nameAt (now (text .entry)) at) ⌝ }
 {
-    unescaped_length(run(text, at, 0))
+    plain_length(rest(text, at), 0)
 }
 
 pub fn name_escaped(text: &[u8], at: usize) -> bool
@@ -164,11 +167,12 @@ pub fn name_escaped(text: &[u8], at: usize) -> bool
     has_escape(run(text, at, 0))
 }
 
-// To the start of the part, as far as it goes; its other bytes stay.
-pub fn copy_name(text: &[u8], at: usize, part: &mut [u8])
+// To the start of the part, as far as it goes; its other bytes stay. Answers how many bytes the name has.
+pub fn copy_name(text: &[u8], at: usize, part: &mut [u8]) -> usize
+    ensures { λ r. ⌜ r ≡ length (nameAt (now (text .entry)) at) ⌝ }
     ensures { λ _. ⌜ now (part .exit) ≡ sets (now (part .entry)) 0 (nameAt (now (text .entry)) at) ⌝ }
 {
-    unescape(run(text, at, 0), part);
+    copy_plain(rest(text, at), 0, part)
 }
 
 // Whether the name is the word, with no escape. Most words differ from a name in the first byte, which is told before the name's end is looked for.
@@ -188,13 +192,16 @@ pub fn name_is(text: &[u8], at: usize, word: &[u8]) -> bool
 pub fn string_length(text: &[u8], at: usize) -> usize
     ensures { λ r. ⌜ r ≡ length (stringAt (now (text .entry)) at) ⌝ }
 {
-    unescaped_length(body(rest(text, at)))
+    let from = rest(text, at);
+    plain_length(rest(from, 1), byte_at(from, 0))
 }
 
-pub fn copy_string(text: &[u8], at: usize, part: &mut [u8])
+pub fn copy_string(text: &[u8], at: usize, part: &mut [u8]) -> usize
+    ensures { λ r. ⌜ r ≡ length (stringAt (now (text .entry)) at) ⌝ }
     ensures { λ _. ⌜ now (part .exit) ≡ sets (now (part .entry)) 0 (stringAt (now (text .entry)) at) ⌝ }
 {
-    unescape(body(rest(text, at)), part);
+    let from = rest(text, at);
+    copy_plain(rest(from, 1), byte_at(from, 0), part)
 }
 
 pub fn int_value(text: &[u8], at: usize) -> i64

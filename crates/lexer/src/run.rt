@@ -87,14 +87,18 @@ pub fn has_escape(run: &[u8]) -> bool
     false
 }
 
-pub fn unescaped_length(run: &[u8]) -> usize
-    ensures { λ r. ⌜ r ≡ length (unescaped false (now (run .entry))) ⌝ }
+// How many bytes stand from the start up to the first one that ends them and is not taken, without escapes.
+pub fn plain_length(s: &[u8], quote: u8) -> usize
+    ensures { λ r. ⌜ r ≡ length (unescaped false (runOf quote (now (s .entry)))) ⌝ }
 {
     let mut n = 0;
     let mut taken = false;
     let mut i = 0;
-    while i < run.len() {
-        let b = run[i];
+    while i < s.len() {
+        let b = s[i];
+        if (!taken) & ends(quote, b) {
+            return n;
+        }
         i += 1;
         if takes(taken, b) {
             taken = true;
@@ -115,15 +119,19 @@ fn put(part: &mut [u8], at: usize, b: u8)
     }
 }
 
-// Copies the bytes without escapes to the start of the part, as far as it goes; its other bytes stay.
-pub fn unescape(run: &[u8], part: &mut [u8])
-    ensures { λ _. ⌜ now (part .exit) ≡ sets (now (part .entry)) 0 (unescaped false (now (run .entry))) ⌝ }
+// Copies them to the start of the part, as far as it goes, and answers how many they are; the part's other bytes stay.
+pub fn copy_plain(s: &[u8], quote: u8, part: &mut [u8]) -> usize
+    ensures { λ r. ⌜ r ≡ length (unescaped false (runOf quote (now (s .entry)))) ⌝ }
+    ensures { λ _. ⌜ now (part .exit) ≡ sets (now (part .entry)) 0 (unescaped false (runOf quote (now (s .entry)))) ⌝ }
 {
     let mut n = 0;
     let mut taken = false;
     let mut i = 0;
-    while i < run.len() {
-        let b = run[i];
+    while i < s.len() {
+        let b = s[i];
+        if (!taken) & ends(quote, b) {
+            return n;
+        }
         i += 1;
         if takes(taken, b) {
             taken = true;
@@ -133,6 +141,7 @@ pub fn unescape(run: &[u8], part: &mut [u8])
         put(part, n, b);
         n += 1;
     }
+    n
 }
 
 // "A backslash takes the next byte, which must be 32..126. Unescaped bytes must be 33..126 and none of `[ ] ' "`."
@@ -145,17 +154,41 @@ fn legal_byte(taken: bool, b: u8) -> bool
     is_plain(b)
 }
 
-pub fn legal_name(run: &[u8]) -> bool
-    ensures { λ r. ⌜ r ≡ legalName false (now (run .entry)) ⌝ }
+// Of the name that stands first: its bytes, how many they are without escapes, whether they are legal.
+pub struct Measured {
+    pub bytes: usize,
+    pub plain: usize,
+    pub legal: bool,
+}
+
+pub fn measure_name(s: &[u8]) -> Measured
+    ensures { λ r. ⌜ (r .bytes ≡ length (runOf 0 (now (s .entry)))) × (r .plain ≡ length (unescaped false (runOf 0 (now (s .entry))))) × (r .legal ≡ legalName false (runOf 0 (now (s .entry)))) ⌝ }
 {
+    let mut legal = true;
+    let mut n = 0;
     let mut taken = false;
     let mut i = 0;
-    while i < run.len() {
-        if !legal_byte(taken, run[i]) {
-            return false;
+    while i < s.len() {
+        let b = s[i];
+        if (!taken) & ends(0, b) {
+            return Measured {
+                bytes: i,
+                plain: n,
+                legal: legal & !taken,
+            };
         }
-        taken = takes(taken, run[i]);
+        legal = legal & legal_byte(taken, b);
         i += 1;
+        if takes(taken, b) {
+            taken = true;
+            continue;
+        }
+        taken = false;
+        n += 1;
     }
-    !taken
+    Measured {
+        bytes: i,
+        plain: n,
+        legal: legal & !taken,
+    }
 }

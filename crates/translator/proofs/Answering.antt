@@ -4,7 +4,7 @@ use native.Mathlib.Omega.{arith}
 use mathlib.Core.Path.{_≡_, refl, sym, ap, ap₂, _∙_, subst}
 use mathlib.Core.Bool.{Bool, true, false}
 use mathlib.Core.List.{List, [], _∷_, _++_, map}
-use lib.ListN.{length, getD, take, drop, replicate, length-map, length-replicate}
+use lib.ListN.{length, getD, take, drop, length-map}
 use lib.Seq.{sets, sets-eq, take-append-seam, length-sets}
 use Rattle.word.specs.Word.{Bytes}
 use Rattle.lexer.specs.Token.{Token, Placed, kindOf, Lexed, tokens, refused, tokensOf, kindsOf, startsOf}
@@ -82,31 +82,24 @@ tokened s h a b =
     let w = tokens-told (tokensOf s) (sym a ∙ b) in
     record { placed = w .0; are = w .1; count = w .2; text = lexed-text s (w .0) h (w .1) }
 
--- the arrays before
-abbrev pub zeros : List ℕ
-zeros = replicate 4096 0
-
-pub zeros-long : length zeros ≡ 4096
-zeros-long = length-replicate {A = ℕ} 4096 0
-
 front-is : (d xs : List ℕ) (n : ℕ) → length xs ≡ n → n ≤ length d → take (n - 0) (drop 0 (sets d 0 xs)) ≡ xs
 front-is d xs n e h =
     let m : n - 0 ≡ length xs = omega arith in
     ap (λ (l : List ℕ). take (n - 0) l) (sets-eq xs d 0 (omega arith)) ∙ rw m (take-append-seam xs (drop (0 + length xs) d))
 
 module _ {s : List ℕ} {n : ℕ} (t : Tokened s n) where
-  pub few : n ≤ 4096
-  few = omega (arith, t .count, t .text .count)
+  pub few : (d : List ℕ) → (length s ≤ 4096 → length s ≤ length d) → n ≤ length d
+  few d room = omega (arith, t .count, t .text .count, room (t .text .short))
 
-  pub kinds-front : (d k : List ℕ) → length d ≡ 4096 → k ≡ sets d 0 (kindsOf (tokensOf s)) → take (n - 0) (drop 0 k) ≡ map (λ p. kindOf (p .token)) (t .placed)
-  kinds-front d k l e =
+  pub kinds-front : (d k : List ℕ) → (length s ≤ 4096 → length s ≤ length d) → k ≡ sets d 0 (kindsOf (tokensOf s)) → take (n - 0) (drop 0 k) ≡ map (λ p. kindOf (p .token)) (t .placed)
+  kinds-front d k room e =
       ap (λ (x : List ℕ). take (n - 0) (drop 0 x)) (e ∙ rw (t .are))
-      ∙ front-is d (map (λ p. kindOf (p .token)) (t .placed)) n (length-map (t .placed) (λ p. kindOf (p .token)) ∙ t .count) (omega (arith, few))
+      ∙ front-is d (map (λ p. kindOf (p .token)) (t .placed)) n (length-map (t .placed) (λ p. kindOf (p .token)) ∙ t .count) (few d room)
 
-  pub starts-front : (d k : List ℕ) → length d ≡ 4096 → k ≡ sets d 0 (startsOf (tokensOf s)) → take (n - 0) (drop 0 k) ≡ map (λ p. p .start) (t .placed)
-  starts-front d k l e =
+  pub starts-front : (d k : List ℕ) → (length s ≤ 4096 → length s ≤ length d) → k ≡ sets d 0 (startsOf (tokensOf s)) → take (n - 0) (drop 0 k) ≡ map (λ p. p .start) (t .placed)
+  starts-front d k room e =
       ap (λ (x : List ℕ). take (n - 0) (drop 0 x)) (e ∙ rw (t .are))
-      ∙ front-is d (map (λ p. p .start) (t .placed)) n (length-map (t .placed) (λ p. p .start) ∙ t .count) (omega (arith, few))
+      ∙ front-is d (map (λ p. p .start) (t .placed)) n (length-map (t .placed) (λ p. p .start) ∙ t .count) (few d room)
 
   module _ {ks ps : List ℕ} (ek : ks ≡ map (λ p. kindOf (p .token)) (t .placed)) (ep : ps ≡ map (λ p. p .start) (t .placed)) where
     stand : tokensIn s ks ps ≡ tokensOnly (t .placed)
@@ -115,7 +108,7 @@ module _ {s : List ℕ} {n : ℕ} (t : Tokened s n) where
     pub asked : (length s ≤ 4096) × (length ks ≤ 4096) × Small (tokensIn s ks ps)
     asked = (
       t .text .short,
-      omega (arith, ap length ek, length-map (t .placed) (λ p. kindOf (p .token)), t .count, few),
+      omega (arith, ap length ek, length-map (t .placed) (λ p. kindOf (p .token)), t .count, t .text .count, t .text .short),
       λ u m e.
           let l = whole-level (tokensIn s ks ps) e .0 in
           omega (arith, tree-small (tokensIn s ks ps) l (omega arith), ap totalOf stand, t .text .total),

@@ -216,7 +216,7 @@ tokens-are s (p ∷ ps) v = ap₂ (λ (x : Token) (xs : List Token). x ∷ xs) (
 -- What holds of the tokens of a text.
 pub record LexedText (s : List ℕ) (ps : List Placed) : Type 0 where
   pub short : length s ≤ 4096
-  pub count : length ps ≤ 4096
+  pub count : length ps ≤ length s
   pub total : totalOf (tokensOnly ps) ≤ 4096
   pub right : AllRight (tokensOnly ps)
   pub stand : tokensIn s (map (λ p. kindOf (p .token)) ps) (map (λ p. p .start) ps) ≡ tokensOnly ps
@@ -228,7 +228,7 @@ lexed-text s ps h e =
     let v : Each (λ p. ValueAt s (p .start) (p .token)) ps = rw e at (values s) in
     record {
       short = w .0;
-      count = omega (arith, w .0, l .count);
+      count = l .count;
       total = omega (arith, w .0, l .total);
       right = rights s ps (l .all) v;
       stand = tokens-are s ps v;

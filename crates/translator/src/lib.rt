@@ -296,14 +296,28 @@ fn tokens(text: &[u8], kinds: &[u8], starts: &[u16], buffer: &mut [u8]) -> Trans
     }
 }
 
-// Text to table. A refusal leaves every byte of the buffer as it was; a table stands at the buffer's start, and every later byte stays.
-pub fn translate(text: &[u8], buffer: &mut [u8]) -> Translated
+// Text to table, with room for the tokens lent: an element for each byte, if the text is not too long.
+fn translate_in(text: &[u8], kinds: &mut [u8], starts: &mut [u16], buffer: &mut [u8]) -> Translated
+    requires { ⌜ (length (now text) ≤ 4096 → length (now text) ≤ length (now kinds)) × (length (now text) ≤ 4096 → length (now text) ≤ length (now starts)) ⌝ }
     ensures { λ r. ⌜ Answers (translationOf (now (text .entry)) (length (now (buffer .entry)))) (now (buffer .entry)) (now (buffer .exit)) r ⌝ }
 {
-    let mut kinds = [0u8; 4096];
-    let mut starts = [0u16; 4096];
-    match lexer::lex(text, &mut kinds, &mut starts) {
+    match lexer::lex(text, kinds, starts) {
         Lexing::Tokens(n) => tokens(text, &kinds[0..n], &starts[0..n], buffer),
         Lexing::Refused(number, place) => refused(number, place),
     }
+}
+
+// Text to table. A refusal leaves every byte of the buffer as it was; a table stands at the buffer's start, and every later byte stays.
+// A short text has short arrays, since every element of an array is set before it is used.
+pub fn translate(text: &[u8], buffer: &mut [u8]) -> Translated
+    ensures { λ r. ⌜ Answers (translationOf (now (text .entry)) (length (now (buffer .entry)))) (now (buffer .entry)) (now (buffer .exit)) r ⌝ }
+{
+    if text.len() <= 256 {
+        let mut few = [0u8; 256];
+        let mut places = [0u16; 256];
+        return translate_in(text, &mut few, &mut places, buffer);
+    }
+    let mut kinds = [0u8; 4096];
+    let mut starts = [0u16; 4096];
+    translate_in(text, &mut kinds, &mut starts, buffer)
 }

@@ -31,8 +31,8 @@ fn put_brought(
     let k = stream::kind(kinds, i);
     let s = stream::start(starts, i);
     if k == 4 {
-        lexer::copy_string(text, s, &mut out[at..]);
-        return at + lexer::string_length(text, s);
+        let n = lexer::copy_string(text, s, &mut out[at..]);
+        return at + n;
     }
     if k != 5 {
         return at;
@@ -40,8 +40,8 @@ fn put_brought(
     if kind_after(kinds, i) == 9 {
         return at;
     }
-    lexer::copy_name(text, s, &mut out[at..]);
-    at + lexer::name_length(text, s)
+    let n = lexer::copy_name(text, s, &mut out[at..]);
+    at + n
 }
 
 // Copies what all tokens bring to the buffer, from `from` on; every other byte stays.
