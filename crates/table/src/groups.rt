@@ -30,7 +30,7 @@ pub enum Group {
     Unknown,
 }
 
-// The group of an operator's number. Each number has an arm of its own: the compiler then reads the group from an array, where ranges are tested one by one.
+// The group of an operator's number. Each number has an arm of its own: the compiler then jumps by the number, where ranges are tested one by one.
 pub fn group_of(number: u16) -> Group
     ensures { λ r. ⌜ r ≡ groupOf (opOf number) ⌝ }
 {

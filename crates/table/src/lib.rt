@@ -336,7 +336,7 @@ fn kinds_right(table: &[u8], n: usize, shapes: &mut [u64]) -> bool
     skips_right(table, n, shapes)
 }
 
-// Whether the table passes; refusal 12 if not. A small table has a small array, since every element of an array is set before it is used.
+// Whether the table passes; refusal 12 if not. A small table has a small array, since every element of an array is set before it is used. With a third array the compiler leaves this as a call, and its operands go through memory.
 pub fn check(table: &[u8]) -> bool
     ensures { λ r. ⌜ r ≡ checkOf (now (table .entry)) ⌝ }
 {
@@ -344,13 +344,9 @@ pub fn check(table: &[u8]) -> bool
         return false;
     }
     let n = count(table);
-    if n < 16 {
-        let mut few = [0u64; 16];
-        return kinds_right(table, n, &mut few);
-    }
     if n < 64 {
-        let mut some = [0u64; 64];
-        return kinds_right(table, n, &mut some);
+        let mut few = [0u64; 64];
+        return kinds_right(table, n, &mut few);
     }
     let mut shapes = [0u64; 513];
     kinds_right(table, n, &mut shapes)

@@ -26,7 +26,7 @@ slice-aggregate-kinds-right c = search needs
 
 kinds-right-requires : tie.Need-kinds-right-requires
 kinds-right-requires c κs =
-    (sym (c .before .before .before .before .layout-right .ensures) ∙ not-false _ (c .before .before .before .if1 .left), c .before .before .count .ensures .0, rw (length-replicate {A = ℕ} 16 0) (c .before .if2 .taken))
+    (sym (c .before .before .before .before .layout-right .ensures) ∙ not-false _ (c .before .before .before .if1 .left), c .before .before .count .ensures .0, rw (length-replicate {A = ℕ} 64 0) (c .before .if2 .taken))
 
 returns-2 : tie.Need-returns-2
 returns-2 c = search needs
@@ -36,22 +36,12 @@ slice-aggregate-kinds-right-2 c = search needs
 
 kinds-right-requires-2 : tie.Need-kinds-right-requires-2
 kinds-right-requires-2 c κs =
-    (sym (c .before .before .before .before .before .layout-right .ensures) ∙ not-false _ (c .before .before .before .before .if1 .left), c .before .before .before .count .ensures .0, rw (length-replicate {A = ℕ} 64 0) (c .before .if3 .taken))
+    let l = laid (c .before .before .before .before .before .before .args .table .now) (sym (c .before .before .before .before .layout-right .ensures) ∙ not-false _ (c .before .before .before .if1 .left)) in
+    let few : c .before .before .count .result < 513 = omega (arith, l .few, c .before .before .count .ensures .0) in
+    (sym (c .before .before .before .before .layout-right .ensures) ∙ not-false _ (c .before .before .before .if1 .left), c .before .before .count .ensures .0, rw (length-replicate {A = ℕ} 513 0) few)
 
 returns-3 : tie.Need-returns-3
 returns-3 c = search needs
-
-slice-aggregate-kinds-right-3 : tie.Need-slice-aggregate-kinds-right-3
-slice-aggregate-kinds-right-3 c = search needs
-
-kinds-right-requires-3 : tie.Need-kinds-right-requires-3
-kinds-right-requires-3 c κs =
-    let l = laid (c .before .before .before .before .before .before .before .args .table .now) (sym (c .before .before .before .before .before .layout-right .ensures) ∙ not-false _ (c .before .before .before .before .if1 .left)) in
-    let few : c .before .before .before .count .result < 513 = omega (arith, l .few, c .before .before .before .count .ensures .0) in
-    (sym (c .before .before .before .before .before .layout-right .ensures) ∙ not-false _ (c .before .before .before .before .if1 .left), c .before .before .before .count .ensures .0, rw (length-replicate {A = ℕ} 513 0) few)
-
-returns-4 : tie.Need-returns-4
-returns-4 c = search needs
 
 pub check-spec : {M : Type 1} → statement M
 check-spec =
@@ -65,7 +55,4 @@ check-spec =
     returns-2
     slice-aggregate-kinds-right-2
     kinds-right-requires-2
-    returns-3
-    slice-aggregate-kinds-right-3
-    kinds-right-requires-3
-    returns-4)
+    returns-3)
