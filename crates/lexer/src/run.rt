@@ -119,7 +119,7 @@ fn put(part: &mut [u8], at: usize, b: u8)
     }
 }
 
-// Copies them to the start of the part, as far as it goes, and answers how many they are; the part's other bytes stay.
+// Copies the bytes of a name or a string, without escapes, to the start of the part, as far as it goes, and answers how many they are; the part's other bytes stay.
 pub fn copy_plain(s: &[u8], quote: u8, part: &mut [u8]) -> usize
     ensures { λ r. ⌜ r ≡ length (unescaped false (runOf quote (now (s .entry)))) ⌝ }
     ensures { λ _. ⌜ now (part .exit) ≡ sets (now (part .entry)) 0 (unescaped false (runOf quote (now (s .entry)))) ⌝ }
