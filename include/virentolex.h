@@ -31,7 +31,7 @@
  *
  * The functions keep nothing between calls, so that threads may call them at the same time. They end,
  * use no heap and call nothing but memset. The stack is not part of the proofs. Measured: translating
- * takes 14 kB for a flat text and 331 kB for the deepest texts tried (24 parentheses, every operator
+ * takes 14 kB for a flat text and 322 kB for the deepest texts tried (24 parentheses, every operator
  * level and 24 prefix operators between each two), the other functions at most 6 kB.
  */
 #ifndef VIRENTOLEX_H

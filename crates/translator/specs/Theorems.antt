@@ -1,4 +1,4 @@
--- What holds of every translation. The proofs are in proofs/Theorems.antt, under the same names.
+-- What holds of every translation. The proofs are in proofs/Theorems.antt, those of `FitsRoom` and `RefusedEmpty` in proofs/Fits.antt, under the same names.
 use Prim.Native.Nat.{ℕ, _≤_}
 use mathlib.Core.Path.{_≡_}
 use mathlib.Core.Bool.{true, false}
