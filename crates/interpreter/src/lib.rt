@@ -8,35 +8,24 @@ ghost use Rattle.table.specs.Check.{checkOf};
 ghost use Rattle.value.specs.Value.{truthIn};
 ghost use Rattle.value.specs.Held.{itemOf};
 ghost use Rattle.interpreter.specs.Run.{skips, after, runOf};
-ghost use Rattle.interpreter.specs.Machine.{fresh as freshMachine, stateOf};
+ghost use Rattle.interpreter.specs.Machine.{stateOf};
 ghost use Rattle.interpreter.specs.Running.{refused as refusedWith, answerOf, runningOf};
 use notice::Layout;
+use opcode::Binary;
+use opcode::Load;
 use opcode::Op;
 use opcode::Skip;
+use opcode::Unary;
 use truth::Truth;
 use value::Held;
 use value::Slot;
 
-// The next entry, how many of the stack's slots are taken, the entries visited, and the slots, the topmost last. The numbers stand first: a fresh machine is then made in place, where behind the array they were copied once more.
+// The next entry, how many of the stack's slots are taken, the entries visited, and the slots, the topmost last.
 pub struct Machine {
     pub next: usize,
     pub depth: usize,
     pub steps: usize,
     pub stack: [Slot; 32],
-}
-
-// "The run starts at entry 0 with an empty stack."
-fn fresh() -> Machine
-    ensures { λ r. ⌜ r ≡ freshMachine ⌝ }
-{
-    Machine {
-        next: 0,
-        depth: 0,
-        steps: 0,
-        stack: [Slot {
-            held: Held::Logic(Truth::False),
-        }; 32],
-    }
 }
 
 // "44 on a false top and 45 on a true one"
@@ -61,77 +50,172 @@ fn stride(skip: Skip, a: u16, top: Held) -> usize
 }
 
 // The inner run: at most `budget` visits, or as many as there are. It asks for a table that passes the check, so that a caller checks a table once and runs it often; the notice may be any bytes.
-// The stack is updated in place. The arms of the operators that answer only say where the answer goes and what it is. The steps are held to the budget: no second count is kept.
+// The stack is updated in place, and the numbers stand beside it, so that they stay in registers. Each group of operators stores its own answer and goes on: where the groups meet, a slot would be put together from its parts.
 pub fn run_checked<'a>(table: &'a [u8], notice: &'a [u8], budget: usize) -> Machine
     requires { ⌜ checkOf (now table) ≡ true ⌝ }
     ensures { λ r. ⌜ (stateOf (poolOf (now (table .entry))) (now (notice .entry)) r ≡ after (decode (now (table .entry))) (now (notice .entry)) budget) × (r .depth ≤ 32) ⌝ }
 {
     let n = table::count(table);
     let pool = table::pool(table);
-    let mut m = fresh();
-    while m.next < n {
-        if m.steps == budget {
-            return m;
+    let mut stack = [Slot {
+        held: Held::Logic(Truth::False),
+    }; 32];
+    let mut next = 0;
+    let mut depth = 0;
+    let mut steps = 0;
+    while next < n {
+        if steps == budget {
+            return Machine {
+                next,
+                depth,
+                steps,
+                stack,
+            };
         }
-        let at = m.next;
-        let depth = m.depth;
-        m.steps = m.steps + 1;
-        let e = table::entry_at(table, at);
-        let op = opcode::op_of(e.op);
-        let mut i = depth;
-        let mut h = Held::Logic(Truth::False);
+        let at = next;
+        steps = steps + 1;
+        next = at + 1;
+        let op = opcode::op_of(table::op_at(table, at));
         match op {
-            Op::Load(k) => {
-                h = value::load(pool, notice, k, e.a, e.b);
-            }
-            Op::Unary(k) => {
-                i = depth - 1;
-                let s = m.stack[i];
-                let x = s.held;
-                h = value::unary(pool, notice, k, x);
-            }
-            Op::Binary(k) => {
-                i = depth - 2;
-                let j = depth - 1;
-                let s = m.stack[i];
-                let x = s.held;
-                let t = m.stack[j];
-                let y = t.held;
-                h = value::binary(pool, notice, k, x, y);
-            }
+            Op::Load(k) => match k {
+                Load::Int32 => {
+                    let b = table::b_at(table, at);
+                    let h = value::load_int32(b);
+                    stack[depth] = Slot { held: h };
+                    depth = depth + 1;
+                    continue;
+                }
+                Load::Int64 => {
+                    let b = table::b_at(table, at);
+                    let h = value::load_int64(b);
+                    stack[depth] = Slot { held: h };
+                    depth = depth + 1;
+                    continue;
+                }
+                Load::Real64 => {
+                    let b = table::b_at(table, at);
+                    let h = value::load_real64(b);
+                    stack[depth] = Slot { held: h };
+                    depth = depth + 1;
+                    continue;
+                }
+                Load::Text => {
+                    let a = table::a_at(table, at);
+                    let b = table::b_at(table, at);
+                    let h = value::load_text(a, b);
+                    stack[depth] = Slot { held: h };
+                    depth = depth + 1;
+                    continue;
+                }
+                Load::Name => {
+                    let a = table::a_at(table, at);
+                    let b = table::b_at(table, at);
+                    let h = value::load_name(pool, notice, a, b);
+                    stack[depth] = Slot { held: h };
+                    depth = depth + 1;
+                    continue;
+                }
+            },
+            Op::Unary(k) => match k {
+                Unary::Not => {
+                    let i = depth - 1;
+                    let s = stack[i];
+                    let x = s.held;
+                    let h = value::not(x);
+                    stack[i] = Slot { held: h };
+                    continue;
+                }
+                Unary::Change(o) => {
+                    let i = depth - 1;
+                    let s = stack[i];
+                    let x = s.held;
+                    let h = value::change(pool, notice, o, x);
+                    stack[i] = Slot { held: h };
+                    continue;
+                }
+                Unary::Test(o) => {
+                    let i = depth - 1;
+                    let s = stack[i];
+                    let x = s.held;
+                    let h = value::test(o, x);
+                    stack[i] = Slot { held: h };
+                    continue;
+                }
+            },
+            Op::Binary(k) => match k {
+                Binary::Combine(o) => {
+                    let i = depth - 2;
+                    let j = depth - 1;
+                    let s = stack[i];
+                    let t = stack[j];
+                    let x = s.held;
+                    let y = t.held;
+                    let h = value::combine(o, x, y);
+                    stack[i] = Slot { held: h };
+                    depth = j;
+                    continue;
+                }
+                Binary::Compare(o) => {
+                    let i = depth - 2;
+                    let j = depth - 1;
+                    let s = stack[i];
+                    let t = stack[j];
+                    let x = s.held;
+                    let y = t.held;
+                    let h = value::compare(pool, notice, o, x, y);
+                    stack[i] = Slot { held: h };
+                    depth = j;
+                    continue;
+                }
+                Binary::Connect(o) => {
+                    let i = depth - 2;
+                    let j = depth - 1;
+                    let s = stack[i];
+                    let t = stack[j];
+                    let x = s.held;
+                    let y = t.held;
+                    let h = value::connect(o, x, y);
+                    stack[i] = Slot { held: h };
+                    depth = j;
+                    continue;
+                }
+            },
             Op::Many(k) => {
-                let a = e.a as usize;
-                i = depth - (a + 1);
-                let s = m.stack[i];
+                let a = table::a_at(table, at) as usize;
+                let i = depth - (a + 1);
+                let s = stack[i];
                 let x = s.held;
-                let mut t = value::start(k, x);
+                let mut known = value::start(k, x);
                 let mut j = i + 1;
                 while j < depth {
-                    let u = m.stack[j];
-                    let y = u.held;
-                    t = value::more(pool, notice, k, x, t, y);
+                    let t = stack[j];
+                    let y = t.held;
+                    known = value::more(pool, notice, k, x, known, y);
                     j = j + 1;
                 }
-                h = Held::Logic(t);
+                stack[i] = Slot {
+                    held: Held::Logic(known),
+                };
+                depth = i + 1;
+                continue;
             }
             Op::Skip(k) => {
-                let top = depth - 1;
-                let s = m.stack[top];
+                let i = depth - 1;
+                let s = stack[i];
                 let x = s.held;
-                let far = stride(k, e.a, x);
-                m.next = at + far;
+                let far = stride(k, table::a_at(table, at), x);
+                next = at + far;
                 continue;
             }
-            Op::Unknown => {
-                m.next = at + 1;
-                continue;
-            }
+            Op::Unknown => continue,
         }
-        m.stack[i] = Slot { held: h };
-        m.depth = i + 1;
-        m.next = at + 1;
     }
-    m
+    Machine {
+        next,
+        depth,
+        steps,
+        stack,
+    }
 }
 
 // "Running answers number, place, verdict (bottom if refused) and steps (0 if refused)."

@@ -20,12 +20,12 @@ pub use real::is_nan;
 pub use real::real_of_bits;
 use truth::Truth;
 
-// `None` is no number: bottom.
+// `None` is no number: bottom. The variants stand as those of a typed value do, so that a value becomes a number without a jump.
 pub enum Number {
+    None,
     Int32(i32),
     Int64(i64),
     Real(f64),
-    None,
 }
 
 // Kinds of numbers, and their values: 0 where there is none.

@@ -33,7 +33,7 @@ pub fn count(table: &[u8]) -> usize
     word::read_u16(table, 6) as usize
 }
 
-// The entry i. It is on the path of every step of a run, so it tests nothing: it asks that the entry lies in the table, which the layout says of each.
+// The entry i. It tests nothing: it asks that the entry lies in the table, which the layout says of each.
 pub fn entry_at(table: &[u8], i: usize) -> Entry
     requires { ⌜ 22 + 12 * i ≤ length (now table) ⌝ }
     ensures { λ r. ⌜ r ≡ entryAt (now (table .entry)) i ⌝ }
@@ -45,19 +45,26 @@ pub fn entry_at(table: &[u8], i: usize) -> Entry
     Entry { op: op, a: a, b: b }
 }
 
-// The op and the a of the entry i alone: where the check needs no b, it is not read.
-fn op_at(table: &[u8], i: usize) -> u16
+// The op, the a and the b of the entry i alone: where one of them is not needed, it is not read.
+pub fn op_at(table: &[u8], i: usize) -> u16
     requires { ⌜ 22 + 12 * i ≤ length (now table) ⌝ }
     ensures { λ r. ⌜ r ≡ entryAt (now (table .entry)) i .op ⌝ }
 {
     word::read_u16(table, 10 + 12 * i)
 }
 
-fn a_at(table: &[u8], i: usize) -> u16
+pub fn a_at(table: &[u8], i: usize) -> u16
     requires { ⌜ 22 + 12 * i ≤ length (now table) ⌝ }
     ensures { λ r. ⌜ r ≡ entryAt (now (table .entry)) i .a ⌝ }
 {
     word::read_u16(table, 12 + 12 * i)
+}
+
+pub fn b_at(table: &[u8], i: usize) -> u64
+    requires { ⌜ 22 + 12 * i ≤ length (now table) ⌝ }
+    ensures { λ r. ⌜ r ≡ entryAt (now (table .entry)) i .b ⌝ }
+{
+    word::read_u64(table, 14 + 12 * i)
 }
 
 // The pool, as a part of the table. It asks that the entries lie in the table, which the layout says.

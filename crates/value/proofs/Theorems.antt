@@ -7,6 +7,7 @@ use mathlib.Core.Option.{Option, some, none}
 use Prim.Native.Nat.{ℕ, suc, _+_, _-_, _*_, _%_, _^_, _<_}
 use native.Mathlib.Nat.{mod-eq-of-lt, mul-add-mod-self-right}
 use native.Mathlib.Omega.{arith}
+use lib.Dec.{eqb}
 use lib.IntN.{ℤ, pos, negsuc}
 use lib.ListN.{take, drop}
 use mir.Syntax.{w32, w64}
@@ -39,7 +40,7 @@ use Rattle.notice.specs.Field.{Field}
 use Rattle.notice.specs.Layout.{fieldsOf}
 use Rattle.notice.specs.Lookup.{lookupOf, fieldNamed, FoundIs}
 use Rattle.notice.proofs.Theorems.{lookup}
-use Rattle.value.specs.Value.{Value, missing, Item, logic, value, numberOf, valueOf, isText, textIn, equalValues, combineNumbers, compareOf, fitOf, allTexts, anyFits, anyFit, anyEqual, fitValues, truthIn, valueIn, strictOr, tallyOf, startOf, fieldValue, foundValue, namedValue, valueNamed, inPool, int32, int64, real, text}
+use Rattle.value.specs.Value.{Value, missing, opaque, Item, logic, value, numberOf, valueOf, typeOf, isText, textIn, equalValues, combineNumbers, combineOf, compareOf, fitOf, allTexts, anyFits, anyFit, anyEqual, fitValues, truthIn, valueIn, strictOr, tallyOf, startOf, fieldValue, foundValue, namedValue, valueNamed, inPool, int32, int64, real, text}
 use Rattle.value.specs.Theorems.{UnaryKind, BinaryKind, ManyKind, LoadKind, StrictUnary, StrictBinary, StrictMany, LaterNoText, EqualsTrue, FalseAnd, TrueOr, EqualOtherwise, Tally, ValueNamed, LoadInt32, LoadInt64, LoadReal64, LoadText, LoadName}
 
 pub unary-kind : UnaryKind
@@ -96,6 +97,37 @@ missing-compare Compare.Equal v = missing-equal v
 missing-compare Compare.NotEqual v = (rw (missing-equal v .0), rw (missing-equal v .1))
 missing-compare (Compare.Order o) v =
     (left-none (numberOf v) Arithmetic.Add Bitwise.And Shift.Left o .4, right-none (numberOf v) Arithmetic.Add Bitwise.And Shift.Left o .4)
+
+-- where either side is missing, nothing else need be known
+is-missing : (v : Value) → eqb (typeOf v) 0 ≡ true → v ≡ missing
+is-missing missing e = refl
+is-missing (int32 z) e = true-false (sym e)
+is-missing (int64 z) e = true-false (sym e)
+is-missing (real x) e = true-false (sym e)
+is-missing (text s) e = true-false (sym e)
+is-missing (opaque s) e = true-false (sym e)
+
+which-missing : (v w : Value) → (eqb (typeOf v) 0 || eqb (typeOf w) 0) ≡ true → (v ≡ missing) ⊎ (w ≡ missing)
+which-missing missing w e = inl refl
+which-missing (int32 z) w e = inr (is-missing w e)
+which-missing (int64 z) w e = inr (is-missing w e)
+which-missing (real x) w e = inr (is-missing w e)
+which-missing (text s) w e = inr (is-missing w e)
+which-missing (opaque s) w e = inr (is-missing w e)
+
+pub compare-missing : (o : Compare) (v w : Value) → (eqb (typeOf v) 0 || eqb (typeOf w) 0) ≡ true → Bottom ≡ compareOf o v w
+compare-missing o v w e = go (which-missing v w e)
+  where
+    go : (v ≡ missing) ⊎ (w ≡ missing) → Bottom ≡ compareOf o v w
+    go (inl m) = rw m (sym (missing-compare o w .0))
+    go (inr m) = rw m (sym (missing-compare o v .1))
+
+pub combine-missing : (o : Combine) (v w : Value) → (eqb (typeOf v) 0 || eqb (typeOf w) 0) ≡ true → missing ≡ combineOf o v w
+combine-missing o v w e = go (which-missing v w e)
+  where
+    go : (v ≡ missing) ⊎ (w ≡ missing) → missing ≡ combineOf o v w
+    go (inl m) = rw m (ap valueOf (sym (none-combine o (numberOf w) .0)))
+    go (inr m) = rw m (ap valueOf (sym (none-combine o (numberOf v) .1)))
 
 pub strict-binary : StrictBinary
 strict-binary (Binary.Combine o) x e =

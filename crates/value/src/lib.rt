@@ -3,6 +3,9 @@
 ghost use mathlib.Core.Path.{_≡_};
 ghost use mathlib.Core.List.{List};
 ghost use Prim.Native.Nat.{ℕ};
+ghost use Rattle.opcode.specs.declared.Load.{Load};
+ghost use Rattle.opcode.specs.declared.Unary.{Unary};
+ghost use Rattle.opcode.specs.declared.Binary.{Binary};
 ghost use Rattle.value.specs.Value.{truthIn, valueIn, connectOf, unaryOf, binaryOf, startOf, joinOf, besideOf, moreOf, loadOf};
 ghost use Rattle.value.specs.Held.{typedOf, itemOf, pooled};
 
@@ -10,11 +13,12 @@ mod fields;
 mod texts;
 mod values;
 
-use opcode::Binary;
+use opcode::Change;
+use opcode::Combine;
+use opcode::Compare;
 use opcode::Connective;
-use opcode::Load;
 use opcode::Many;
-use opcode::Unary;
+use opcode::Test;
 pub use texts::fetch;
 use truth::Truth;
 
@@ -70,8 +74,8 @@ fn value_in(h: Held) -> Typed
     }
 }
 
-// `&& ^^ ||`
-fn connect(op: Connective, s: Truth, t: Truth) -> Truth
+// `&& ^^ ||` of two truth values.
+fn joined(op: Connective, s: Truth, t: Truth) -> Truth
     ensures { λ r. ⌜ r ≡ connectOf op s t ⌝ }
 {
     match op {
@@ -81,32 +85,47 @@ fn connect(op: Connective, s: Truth, t: Truth) -> Truth
     }
 }
 
-// Ops 6..8, 40, 48..54.
-pub fn unary<'a>(pool: &'a [u8], notice: &'a [u8], op: Unary, h: Held) -> Held
-    ensures { λ r. ⌜ itemOf (now (pool .entry)) (now (notice .entry)) r ≡ unaryOf op (itemOf (now (pool .entry)) (now (notice .entry)) h) ⌝ }
+// The operators of one operand and of two, a function for each group (`Unary`, `Binary`): a run then stores each group's answer by itself.
+// Op 40.
+pub fn not(h: Held) -> Held
+    ensures { λ r. ⌜ ((p : List ℕ) → (q : List ℕ) → itemOf p q r ≡ unaryOf Unary.Not (itemOf p q h)) ⌝ }
 {
-    match op {
-        Unary::Not => Held::Logic(truth::not(truth_in(h))),
-        Unary::Change(o) => Held::Value(values::change(pool, notice, o, value_in(h))),
-        Unary::Test(o) => Held::Logic(values::test(o, value_in(h))),
-    }
+    Held::Logic(truth::not(truth_in(h)))
 }
 
-// Ops 16..26, 32..37, 41..43.
-pub fn binary<'a>(pool: &'a [u8], notice: &'a [u8], op: Binary, h: Held, g: Held) -> Held
-    ensures { λ r. ⌜ itemOf (now (pool .entry)) (now (notice .entry)) r ≡ binaryOf op (itemOf (now (pool .entry)) (now (notice .entry)) h) (itemOf (now (pool .entry)) (now (notice .entry)) g) ⌝ }
+// Ops 6..8.
+pub fn change<'a>(pool: &'a [u8], notice: &'a [u8], op: Change, h: Held) -> Held
+    ensures { λ r. ⌜ itemOf (now (pool .entry)) (now (notice .entry)) r ≡ unaryOf (Unary.Change op) (itemOf (now (pool .entry)) (now (notice .entry)) h) ⌝ }
 {
-    match op {
-        Binary::Combine(o) => Held::Value(values::combine(o, value_in(h), value_in(g))),
-        Binary::Compare(o) => Held::Logic(values::compare(
-            pool,
-            notice,
-            o,
-            value_in(h),
-            value_in(g),
-        )),
-        Binary::Connect(o) => Held::Logic(connect(o, truth_in(h), truth_in(g))),
-    }
+    Held::Value(values::change(pool, notice, op, value_in(h)))
+}
+
+// Ops 48..54.
+pub fn test(op: Test, h: Held) -> Held
+    ensures { λ r. ⌜ ((p : List ℕ) → (q : List ℕ) → itemOf p q r ≡ unaryOf (Unary.Test op) (itemOf p q h)) ⌝ }
+{
+    Held::Logic(values::test(op, value_in(h)))
+}
+
+// Ops 16..26.
+pub fn combine(op: Combine, h: Held, g: Held) -> Held
+    ensures { λ r. ⌜ ((p : List ℕ) → (q : List ℕ) → itemOf p q r ≡ binaryOf (Binary.Combine op) (itemOf p q h) (itemOf p q g)) ⌝ }
+{
+    Held::Value(values::combine(op, value_in(h), value_in(g)))
+}
+
+// Ops 32..37.
+pub fn compare<'a>(pool: &'a [u8], notice: &'a [u8], op: Compare, h: Held, g: Held) -> Held
+    ensures { λ r. ⌜ itemOf (now (pool .entry)) (now (notice .entry)) r ≡ binaryOf (Binary.Compare op) (itemOf (now (pool .entry)) (now (notice .entry)) h) (itemOf (now (pool .entry)) (now (notice .entry)) g) ⌝ }
+{
+    Held::Logic(values::compare(pool, notice, op, value_in(h), value_in(g)))
+}
+
+// Ops 41..43.
+pub fn connect(op: Connective, h: Held, g: Held) -> Held
+    ensures { λ r. ⌜ ((p : List ℕ) → (q : List ℕ) → itemOf p q r ≡ binaryOf (Binary.Connect op) (itemOf p q h) (itemOf p q g)) ⌝ }
+{
+    Held::Logic(joined(op, truth_in(h), truth_in(g)))
 }
 
 // Ops 56..59, one later operand after the other: what is known before any of them ..
@@ -156,17 +175,36 @@ fn join(op: Many, s: Truth, t: Truth) -> Truth
     }
 }
 
-// Ops 1..5.
-pub fn load<'a>(pool: &'a [u8], notice: &'a [u8], op: Load, a: u16, b: u64) -> Held
-    ensures { λ r. ⌜ itemOf (now (pool .entry)) (now (notice .entry)) r ≡ loadOf (now (pool .entry)) (now (notice .entry)) op a b ⌝ }
+// Ops 1..5, a function for each, for the same reason. "1 int32, 2 int64, 3 real64 (b: two's complement or bits, ..)"
+pub fn load_int32(b: u64) -> Held
+    ensures { λ r. ⌜ ((p : List ℕ) → (q : List ℕ) → (a : ℕ) → itemOf p q r ≡ loadOf p q Load.Int32 a b) ⌝ }
 {
-    match op {
-        Load::Int32 => Held::Value(Typed::Int32(word::i32_of_bits((b % 0x1_0000_0000) as u32))),
-        Load::Int64 => Held::Value(Typed::Int64(word::i64_of_bits(b))),
-        Load::Real64 => Held::Value(Typed::Real(number::real_of_bits(b))),
-        Load::Text => Held::Value(Typed::Text(in_pool(a, b))),
-        Load::Name => Held::Value(fields::named(pool, notice, in_pool(a, b))),
-    }
+    Held::Value(Typed::Int32(word::i32_of_bits((b % 0x1_0000_0000) as u32)))
+}
+
+pub fn load_int64(b: u64) -> Held
+    ensures { λ r. ⌜ ((p : List ℕ) → (q : List ℕ) → (a : ℕ) → itemOf p q r ≡ loadOf p q Load.Int64 a b) ⌝ }
+{
+    Held::Value(Typed::Int64(word::i64_of_bits(b)))
+}
+
+pub fn load_real64(b: u64) -> Held
+    ensures { λ r. ⌜ ((p : List ℕ) → (q : List ℕ) → (a : ℕ) → itemOf p q r ≡ loadOf p q Load.Real64 a b) ⌝ }
+{
+    Held::Value(Typed::Real(number::real_of_bits(b)))
+}
+
+// "4 string, 5 name (a length, b pool offset ..)"
+pub fn load_text(a: u16, b: u64) -> Held
+    ensures { λ r. ⌜ ((p : List ℕ) → (q : List ℕ) → itemOf p q r ≡ loadOf p q Load.Text a b) ⌝ }
+{
+    Held::Value(Typed::Text(in_pool(a, b)))
+}
+
+pub fn load_name<'a>(pool: &'a [u8], notice: &'a [u8], a: u16, b: u64) -> Held
+    ensures { λ r. ⌜ itemOf (now (pool .entry)) (now (notice .entry)) r ≡ loadOf (now (pool .entry)) (now (notice .entry)) Load.Name a b ⌝ }
+{
+    Held::Value(fields::named(pool, notice, in_pool(a, b)))
 }
 
 // "a length, b pool offset"

@@ -1,8 +1,9 @@
 // What the operators and functions give on values.
 ghost use mathlib.Core.Path.{_≡_};
-ghost use mathlib.Core.Bool.{cond};
+ghost use mathlib.Core.Bool.{cond, _||_};
 ghost use mathlib.Core.List.{List};
 ghost use Prim.Native.Nat.{ℕ};
+ghost use lib.Dec.{eqb};
 ghost use Rattle.truth.specs.declared.Truth.the-variants.{False, Bottom};
 ghost use Rattle.value.specs.Value.{numberOf, valueOf, typeOf, isText, textIn, foldCaseOf, sizeOf, changeOf, ifPresent, typeTest, nanOf, testOf, combineNumbers, combineOf, equalValues, compareOf, fitValues, strictOr};
 ghost use Rattle.value.specs.Held.{pooled, foldedPiece, textOf, typedOf};
@@ -191,10 +192,20 @@ fn combine_numbers(op: Combine, a: Number, b: Number) -> Number
     }
 }
 
+// "bottom in a value makes the enclosing value or comparison bottom": told first, since names are often missing and the operator then need not be looked at.
+fn any_missing(v: Typed, w: Typed) -> bool
+    ensures { λ r. ⌜ ((p : List ℕ) → (q : List ℕ) → r ≡ (eqb (typeOf (typedOf p q v)) 0 || eqb (typeOf (typedOf p q w)) 0)) ⌝ }
+{
+    (type_of(v) == 0) | (type_of(w) == 0)
+}
+
 // `<< >> >>> & ^ | * / % + -`
 pub fn combine(op: Combine, v: Typed, w: Typed) -> Typed
     ensures { λ r. ⌜ ((p : List ℕ) → (q : List ℕ) → typedOf p q r ≡ combineOf op (typedOf p q v) (typedOf p q w)) ⌝ }
 {
+    if any_missing(v, w) {
+        return Typed::Missing;
+    }
     value_of(combine_numbers(op, number_of(v), number_of(w)))
 }
 
@@ -222,6 +233,9 @@ pub fn equals<'a>(pool: &'a [u8], notice: &'a [u8], v: Typed, w: Typed) -> Truth
 pub fn compare<'a>(pool: &'a [u8], notice: &'a [u8], op: Compare, v: Typed, w: Typed) -> Truth
     ensures { λ r. ⌜ r ≡ compareOf op (typedOf (now (pool .entry)) (now (notice .entry)) v) (typedOf (now (pool .entry)) (now (notice .entry)) w) ⌝ }
 {
+    if any_missing(v, w) {
+        return Truth::Bottom;
+    }
     let mut negated = false;
     match op {
         Compare::Equal => {}

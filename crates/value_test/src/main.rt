@@ -2,7 +2,9 @@
 // All but the last give the operands in their order: ops 1..5, with 256 added where the value is folded, or 0 for the truth value of rank a.
 // The last is the op to run; 0 gives its one operand. An answer is a truth value, or a type and its bits or bytes in hex.
 use libc::STDOUT_FILENO;
+use opcode::Binary;
 use opcode::Change;
+use opcode::Load;
 use opcode::Many;
 use opcode::Op;
 use opcode::Unary;
@@ -92,7 +94,17 @@ fn folded<'a>(pool: &'a [u8], notice: &'a [u8], number: u16, h: Held) -> Held {
     if number < 256 {
         return h;
     }
-    value::unary(pool, notice, Unary::Change(Change::FoldCase), h)
+    value::change(pool, notice, Change::FoldCase, h)
+}
+
+fn load<'a>(pool: &'a [u8], notice: &'a [u8], op: Load, a: u16, b: u64) -> Held {
+    match op {
+        Load::Int32 => value::load_int32(b),
+        Load::Int64 => value::load_int64(b),
+        Load::Real64 => value::load_real64(b),
+        Load::Text => value::load_text(a, b),
+        Load::Name => value::load_name(pool, notice, a, b),
+    }
 }
 
 // The operand of entry i; bottom where there is none.
@@ -104,7 +116,7 @@ fn operand<'a>(pool: &'a [u8], notice: &'a [u8], entries: &'a [u8], i: usize) ->
     let a = word::read_u16(entries, i * 12 + 2);
     let b = word::read_u64(entries, i * 12 + 4);
     match opcode::op_of(number % 256) {
-        Op::Load(l) => folded(pool, notice, number, value::load(pool, notice, l, a, b)),
+        Op::Load(l) => folded(pool, notice, number, load(pool, notice, l, a, b)),
         _ => Held::Logic(truth_of(a)),
     }
 }
@@ -128,11 +140,27 @@ fn many<'a>(pool: &'a [u8], notice: &'a [u8], op: Many, entries: &'a [u8], count
     Held::Logic(known)
 }
 
+fn one<'a>(pool: &'a [u8], notice: &'a [u8], op: Unary, h: Held) -> Held {
+    match op {
+        Unary::Not => value::not(h),
+        Unary::Change(o) => value::change(pool, notice, o, h),
+        Unary::Test(o) => value::test(o, h),
+    }
+}
+
+fn two<'a>(pool: &'a [u8], notice: &'a [u8], op: Binary, h: Held, g: Held) -> Held {
+    match op {
+        Binary::Combine(o) => value::combine(o, h, g),
+        Binary::Compare(o) => value::compare(pool, notice, o, h, g),
+        Binary::Connect(o) => value::connect(o, h, g),
+    }
+}
+
 fn operate<'a>(pool: &'a [u8], notice: &'a [u8], op: Op, entries: &'a [u8], count: usize) -> Held {
     let first = operand(pool, notice, entries, 0);
     match op {
-        Op::Unary(o) => value::unary(pool, notice, o, first),
-        Op::Binary(o) => value::binary(pool, notice, o, first, operand(pool, notice, entries, 1)),
+        Op::Unary(o) => one(pool, notice, o, first),
+        Op::Binary(o) => two(pool, notice, o, first, operand(pool, notice, entries, 1)),
         Op::Many(o) => many(pool, notice, o, entries, count),
         _ => first,
     }

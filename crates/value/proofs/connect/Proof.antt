@@ -1,44 +1,20 @@
+use mathlib.Core.Path.{ap, ap₂, _∙_}
+use Rattle.value.specs.Value.{logic, connectOf}
 use borrow.Author.Needs.{needs}
 use Rattle.value.proofs.connect.Statement.{statement}
 use Rattle.value.proofs.connect.Tie as tie
 
-enum-told : tie.Need-enum-told
-enum-told c = search needs
+truth-in-requires : tie.Need-truth-in-requires
+truth-in-requires c κs = search needs
 
-and-requires : tie.Need-and-requires
-and-requires c κs = search needs
+truth-in-requires-2 : tie.Need-truth-in-requires-2
+truth-in-requires-2 c κs = search needs
 
-enum-told-2 : tie.Need-enum-told-2
-enum-told-2 c = search needs
-
-xor-requires : tie.Need-xor-requires
-xor-requires c κs = search needs
-
-enum-told-3 : tie.Need-enum-told-3
-enum-told-3 c = search needs
-
-or-requires : tie.Need-or-requires
-or-requires c κs = search needs
+joined-requires : tie.Need-joined-requires
+joined-requires c κs = search needs
 
 returns : tie.Need-returns
-returns c = rw (c .before .enum-told .given .1) (c .and .ensures)
-
-returns-2 : tie.Need-returns-2
-returns-2 c = rw (c .before .enum-told2 .given .1) (c .xor .ensures)
-
-returns-3 : tie.Need-returns-3
-returns-3 c = rw (c .before .enum-told3 .given .1) (c .or .ensures)
+returns c = λ p q. ap logic (c .joined .ensures ∙ ap₂ (connectOf (c .before .before .before .args .op)) (c .before .before .truth-in .ensures p q) (c .before .truth-in2 .ensures p q))
 
 pub connect-spec : {M : Type 1} → statement M
-connect-spec =
-    tie.close
-    (tie.spec
-    enum-told
-    and-requires
-    enum-told-2
-    xor-requires
-    enum-told-3
-    or-requires
-    returns
-    returns-2
-    returns-3)
+connect-spec = tie.close (tie.spec truth-in-requires truth-in-requires-2 joined-requires returns)

@@ -1,8 +1,18 @@
-use mathlib.Core.Path.{ap, ap₂, _∙_}
+use mathlib.Core.Path.{sym, ap, ap₂, _∙_}
 use Rattle.value.specs.Value.{valueOf, combineNumbers}
+use Rattle.value.specs.Held.{typedOf}
+use Rattle.value.proofs.Theorems.{combine-missing}
 use borrow.Author.Needs.{needs}
 use Rattle.value.proofs.values.combine.Statement.{statement}
 use Rattle.value.proofs.values.combine.Tie as tie
+
+any-missing-requires : tie.Need-any-missing-requires
+any-missing-requires c κs = search needs
+
+returns : tie.Need-returns
+returns c =
+    let a = c .before .before .args in
+    λ p q. combine-missing (a .op) (typedOf p q (a .v)) (typedOf p q (a .w)) (sym (c .before .any-missing .ensures p q) ∙ c .if1 .taken)
 
 number-of-requires : tie.Need-number-of-requires
 number-of-requires c κs = search needs
@@ -16,16 +26,18 @@ combine-numbers-requires c κs = search needs
 value-of-requires : tie.Need-value-of-requires
 value-of-requires c κs = search needs
 
-returns : tie.Need-returns
-returns c =
-    λ p q. c .value-of .ensures p q ∙ ap valueOf (c .before .combine-numbers .ensures ∙ ap₂ (combineNumbers (c .before .before .before .before .args .op)) (c .before .before .before .number-of .ensures p q) (c .before .before .number-of2 .ensures p q))
+returns-2 : tie.Need-returns-2
+returns-2 c =
+    λ p q. c .value-of .ensures p q ∙ ap valueOf (c .before .combine-numbers .ensures ∙ ap₂ (combineNumbers (c .before .before .before .before .before .before .args .op)) (c .before .before .before .number-of .ensures p q) (c .before .before .number-of2 .ensures p q))
 
 pub combine-spec : {M : Type 1} → statement M
 combine-spec =
     tie.close
     (tie.spec
+    any-missing-requires
+    returns
     number-of-requires
     number-of-requires-2
     combine-numbers-requires
     value-of-requires
-    returns)
+    returns-2)
