@@ -1,5 +1,5 @@
 -- The kinds of a stack as one number: what the number's size and lowest bit say. Assumes nothing.
-use mathlib.Core.Path.{_≡_, refl, sym, ap, _∙_}
+use mathlib.Core.Path.{_≡_, refl, ap}
 use mathlib.Core.Bool.{Bool, true, false, cond}
 use mathlib.Core.List.{List, [], _∷_}
 use mathlib.Core.Option.{Option, none, some}
@@ -7,9 +7,9 @@ use Prim.Native.Nat.{ℕ, zero, suc, _+_, _*_, _-_, _/_, _%_, _^_, _≤_, _<_}
 use native.Mathlib.Nat.{pow-zero, pow-suc, pow-le-pow-right, not-suc-le-zero}
 use native.Mathlib.Numerals.{sub-one}
 use native.Mathlib.Omega.{arith}
-use lib.Dec.{eqb, ltb, lit<}
+use lib.Dec.{ltb, lit<}
 use lib.ListN.{length, replicate}
-use borrow.Author.Tests.{ltb-true, ltb-false, eq-eqb, ne-eqb}
+use borrow.Author.Tests.{ltb-true, ltb-false}
 use Rattle.opcode.specs.Opcode.{Kind, logic, value}
 use Rattle.table.specs.Check.{sameKind, popOne, pop, push, sameKinds, sameShape}
 use Rattle.table.specs.Number.{bitOf, kindsNumber, numberOf}
@@ -101,14 +101,6 @@ shape-self (some ks) = kinds-self ks
 
 pub eq-shape : (s t : Option (List Kind)) → s ≡ t → sameShape s t ≡ true
 eq-shape s t e = rw e (shape-self t)
-
--- the same by numbers
-pub number-test : (s t : Option (List Kind)) → eqb (numberOf s) (numberOf t) ≡ sameShape s t
-number-test s t = go (sameShape s t) refl
-  where
-    go : (b : Bool) → sameShape s t ≡ b → eqb (numberOf s) (numberOf t) ≡ b
-    go true e = eq-eqb _ _ (ap numberOf (shape-eq s t e))
-    go false e = ne-eqb _ _ (λ n. no-way (sym e ∙ eq-shape s t (shapes-same s t n)))
 
 -- ---- one operand off
 

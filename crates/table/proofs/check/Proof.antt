@@ -6,6 +6,7 @@ use lib.ListN.{length-replicate}
 use borrow.Author.Tests.{not-true, not-false}
 use Rattle.table.proofs.Laid.{laid}
 use Rattle.table.proofs.Answer.{bad-layout}
+use Rattle.table.proofs.Passing.{nothing}
 use borrow.Author.Needs.{needs}
 use Rattle.table.proofs.check.Statement.{statement}
 use Rattle.table.proofs.check.Tie as tie
@@ -26,7 +27,7 @@ slice-aggregate-kinds-right c = search needs
 
 kinds-right-requires : tie.Need-kinds-right-requires
 kinds-right-requires c κs =
-    (sym (c .before .before .before .before .layout-right .ensures) ∙ not-false _ (c .before .before .before .if1 .left), c .before .before .count .ensures .0, rw (length-replicate {A = ℕ} 64 0) (c .before .if2 .taken))
+    (sym (c .before .before .before .before .layout-right .ensures) ∙ not-false _ (c .before .before .before .if1 .left), c .before .before .count .ensures .0, rw (length-replicate {A = ℕ} 64 0) (c .before .if2 .taken), nothing 64)
 
 returns-2 : tie.Need-returns-2
 returns-2 c = search needs
@@ -38,7 +39,7 @@ kinds-right-requires-2 : tie.Need-kinds-right-requires-2
 kinds-right-requires-2 c κs =
     let l = laid (c .before .before .before .before .before .before .args .table .now) (sym (c .before .before .before .before .layout-right .ensures) ∙ not-false _ (c .before .before .before .if1 .left)) in
     let few : c .before .before .count .result < 513 = omega (arith, l .few, c .before .before .count .ensures .0) in
-    (sym (c .before .before .before .before .layout-right .ensures) ∙ not-false _ (c .before .before .before .if1 .left), c .before .before .count .ensures .0, rw (length-replicate {A = ℕ} 513 0) few)
+    (sym (c .before .before .before .before .layout-right .ensures) ∙ not-false _ (c .before .before .before .if1 .left), c .before .before .count .ensures .0, rw (length-replicate {A = ℕ} 513 0) few, nothing 513)
 
 returns-3 : tie.Need-returns-3
 returns-3 c = search needs
