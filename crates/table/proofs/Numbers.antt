@@ -6,6 +6,7 @@ use mathlib.Core.Option.{Option, none, some}
 use Prim.Native.Nat.{ℕ, zero, suc, _+_, _*_, _-_, _/_, _%_, _^_, _≤_, _<_}
 use native.Mathlib.Nat.{pow-zero, pow-suc, pow-le-pow-right, not-suc-le-zero}
 use native.Mathlib.Numerals.{sub-one}
+use native.Mathlib.Decide.{ℕ-discrete}
 use native.Mathlib.Omega.{arith}
 use lib.Dec.{ltb, lit<}
 use lib.ListN.{length, replicate}
@@ -127,6 +128,39 @@ pop-right t (some (k ∷ ks)) h e =
     let p = bit-two k in
     let a : t ≡ k = bits-same t k (omega arith) in
     rw (a, kind-self k) (omega arith)
+
+-- ---- two operands of one kind off
+
+-- what comes off has half the number, or there is none
+pop-half : (t : Kind) (s : Option (List Kind)) → numberOf (popOne t s) ≤ numberOf s / 2
+pop-half t none = omega arith
+pop-half t (some []) = omega arith
+pop-half t (some (k ∷ ks)) = go (sameKind t k)
+  where
+    go : (b : Bool) → numberOf (cond b (some ks) none) ≤ (2 * kindsNumber ks + bitOf k) / 2
+    go true = omega arith
+    go false = omega arith
+
+pub pop-two-low : (t : Kind) (s : Option (List Kind)) → numberOf s < 4 → 0 ≡ numberOf (popOne t (popOne t s))
+pop-two-low t s h = let p = pop-half t s in pop-low t (popOne t s) (omega arith)
+
+pub pop-two-other : (t : Kind) (s : Option (List Kind)) → 4 ≤ numberOf s → (numberOf s % 4 ≡ 3 * bitOf t → ⊥) → 0 ≡ numberOf (popOne t (popOne t s))
+pop-two-other t s l h = go (ℕ-discrete (numberOf s % 2) (bitOf t))
+  where
+    go : Dec (numberOf s % 2 ≡ bitOf t) → 0 ≡ numberOf (popOne t (popOne t s))
+    go (yes e) = let p = pop-right t s (omega arith) e in pop-other t (popOne t s) (λ f. h (omega arith))
+    go (no e) = let p = pop-other t s e in pop-low t (popOne t s) (omega arith)
+
+both-bits : (t : Kind) (c : ℕ) → c % 4 ≡ 3 * bitOf t → (c % 2 ≡ bitOf t) × (c / 2 % 2 ≡ bitOf t)
+both-bits logic c e = (omega arith, omega arith)
+both-bits value c e = (omega arith, omega arith)
+
+pub pop-two-right : (t : Kind) (s : Option (List Kind)) → 4 ≤ numberOf s → numberOf s % 4 ≡ 3 * bitOf t → numberOf s / 4 ≡ numberOf (popOne t (popOne t s))
+pop-two-right t s l e =
+    let b = both-bits t (numberOf s) e in
+    let p = pop-right t s (omega arith) (b .0) in
+    let q = pop-right t (popOne t s) (omega arith) (rw p at (b .1)) in
+    omega arith
 
 -- ---- a result on
 

@@ -180,6 +180,20 @@ fn pop_one(c: u64, bit: u64) -> u64
     c / 2
 }
 
+// Two operands of one kind off, their two bits judged at once. The bit is a kind's.
+fn pop_two(c: u64, bit: u64) -> u64
+    requires { ⌜ bit < 2 ⌝ }
+    ensures { λ r. ⌜ ((t : Kind) (s : Option (List Kind)) → bit ≡ bitOf t → c ≡ numberOf s → r ≡ numberOf (popOne t (popOne t s))) ⌝ }
+{
+    if c < 4 {
+        return 0;
+    }
+    if c % 4 != 3 * bit {
+        return 0;
+    }
+    c / 4
+}
+
 // A result on, where fewer than 32 slots are taken. The bit is a kind's.
 fn push_one(c: u64, bit: u64) -> u64
     requires { ⌜ bit < 2 ⌝ }
@@ -204,10 +218,10 @@ fn one_flow(c: u64, takes: u64, gives: u64) -> u64
 
 // A result in the place of two operands.
 fn two_flow(c: u64, takes: u64, gives: u64) -> u64
-    requires { ⌜ gives < 2 ⌝ }
+    requires { ⌜ (takes < 2) × (gives < 2) ⌝ }
     ensures { λ r. ⌜ ((t g : Kind) (s : Option (List Kind)) → takes ≡ bitOf t → gives ≡ bitOf g → c ≡ numberOf s → r ≡ numberOf (push g (popOne t (popOne t s)))) ⌝ }
 {
-    push_one(pop_one(pop_one(c, takes), takes), gives)
+    push_one(pop_two(c, takes), gives)
 }
 
 // "a: literals or values .. taken from the stack with the first"
@@ -316,7 +330,8 @@ fn kinds_right(table: &[u8], n: usize, wanted: &mut [u64]) -> bool
     (c == 2) & meets(w, c)
 }
 
-// Whether the table passes; refusal 12 if not. A small table has a small array, since every element of an array is set before it is used. With a third array the compiler leaves this as a call, and its operands go through memory.
+// Whether the table passes; refusal 12 if not. A small table has a small array, since every element of an array is set before it is used.
+// The table is lent on as a part of itself: as it came, its pointer and length would be copied through memory in one piece, which waits for their stores.
 pub fn check(table: &[u8]) -> bool
     ensures { λ r. ⌜ r ≡ checkOf (now (table .entry)) ⌝ }
 {
@@ -324,10 +339,15 @@ pub fn check(table: &[u8]) -> bool
         return false;
     }
     let n = count(table);
+    let whole = &table[0..];
+    if n < 16 {
+        let mut fewest = [0u64; 16];
+        return kinds_right(whole, n, &mut fewest);
+    }
     if n < 64 {
         let mut few = [0u64; 64];
-        return kinds_right(table, n, &mut few);
+        return kinds_right(whole, n, &mut few);
     }
     let mut wanted = [0u64; 513];
-    kinds_right(table, n, &mut wanted)
+    kinds_right(whole, n, &mut wanted)
 }
