@@ -143,7 +143,7 @@ fn passes_some(e: Entry) -> bool
     (1 <= e.a) & (e.b == 0)
 }
 
-// The entry i, whose operator is of the group `g`, by itself. Each arm reads the entry: were it read once for all arms, b would be put together from single bytes.
+// The entry i, whose operator is of the group `g`, by itself. Each arm reads the entry, so that b is read where it is judged: read once for all arms, the pass is slower.
 fn entry_right<'a>(table: &'a [u8], pool: &'a [u8], g: Group, i: usize) -> bool
     requires { ⌜ 22 + 12 * i ≤ length (now table) ⌝ }
     ensures { λ r. ⌜ r ≡ rightBy (now (pool .entry)) g (entryAt (now (table .entry)) i) ⌝ }
