@@ -27,21 +27,21 @@ use Rattle.table.proofs.Passes.{all-right, all-land}
 use Rattle.table.proofs.Theorems.{checked-entry, checked-skip, checked-ends}
 use Rattle.table.proofs.Answer.{refuted, all-parts}
 
--- ---- what the code finds by the group of an entry's operator, in terms of the entry
+-- ---- what the code finds by the group of an entry's operator, in terms of the entry: y is what the code has read as the entry x
 
-pub right-by : (names : List ℕ) (g : Group) (x : Entry) (o : ℕ) (r : Bool) → o ≡ x .op → g ≡ groupOf (opOf o) → r ≡ rightBy names g x → r ≡ entryRight names x
-right-by names g x o r q e f = f ∙ ap (λ (h : Group). rightBy names h x) (e ∙ ap (λ (n : ℕ). groupOf (opOf n)) q) ∙ right-grouped names (opOf (x .op)) x
+pub right-by : (names : List ℕ) (g : Group) (y x : Entry) (r : Bool) → y ≡ x → g ≡ groupOf (opOf (y .op)) → r ≡ rightBy names g y → r ≡ entryRight names x
+right-by names g y x r q e f = f ∙ ap (λ (h : Group). rightBy names h y) e ∙ right-grouped names (opOf (y .op)) y ∙ ap (entryRight names) q
 
-pub flow-by : (g : Group) (x : Entry) (o a b c : ℕ) → o ≡ x .op → a ≡ x .a → g ≡ groupOf (opOf o)
-    → ((t : Option (List Kind)) → b ≡ numberOf t → c ≡ numberOf (push (givesBy g) (pop (takesBy g a) t)))
-    → (t : Option (List Kind)) → b ≡ numberOf t → c ≡ numberOf (after x t)
-flow-by g x o a b c p q e f t h = f t h ∙ rw (e, p, q, takes-grouped (opOf (x .op)) (x .a), gives-grouped (opOf (x .op)))
-
-pub landed-by : (g : Group) (x : Entry) (o a m n i c : ℕ) (w v : List ℕ) (r : Bool) → o ≡ x .op → a ≡ x .a → m ≡ n → g ≡ groupOf (opOf o)
-    → Landed (skipBy g) m (i + a + 1) c w v r → Landed (isSkip x) n (i + x .a + 1) c w v r
-landed-by g x o a m n i c w v r p q z e f =
-    let t : skipBy g ≡ isSkip x = ap skipBy (e ∙ ap (λ (k : ℕ). groupOf (opOf k)) p) ∙ skip-grouped (opOf (x .op)) in
+pub landed-by : (g : Group) (y x : Entry) (m n i c : ℕ) (w v : List ℕ) (r : Bool) → y ≡ x → m ≡ n → g ≡ groupOf (opOf (y .op))
+    → Landed (skipBy g) m (i + y .a + 1) c w v r → Landed (isSkip x) n (i + x .a + 1) c w v r
+landed-by g y x m n i c w v r q z e f =
+    let t : skipBy g ≡ isSkip y = ap skipBy e ∙ skip-grouped (opOf (y .op)) in
     rw (t, q, z) at f
+
+pub flow-by : (g : Group) (y x : Entry) (b c : ℕ) → y ≡ x → g ≡ groupOf (opOf (y .op))
+    → ((t : Option (List Kind)) → b ≡ numberOf t → c ≡ numberOf (push (givesBy g) (pop (takesBy g (y .a)) t)))
+    → (t : Option (List Kind)) → b ≡ numberOf t → c ≡ numberOf (after x t)
+flow-by g y x b c q e f t h = f t h ∙ rw (e, q, takes-grouped (opOf (x .op)) (x .a), gives-grouped (opOf (x .op)))
 
 -- ---- what is wanted
 

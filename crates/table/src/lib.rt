@@ -45,21 +45,6 @@ pub fn entry_at(table: &[u8], i: usize) -> Entry
     Entry { op: op, a: a, b: b }
 }
 
-// The op and the a of the entry i alone: where the check needs no b, it is not read.
-fn op_at(table: &[u8], i: usize) -> u16
-    requires { ⌜ 22 + 12 * i ≤ length (now table) ⌝ }
-    ensures { λ r. ⌜ r ≡ entryAt (now (table .entry)) i .op ⌝ }
-{
-    word::read_u16(table, 10 + 12 * i)
-}
-
-fn a_at(table: &[u8], i: usize) -> u16
-    requires { ⌜ 22 + 12 * i ≤ length (now table) ⌝ }
-    ensures { λ r. ⌜ r ≡ entryAt (now (table .entry)) i .a ⌝ }
-{
-    word::read_u16(table, 12 + 12 * i)
-}
-
 // The pool, as a part of the table. It asks that the entries lie in the table, which the layout says.
 pub fn pool(table: &[u8]) -> &[u8]
     requires { ⌜ (10 ≤ length (now table)) × (10 + 12 * countOf (now table) ≤ length (now table)) ⌝ }
@@ -143,24 +128,23 @@ fn passes_some(e: Entry) -> bool
     (1 <= e.a) & (e.b == 0)
 }
 
-// The entry i, whose operator is of the group `g`, by itself. Each arm reads the entry, so that b is read where it is judged: read once for all arms, the pass is slower.
-fn entry_right<'a>(table: &'a [u8], pool: &'a [u8], g: Group, i: usize) -> bool
-    requires { ⌜ 22 + 12 * i ≤ length (now table) ⌝ }
-    ensures { λ r. ⌜ r ≡ rightBy (now (pool .entry)) g (entryAt (now (table .entry)) i) ⌝ }
+// The entry by itself, whose operator is of the group `g`.
+fn entry_right(pool: &[u8], g: Group, e: Entry) -> bool
+    ensures { λ r. ⌜ r ≡ rightBy (now (pool .entry)) g e ⌝ }
 {
     match g {
-        Group::Int32 => int32_right(entry_at(table, i)),
-        Group::Wide => entry_at(table, i).a == 0,
-        Group::Text => part_right(pool, entry_at(table, i)),
-        Group::Name => name_right(pool, entry_at(table, i)),
-        Group::Change => unused(entry_at(table, i)),
-        Group::Not => unused(entry_at(table, i)),
-        Group::Test => unused(entry_at(table, i)),
-        Group::Combine => unused(entry_at(table, i)),
-        Group::Compare => unused(entry_at(table, i)),
-        Group::Connect => unused(entry_at(table, i)),
-        Group::Many => many_right(entry_at(table, i)),
-        Group::Skip => passes_some(entry_at(table, i)),
+        Group::Int32 => int32_right(e),
+        Group::Wide => e.a == 0,
+        Group::Text => part_right(pool, e),
+        Group::Name => name_right(pool, e),
+        Group::Change => unused(e),
+        Group::Not => unused(e),
+        Group::Test => unused(e),
+        Group::Combine => unused(e),
+        Group::Compare => unused(e),
+        Group::Connect => unused(e),
+        Group::Many => many_right(e),
+        Group::Skip => passes_some(e),
         Group::Unknown => false,
     }
 }
@@ -310,16 +294,15 @@ fn kinds_right(table: &[u8], n: usize, wanted: &mut [u64]) -> bool
         if !meets(w, c) {
             return false;
         }
-        let op = op_at(table, i);
-        let a = a_at(table, i);
-        let g = groups::group_of(op);
-        if !entry_right(table, strings, g, i) {
+        let e = entry_at(table, i);
+        let g = groups::group_of(e.op);
+        if !entry_right(strings, g, e) {
             return false;
         }
-        if !lands_right(wanted, g, n, i, a, c) {
+        if !lands_right(wanted, g, n, i, e.a, c) {
             return false;
         }
-        c = flow(g, a, c);
+        c = flow(g, e.a, c);
         if c == 0 {
             return false;
         }

@@ -4,21 +4,20 @@ use Prim.Native.Nat.{_-_, _<_}
 use lib.ListN.{length}
 use native.Mathlib.Omega.{arith}
 use borrow.Author.Tests.{not-true, not-false}
-use Rattle.table.specs.Table.{countOf, entryAt}
+use Rattle.table.specs.Table.{countOf}
 use Rattle.table.proofs.Laid.{laid, inside}
-use Rattle.table.proofs.Passing.{Passed, pass-start, pass-unmet, pass-wrong, pass-lost, pass-stuck, pass-more, pass-end, right-by, flow-by, landed-by}
+use Rattle.table.proofs.Passing.{right-by, landed-by, flow-by, Passed, pass-start, pass-unmet, pass-wrong, pass-lost, pass-stuck, pass-more, pass-end}
 use borrow.Author.Needs.{needs}
 use Rattle.table.proofs.kinds_right.Statement.{statement}
 use Rattle.table.proofs.kinds_right.Tie as tie
 use Rattle.table.proofs.kinds_right.Reads as reads
 use Rattle.table.proofs.kinds_right.Lts as lts
-use Rattle.table.proofs.a_at.Reads as a-at-reads
+use Rattle.table.proofs.entry_at.Reads as entry-at-reads
 use Rattle.table.proofs.entry_right.Reads as entry-right-reads
 use Rattle.table.proofs.flow.Reads as flow-reads
 use Rattle.table.proofs.groups.group_of.Reads as group-of-reads
 use Rattle.table.proofs.lands_right.Reads as lands-right-reads
 use Rattle.table.proofs.meets.Reads as meets-reads
-use Rattle.table.proofs.op_at.Reads as op-at-reads
 use Rattle.table.proofs.pool.Reads as pool-reads
 
 abbrev Inv-loop : tie.InvT-loop
@@ -48,40 +47,37 @@ same-length c = search needs
 returns : tie.Need-returns Inv-loop μ-loop
 returns c = pass-unmet (c .before .before .before .before .before .before .before .before .args .table .now) (c .before .before .before .before .loop .wanted) (c .before .before .before .before .loop .i) (c .before .before .before .before .loop .c) (c .before .before .before .before .loop .inv .0) (sym (c .before .meets .ensures) ∙ not-true _ (c .if1 .taken))
 
-op-at-requires : tie.Need-op-at-requires Inv-loop μ-loop
-op-at-requires c κs = inside (c .before .before .before .before .before .before .before .before .args .table .now) (c .before .before .before .before .before .before .before .before .pre .0) (c .before .before .before .before .loop .i) (omega (arith, c .before .before .before .before .before .before .before .before .pre .1))
-
-a-at-requires : tie.Need-a-at-requires Inv-loop μ-loop
-a-at-requires c κs = inside (c .before .before .before .before .before .before .before .before .before .args .table .now) (c .before .before .before .before .before .before .before .before .before .pre .0) (c .before .before .before .before .before .loop .i) (omega (arith, c .before .before .before .before .before .before .before .before .before .pre .1))
+entry-at-requires : tie.Need-entry-at-requires Inv-loop μ-loop
+entry-at-requires c κs = inside (c .before .before .before .before .before .before .before .before .args .table .now) (c .before .before .before .before .before .before .before .before .pre .0) (c .before .before .before .before .loop .i) (omega (arith, c .before .before .before .before .before .before .before .before .pre .1))
 
 group-of-requires : tie.Need-group-of-requires Inv-loop μ-loop
 group-of-requires c κs = search needs
 
 entry-right-requires : tie.Need-entry-right-requires Inv-loop μ-loop
-entry-right-requires c κs = inside (c .before .before .before .before .before .before .before .before .before .before .before .args .table .now) (c .before .before .before .before .before .before .before .before .before .before .before .pre .0) (c .before .before .before .before .before .before .before .loop .i) (omega (arith, c .before .before .before .before .before .before .before .before .before .before .before .pre .1))
+entry-right-requires c κs = search needs
 
 same-length-2 : tie.Need-same-length-2 Inv-loop μ-loop
 same-length-2 c = search needs
 
 returns-2 : tie.Need-returns-2 Inv-loop μ-loop
 returns-2 c =
-    let t = c .before .before .before .before .before .before .before .before .before .before .before .before .before .args .table .now in
-    let l = c .before .before .before .before .before .before .before .before .before .loop in
-    let h : l .i < countOf t = omega (arith, c .before .before .before .before .before .before .before .before .before .before .before .before .before .pre .1) in
-    pass-wrong t (l .wanted) (l .i) (l .c) (l .inv .0) h _ _ (c .before .before .before .before .before .before .before .before .before .before .pool .ensures) (right-by _ _ (entryAt t (l .i)) _ _ (c .before .before .before .before .op-at .ensures) (c .before .before .group-of .ensures) (c .before .entry-right .ensures)) (not-true _ (c .if2 .taken))
+    let t = c .before .before .before .before .before .before .before .before .before .before .before .before .args .table .now in
+    let l = c .before .before .before .before .before .before .before .before .loop in
+    let h : l .i < countOf t = omega (arith, c .before .before .before .before .before .before .before .before .before .before .before .before .pre .1) in
+    pass-wrong t (l .wanted) (l .i) (l .c) (l .inv .0) h _ _ (c .before .before .before .before .before .before .before .before .before .pool .ensures) (right-by _ _ _ _ _ (c .before .before .before .entry-at .ensures) (c .before .before .group-of .ensures) (c .before .entry-right .ensures)) (not-true _ (c .if2 .taken))
 
 lands-right-requires : tie.Need-lands-right-requires Inv-loop μ-loop
-lands-right-requires c κs = (omega arith, let l = laid (c .before .before .before .before .before .before .before .before .before .before .before .before .before .before .args .table .now) (c .before .before .before .before .before .before .before .before .before .before .before .before .before .before .pre .0) in omega (arith, c .before .before .before .before .before .before .before .before .before .before .before .before .before .before .pre .1), rw (c .before .before .before .before .before .before .before .before .before .before .loop .inv .1) (c .before .before .before .before .before .before .before .before .before .before .before .before .before .before .pre .2))
+lands-right-requires c κs = (omega arith, let l = laid (c .before .before .before .before .before .before .before .before .before .before .before .before .before .args .table .now) (c .before .before .before .before .before .before .before .before .before .before .before .before .before .pre .0) in omega (arith, c .before .before .before .before .before .before .before .before .before .before .before .before .before .pre .1), rw (c .before .before .before .before .before .before .before .before .before .loop .inv .1) (c .before .before .before .before .before .before .before .before .before .before .before .before .before .pre .2))
 
 same-length-3 : tie.Need-same-length-3 Inv-loop μ-loop
 same-length-3 c = search needs
 
 returns-3 : tie.Need-returns-3 Inv-loop μ-loop
 returns-3 c =
-    let t = c .before .before .before .before .before .before .before .before .before .before .before .before .before .before .before .before .before .before .args .table .now in
-    let l = c .before .before .before .before .before .before .before .before .before .before .before .before .before .before .loop in
-    let h : l .i < countOf t = omega (arith, c .before .before .before .before .before .before .before .before .before .before .before .before .before .before .before .before .before .before .pre .1) in
-    pass-lost t (l .wanted) (l .i) (l .c) (l .inv .0) h _ _ (landed-by _ (entryAt t (l .i)) _ _ _ _ (l .i) (l .c) _ _ _ (c .before .before .before .before .before .before .before .before .before .op-at .ensures) (c .before .before .before .before .before .before .before .before .a-at .ensures) (c .before .before .before .before .before .before .before .before .before .before .before .before .before .before .before .before .before .before .pre .1) (c .before .before .before .before .before .before .before .group-of .ensures) (c .before .before .before .lands-right .ensures)) (not-true _ (c .if3 .taken))
+    let t = c .before .before .before .before .before .before .before .before .before .before .before .before .before .before .before .before .before .args .table .now in
+    let l = c .before .before .before .before .before .before .before .before .before .before .before .before .before .loop in
+    let h : l .i < countOf t = omega (arith, c .before .before .before .before .before .before .before .before .before .before .before .before .before .before .before .before .before .pre .1) in
+    pass-lost t (l .wanted) (l .i) (l .c) (l .inv .0) h _ _ (landed-by _ _ _ _ _ (l .i) (l .c) _ _ _ (c .before .before .before .before .before .before .before .before .entry-at .ensures) (c .before .before .before .before .before .before .before .before .before .before .before .before .before .before .before .before .before .pre .1) (c .before .before .before .before .before .before .before .group-of .ensures) (c .before .before .before .lands-right .ensures)) (not-true _ (c .if3 .taken))
 
 flow-requires : tie.Need-flow-requires Inv-loop μ-loop
 flow-requires c κs = search needs
@@ -91,11 +87,11 @@ same-length-4 c = search needs
 
 returns-4 : tie.Need-returns-4 Inv-loop μ-loop
 returns-4 c =
-    let t = c .before .before .before .before .before .before .before .before .before .before .before .before .before .before .before .before .before .before .before .before .args .table .now in
-    let l = c .before .before .before .before .before .before .before .before .before .before .before .before .before .before .before .before .loop in
-    let h : l .i < countOf t = omega (arith, c .before .before .before .before .before .before .before .before .before .before .before .before .before .before .before .before .before .before .before .before .pre .1) in
+    let t = c .before .before .before .before .before .before .before .before .before .before .before .before .before .before .before .before .before .before .before .args .table .now in
+    let l = c .before .before .before .before .before .before .before .before .before .before .before .before .before .before .before .loop in
+    let h : l .i < countOf t = omega (arith, c .before .before .before .before .before .before .before .before .before .before .before .before .before .before .before .before .before .before .before .pre .1) in
     let f = c .before .flow in
-    pass-stuck t (l .wanted) (l .i) (l .c) (l .inv .0) h (f .result) (flow-by _ (entryAt t (l .i)) _ _ _ _ (c .before .before .before .before .before .before .before .before .before .before .before .op-at .ensures) (c .before .before .before .before .before .before .before .before .before .before .a-at .ensures) (c .before .before .before .before .before .before .before .before .before .group-of .ensures) (f .ensures)) (c .if4 .taken)
+    pass-stuck t (l .wanted) (l .i) (l .c) (l .inv .0) h (f .result) (flow-by _ _ _ _ _ (c .before .before .before .before .before .before .before .before .before .before .entry-at .ensures) (c .before .before .before .before .before .before .before .before .before .group-of .ensures) (f .ensures)) (c .if4 .taken)
 
 add-i : tie.Need-add-i Inv-loop μ-loop
 add-i c = search needs
@@ -105,11 +101,11 @@ loop-less c = search needs
 
 loop-again : tie.Need-loop-again Inv-loop μ-loop
 loop-again c =
-    let t = c .before .before .before .before .before .before .before .before .before .before .before .before .before .before .before .before .before .before .before .before .args .table .now in
-    let l = c .before .before .before .before .before .before .before .before .before .before .before .before .before .before .before .before .loop in
-    let h : l .i < countOf t = omega (arith, c .before .before .before .before .before .before .before .before .before .before .before .before .before .before .before .before .before .before .before .before .pre .1) in
+    let t = c .before .before .before .before .before .before .before .before .before .before .before .before .before .before .before .before .before .before .before .args .table .now in
+    let l = c .before .before .before .before .before .before .before .before .before .before .before .before .before .before .before .loop in
+    let h : l .i < countOf t = omega (arith, c .before .before .before .before .before .before .before .before .before .before .before .before .before .before .before .before .before .before .before .pre .1) in
     let f = c .before .flow in
-    (pass-more t (l .wanted) (l .i) (l .c) (l .inv .0) h (f .result) (flow-by _ (entryAt t (l .i)) _ _ _ _ (c .before .before .before .before .before .before .before .before .before .before .before .op-at .ensures) (c .before .before .before .before .before .before .before .before .before .before .a-at .ensures) (c .before .before .before .before .before .before .before .before .before .group-of .ensures) (f .ensures)) (sym (c .before .before .before .before .before .before .before .before .before .before .before .before .before .meets .ensures) ∙ not-false _ (c .before .before .before .before .before .before .before .before .before .before .before .before .if1 .left)) _ _ (c .before .before .before .before .before .before .before .before .before .before .before .before .before .before .before .before .before .pool .ensures) (right-by _ _ (entryAt t (l .i)) _ _ (c .before .before .before .before .before .before .before .before .before .before .before .op-at .ensures) (c .before .before .before .before .before .before .before .before .before .group-of .ensures) (c .before .before .before .before .before .before .before .before .entry-right .ensures)) (not-false _ (c .before .before .before .before .before .before .before .if2 .left)) (c .if4 .left) _ _ (landed-by _ (entryAt t (l .i)) _ _ _ _ (l .i) (l .c) _ _ _ (c .before .before .before .before .before .before .before .before .before .before .before .op-at .ensures) (c .before .before .before .before .before .before .before .before .before .before .a-at .ensures) (c .before .before .before .before .before .before .before .before .before .before .before .before .before .before .before .before .before .before .before .before .pre .1) (c .before .before .before .before .before .before .before .before .before .group-of .ensures) (c .before .before .before .before .before .lands-right .ensures)) (not-false _ (c .before .before .if3 .left)), search needs)
+    (pass-more t (l .wanted) (l .i) (l .c) (l .inv .0) h (f .result) (flow-by _ _ _ _ _ (c .before .before .before .before .before .before .before .before .before .before .entry-at .ensures) (c .before .before .before .before .before .before .before .before .before .group-of .ensures) (f .ensures)) (sym (c .before .before .before .before .before .before .before .before .before .before .before .before .meets .ensures) ∙ not-false _ (c .before .before .before .before .before .before .before .before .before .before .before .if1 .left)) _ _ (c .before .before .before .before .before .before .before .before .before .before .before .before .before .before .before .before .pool .ensures) (right-by _ _ _ _ _ (c .before .before .before .before .before .before .before .before .before .before .entry-at .ensures) (c .before .before .before .before .before .before .before .before .before .group-of .ensures) (c .before .before .before .before .before .before .before .before .entry-right .ensures)) (not-false _ (c .before .before .before .before .before .before .before .if2 .left)) (c .if4 .left) _ _ (landed-by _ _ _ _ _ (l .i) (l .c) _ _ _ (c .before .before .before .before .before .before .before .before .before .before .entry-at .ensures) (c .before .before .before .before .before .before .before .before .before .before .before .before .before .before .before .before .before .before .before .pre .1) (c .before .before .before .before .before .before .before .before .before .group-of .ensures) (c .before .before .before .before .before .lands-right .ensures)) (not-false _ (c .before .before .if3 .left)), search needs)
 
 mul-w-2 : tie.Need-mul-w-2 Inv-loop μ-loop
 mul-w-2 c = search needs
@@ -144,8 +140,7 @@ kinds-right-spec =
     meets-requires
     same-length
     returns
-    op-at-requires
-    a-at-requires
+    entry-at-requires
     group-of-requires
     entry-right-requires
     same-length-2
