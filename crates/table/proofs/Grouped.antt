@@ -8,8 +8,8 @@ use Rattle.opcode.specs.declared.Unary.{Unary}
 use Rattle.opcode.specs.declared.Binary.{Binary}
 use Rattle.opcode.specs.declared.Op.{Op}
 use Rattle.table.specs.Table.{Entry}
-use Rattle.table.specs.Check.{opRight}
-use Rattle.table.specs.Groups.{groupOf, rightBy, takesBy, givesBy}
+use Rattle.table.specs.Check.{opRight, skipOp}
+use Rattle.table.specs.Groups.{groupOf, rightBy, takesBy, givesBy, skipBy}
 
 pub right-grouped : (pool : List ℕ) (op : Op) (e : Entry) → rightBy pool (groupOf op) e ≡ opRight pool op e
 right-grouped pool (Op.Load Load.Int32) e = refl
@@ -58,3 +58,19 @@ gives-grouped (Op.Binary (Binary.Connect c)) = refl
 gives-grouped (Op.Many m) = refl
 gives-grouped (Op.Skip s) = refl
 gives-grouped Op.Unknown = refl
+
+pub skip-grouped : (op : Op) → skipBy (groupOf op) ≡ skipOp op
+skip-grouped (Op.Load Load.Int32) = refl
+skip-grouped (Op.Load Load.Int64) = refl
+skip-grouped (Op.Load Load.Real64) = refl
+skip-grouped (Op.Load Load.Text) = refl
+skip-grouped (Op.Load Load.Name) = refl
+skip-grouped (Op.Unary Unary.Not) = refl
+skip-grouped (Op.Unary (Unary.Change c)) = refl
+skip-grouped (Op.Unary (Unary.Test t)) = refl
+skip-grouped (Op.Binary (Binary.Combine c)) = refl
+skip-grouped (Op.Binary (Binary.Compare c)) = refl
+skip-grouped (Op.Binary (Binary.Connect c)) = refl
+skip-grouped (Op.Many m) = refl
+skip-grouped (Op.Skip s) = refl
+skip-grouped Op.Unknown = refl

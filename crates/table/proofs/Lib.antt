@@ -1,14 +1,13 @@
 pub mod Tests
 pub mod Numbers
 pub mod Shapes
-pub mod Skips
 pub mod Reading
 pub mod Laid
 pub mod Passes
 pub mod Grouped
-pub mod Passing
-pub mod Answer
 pub mod Encoding
 pub mod Reached
 pub mod Theorems
+pub mod Answer
+pub mod Passing
 pub mod Entries

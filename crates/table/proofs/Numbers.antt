@@ -1,15 +1,16 @@
 -- The kinds of a stack as one number: what the number's size and lowest bit say. Assumes nothing.
-use mathlib.Core.Path.{_≡_, refl, sym, ap, _∙_}
+use mathlib.Core.Path.{_≡_, refl, ap}
 use mathlib.Core.Bool.{Bool, true, false, cond}
 use mathlib.Core.List.{List, [], _∷_}
 use mathlib.Core.Option.{Option, none, some}
 use Prim.Native.Nat.{ℕ, zero, suc, _+_, _*_, _-_, _/_, _%_, _^_, _≤_, _<_}
 use native.Mathlib.Nat.{pow-zero, pow-suc, pow-le-pow-right, not-suc-le-zero}
 use native.Mathlib.Numerals.{sub-one}
+use native.Mathlib.Decide.{ℕ-discrete}
 use native.Mathlib.Omega.{arith}
-use lib.Dec.{eqb, ltb, lit<}
+use lib.Dec.{ltb, lit<}
 use lib.ListN.{length, replicate}
-use borrow.Author.Tests.{ltb-true, ltb-false, eq-eqb, ne-eqb}
+use borrow.Author.Tests.{ltb-true, ltb-false}
 use Rattle.opcode.specs.Opcode.{Kind, logic, value}
 use Rattle.table.specs.Check.{sameKind, popOne, pop, push, sameKinds, sameShape}
 use Rattle.table.specs.Number.{bitOf, kindsNumber, numberOf}
@@ -102,14 +103,6 @@ shape-self (some ks) = kinds-self ks
 pub eq-shape : (s t : Option (List Kind)) → s ≡ t → sameShape s t ≡ true
 eq-shape s t e = rw e (shape-self t)
 
--- the same by numbers
-pub number-test : (s t : Option (List Kind)) → eqb (numberOf s) (numberOf t) ≡ sameShape s t
-number-test s t = go (sameShape s t) refl
-  where
-    go : (b : Bool) → sameShape s t ≡ b → eqb (numberOf s) (numberOf t) ≡ b
-    go true e = eq-eqb _ _ (ap numberOf (shape-eq s t e))
-    go false e = ne-eqb _ _ (λ n. no-way (sym e ∙ eq-shape s t (shapes-same s t n)))
-
 -- ---- one operand off
 
 pub pop-low : (t : Kind) (s : Option (List Kind)) → numberOf s ≤ 1 → 0 ≡ numberOf (popOne t s)
@@ -135,6 +128,39 @@ pop-right t (some (k ∷ ks)) h e =
     let p = bit-two k in
     let a : t ≡ k = bits-same t k (omega arith) in
     rw (a, kind-self k) (omega arith)
+
+-- ---- two operands of one kind off
+
+-- what comes off has half the number, or there is none
+pop-half : (t : Kind) (s : Option (List Kind)) → numberOf (popOne t s) ≤ numberOf s / 2
+pop-half t none = omega arith
+pop-half t (some []) = omega arith
+pop-half t (some (k ∷ ks)) = go (sameKind t k)
+  where
+    go : (b : Bool) → numberOf (cond b (some ks) none) ≤ (2 * kindsNumber ks + bitOf k) / 2
+    go true = omega arith
+    go false = omega arith
+
+pub pop-two-low : (t : Kind) (s : Option (List Kind)) → numberOf s < 4 → 0 ≡ numberOf (popOne t (popOne t s))
+pop-two-low t s h = let p = pop-half t s in pop-low t (popOne t s) (omega arith)
+
+pub pop-two-other : (t : Kind) (s : Option (List Kind)) → 4 ≤ numberOf s → (numberOf s % 4 ≡ 3 * bitOf t → ⊥) → 0 ≡ numberOf (popOne t (popOne t s))
+pop-two-other t s l h = go (ℕ-discrete (numberOf s % 2) (bitOf t))
+  where
+    go : Dec (numberOf s % 2 ≡ bitOf t) → 0 ≡ numberOf (popOne t (popOne t s))
+    go (yes e) = let p = pop-right t s (omega arith) e in pop-other t (popOne t s) (λ f. h (omega arith))
+    go (no e) = let p = pop-other t s e in pop-low t (popOne t s) (omega arith)
+
+both-bits : (t : Kind) (c : ℕ) → c % 4 ≡ 3 * bitOf t → (c % 2 ≡ bitOf t) × (c / 2 % 2 ≡ bitOf t)
+both-bits logic c e = (omega arith, omega arith)
+both-bits value c e = (omega arith, omega arith)
+
+pub pop-two-right : (t : Kind) (s : Option (List Kind)) → 4 ≤ numberOf s → numberOf s % 4 ≡ 3 * bitOf t → numberOf s / 4 ≡ numberOf (popOne t (popOne t s))
+pop-two-right t s l e =
+    let b = both-bits t (numberOf s) e in
+    let p = pop-right t s (omega arith) (b .0) in
+    let q = pop-right t (popOne t s) (omega arith) (rw p at (b .1)) in
+    omega arith
 
 -- ---- a result on
 

@@ -1,6 +1,6 @@
 -- The operators by what the check asks of an entry. Each group has one rule for the entry by itself, and takes and gives the same kinds.
 use Prim.Native.Nat.{ℕ, suc}
-use mathlib.Core.Bool.{Bool, false, _&&_}
+use mathlib.Core.Bool.{Bool, true, false, _&&_}
 use mathlib.Core.List.{List, [], _∷_}
 use lib.Dec.{eqb, leb}
 use lib.ListN.{replicate}
@@ -38,7 +38,7 @@ groupOf (Op.Many m) = Group.Many
 groupOf (Op.Skip s) = Group.Skip
 groupOf Op.Unknown = Group.Unknown
 
--- ---- what holds of an operator by its group: `opRight`, `takesOf` and `givesOf` in these terms
+-- ---- what holds of an operator by its group: `opRight`, `takesOf`, `givesOf` and `skipOp` in these terms
 
 abbrev pub rightBy : List ℕ → Group → Entry → Bool
 rightBy pool Group.Int32 e = loadRight pool Load.Int32 e
@@ -84,3 +84,18 @@ givesBy Group.Connect = logic
 givesBy Group.Many = logic
 givesBy Group.Skip = logic
 givesBy Group.Unknown = logic
+
+abbrev pub skipBy : Group → Bool
+skipBy Group.Int32 = false
+skipBy Group.Wide = false
+skipBy Group.Text = false
+skipBy Group.Name = false
+skipBy Group.Change = false
+skipBy Group.Not = false
+skipBy Group.Test = false
+skipBy Group.Combine = false
+skipBy Group.Compare = false
+skipBy Group.Connect = false
+skipBy Group.Many = false
+skipBy Group.Skip = true
+skipBy Group.Unknown = false

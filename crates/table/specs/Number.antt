@@ -1,13 +1,12 @@
 -- The kinds of a stack as one number, which the code keeps: 1 for the empty stack, then a bit for each slot, the topmost lowest; 0 where there are no such kinds.
-use Prim.Native.Nat.{ℕ, _+_, _*_, _≤_}
+use Prim.Native.Nat.{ℕ, _+_, _*_}
 use mathlib.Core.Path.{_≡_}
-use mathlib.Core.Bool.{Bool, true, false, _&&_}
+use mathlib.Core.Bool.{Bool, true, cond, not, _&&_, _||_}
 use mathlib.Core.List.{List, [], _∷_}
 use mathlib.Core.Option.{Option, none, some}
-use lib.ListN.{length, getD}
+use lib.Dec.{eqb, leb}
+use lib.ListN.{getD, set}
 use Rattle.opcode.specs.Opcode.{Kind, logic, value}
-use Rattle.table.specs.Table.{countOf, entriesOf, poolOf}
-use Rattle.table.specs.Check.{entriesRight, shapeAt}
 
 abbrev pub bitOf : Kind → ℕ
 bitOf logic = 0
@@ -21,16 +20,13 @@ abbrev pub numberOf : Option (List Kind) → ℕ
 numberOf none = 0
 numberOf (some ks) = kindsNumber ks
 
--- whether there are such kinds
-abbrev pub exists : Option (List Kind) → Bool
-exists none = false
-exists (some ks) = true
+-- ---- what a landing must find: such a number, 0 where no skip has landed
 
--- the numbers of the kinds before each entry and at the end, at the entries' indices
-pub record Stored (s shapes : List ℕ) : Type 0 where
-  pub each : (k : ℕ) → k ≤ countOf s → getD shapes k 0 ≡ numberOf (shapeAt (entriesOf s) k)
+-- whether kinds of the number c meet what is wanted
+abbrev pub metBy : ℕ → ℕ → Bool
+metBy w c = eqb w 0 || eqb w c
 
--- what the pass over the entries answers, and leaves
-pub record Shaped (s shapes : List ℕ) (r : Bool) : Type 0 where
-  pub answer : r ≡ (entriesRight (poolOf s) (entriesOf s) && exists (shapeAt (entriesOf s) (length (entriesOf s))))
-  pub stored : r ≡ true → Stored s shapes
+-- what the pass answers of an entry over the kinds of the number c, among n, and what is wanted after it: of a skip, which lands at `to`, that the landing finds its kinds
+pub record Landed (skip : Bool) (n to c : ℕ) (before after : List ℕ) (r : Bool) : Type 0 where
+  pub answer : r ≡ (not skip || (leb to n && metBy (getD before to 0) c))
+  pub wants : r ≡ true → after ≡ cond skip (set before to c) before

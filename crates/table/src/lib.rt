@@ -1,16 +1,16 @@
 // Tables: layout, decoding and the check. Document 01, "Table". Every function takes a slice that is exactly the table, wherever it lies.
 ghost use mathlib.Core.Path.{_≡_};
-ghost use mathlib.Core.Bool.{true, not, _&&_, _||_};
+ghost use mathlib.Core.Bool.{true, _&&_};
 ghost use mathlib.Core.List.{List};
 ghost use mathlib.Core.Option.{Option};
-ghost use Prim.Native.Nat.{suc, _+_, _*_, _≤_, _<_};
+ghost use Prim.Native.Nat.{ℕ, suc, _+_, _*_, _≤_, _<_};
 ghost use lib.Dec.{leb, eqb};
 ghost use lib.ListN.{length, getD, replicate};
 ghost use Rattle.opcode.specs.Opcode.{Kind, logic, value};
-ghost use Rattle.table.specs.Table.{countOf, entriesOf, entryAt, poolOf, layoutOf};
-ghost use Rattle.table.specs.Check.{inRange, partRight, loadRight, popOne, pop, push, isSkip, skipsRight, checkOf};
-ghost use Rattle.table.specs.Groups.{rightBy, takesBy, givesBy};
-ghost use Rattle.table.specs.Number.{bitOf, numberOf, Stored, Shaped};
+ghost use Rattle.table.specs.Table.{countOf, entryAt, poolOf, layoutOf};
+ghost use Rattle.table.specs.Check.{inRange, partRight, loadRight, popOne, pop, push, checkOf};
+ghost use Rattle.table.specs.Groups.{rightBy, takesBy, givesBy, skipBy};
+ghost use Rattle.table.specs.Number.{bitOf, numberOf, metBy, Landed};
 use groups::Group;
 use opcode::Load;
 
@@ -150,24 +150,23 @@ fn passes_some(e: Entry) -> bool
     (1 <= e.a) & (e.b == 0)
 }
 
-// The entry i, whose operator is of the group `g`, by itself. Each arm reads the entry: were it read once for all arms, b would be put together from single bytes.
-fn entry_right<'a>(table: &'a [u8], pool: &'a [u8], g: Group, i: usize) -> bool
-    requires { ⌜ 22 + 12 * i ≤ length (now table) ⌝ }
-    ensures { λ r. ⌜ r ≡ rightBy (now (pool .entry)) g (entryAt (now (table .entry)) i) ⌝ }
+// The entry by itself, whose operator is of the group `g`.
+fn entry_right(pool: &[u8], g: Group, e: Entry) -> bool
+    ensures { λ r. ⌜ r ≡ rightBy (now (pool .entry)) g e ⌝ }
 {
     match g {
-        Group::Int32 => int32_right(entry_at(table, i)),
-        Group::Wide => entry_at(table, i).a == 0,
-        Group::Text => part_right(pool, entry_at(table, i)),
-        Group::Name => name_right(pool, entry_at(table, i)),
-        Group::Change => unused(entry_at(table, i)),
-        Group::Not => unused(entry_at(table, i)),
-        Group::Test => unused(entry_at(table, i)),
-        Group::Combine => unused(entry_at(table, i)),
-        Group::Compare => unused(entry_at(table, i)),
-        Group::Connect => unused(entry_at(table, i)),
-        Group::Many => many_right(entry_at(table, i)),
-        Group::Skip => passes_some(entry_at(table, i)),
+        Group::Int32 => int32_right(e),
+        Group::Wide => e.a == 0,
+        Group::Text => part_right(pool, e),
+        Group::Name => name_right(pool, e),
+        Group::Change => unused(e),
+        Group::Not => unused(e),
+        Group::Test => unused(e),
+        Group::Combine => unused(e),
+        Group::Compare => unused(e),
+        Group::Connect => unused(e),
+        Group::Many => many_right(e),
+        Group::Skip => passes_some(e),
         Group::Unknown => false,
     }
 }
@@ -185,6 +184,20 @@ fn pop_one(c: u64, bit: u64) -> u64
         return 0;
     }
     c / 2
+}
+
+// Two operands of one kind off, their two bits judged at once. The bit is a kind's.
+fn pop_two(c: u64, bit: u64) -> u64
+    requires { ⌜ bit < 2 ⌝ }
+    ensures { λ r. ⌜ ((t : Kind) (s : Option (List Kind)) → bit ≡ bitOf t → c ≡ numberOf s → r ≡ numberOf (popOne t (popOne t s))) ⌝ }
+{
+    if c < 4 {
+        return 0;
+    }
+    if c % 4 != 3 * bit {
+        return 0;
+    }
+    c / 4
 }
 
 // A result on, where fewer than 32 slots are taken. The bit is a kind's.
@@ -211,10 +224,10 @@ fn one_flow(c: u64, takes: u64, gives: u64) -> u64
 
 // A result in the place of two operands.
 fn two_flow(c: u64, takes: u64, gives: u64) -> u64
-    requires { ⌜ gives < 2 ⌝ }
+    requires { ⌜ (takes < 2) × (gives < 2) ⌝ }
     ensures { λ r. ⌜ ((t g : Kind) (s : Option (List Kind)) → takes ≡ bitOf t → gives ≡ bitOf g → c ≡ numberOf s → r ≡ numberOf (push g (popOne t (popOne t s)))) ⌝ }
 {
-    push_one(pop_one(pop_one(c, takes), takes), gives)
+    push_one(pop_two(c, takes), gives)
 }
 
 // "a: literals or values .. taken from the stack with the first"
@@ -251,99 +264,79 @@ fn flow(g: Group, a: u16, c: u64) -> u64
     }
 }
 
-// Keeps the kinds before each entry and at the end, as numbers. Answers whether each entry is right by itself and finds its operands.
-// It asks for the layout, which its caller has tested, and for room for the entries and the end.
-fn shapes_right(table: &[u8], n: usize, shapes: &mut [u64]) -> bool
-    requires { ⌜ (layoutOf (now table) ≡ true) × (n ≡ countOf (now table)) × (n < length (now shapes)) ⌝ }
-    ensures { λ r. ⌜ Shaped (now (table .entry)) (now (shapes .exit)) r ⌝ }
+// ---- where skips land: what a landing must find is kept at its index, as a number of kinds; 0 where no skip has landed yet
+
+// "every way of reaching an entry, or the end, finds the same depth and kinds"
+fn meets(w: u64, c: u64) -> bool
+    ensures { λ r. ⌜ r ≡ metBy w c ⌝ }
 {
-    let strings = pool(table);
-    shapes[0] = 1;
-    let mut c = 1;
-    let mut i = 0;
-    while i < n {
-        let op = op_at(table, i);
-        let a = a_at(table, i);
-        let g = groups::group_of(op);
-        if !entry_right(table, strings, g, i) {
-            return false;
-        }
-        c = flow(g, a, c);
-        if c == 0 {
-            return false;
-        }
-        i += 1;
-        shapes[i] = c;
-    }
-    true
+    (w == 0) | (w == c)
 }
 
-// ---- where skips land
-
-// "44 skip if false, 45 skip if true"
-fn is_skip(e: Entry) -> bool
-    ensures { λ r. ⌜ r ≡ isSkip e ⌝ }
-{
-    (e.op == 44) | (e.op == 45)
-}
-
-// "a skip lands at or before N", at the kinds that it was reached with. It asks for an entry, and for the kept numbers.
-fn lands_right(shapes: &[u64], n: usize, i: usize, a: u16) -> bool
-    requires { ⌜ (i < n) × (n ≤ 512) × (n < length (now shapes)) ⌝ }
-    ensures { λ r. ⌜ r ≡ (leb (i + a + 1) n && eqb (getD (now (shapes .entry)) (i + a + 1) 0) (getD (now (shapes .entry)) i 0)) ⌝ }
+// "a skip lands at or before N", at the kinds that it was reached with: these are wanted there from now on. It asks for an entry, and for room for the entries and the end.
+fn land(wanted: &mut [u64], n: usize, i: usize, a: u16, c: u64) -> bool
+    requires { ⌜ (i < n) × (n ≤ 512) × (n < length (now wanted)) ⌝ }
+    ensures { λ r. ⌜ Landed true n (i + a + 1) c (now (wanted .entry)) (now (wanted .exit)) r ⌝ }
 {
     let to = i + (a as usize) + 1;
     if n < to {
         return false;
     }
-    shapes[to] == shapes[i]
+    let w = wanted[to];
+    if !meets(w, c) {
+        return false;
+    }
+    wanted[to] = c;
+    true
 }
 
 // An entry that is no skip, or whose skip lands right. It asks for the same.
-fn skip_right(shapes: &[u64], n: usize, i: usize, e: Entry) -> bool
-    requires { ⌜ (i < n) × (n ≤ 512) × (n < length (now shapes)) ⌝ }
-    ensures { λ r. ⌜ r ≡ (not (isSkip e) || (leb (i + e .a + 1) n && eqb (getD (now (shapes .entry)) (i + e .a + 1) 0) (getD (now (shapes .entry)) i 0))) ⌝ }
+fn lands_right(wanted: &mut [u64], g: Group, n: usize, i: usize, a: u16, c: u64) -> bool
+    requires { ⌜ (i < n) × (n ≤ 512) × (n < length (now wanted)) ⌝ }
+    ensures { λ r. ⌜ Landed (skipBy g) n (i + a + 1) c (now (wanted .entry)) (now (wanted .exit)) r ⌝ }
 {
-    if !is_skip(e) {
-        return true;
+    match g {
+        Group::Skip => land(wanted, n, i, a, c),
+        _ => true,
     }
-    lands_right(shapes, n, i, e.a)
-}
-
-// Each skip, in one pass over the kept numbers: it asks for the layout and for those.
-fn skips_right(table: &[u8], n: usize, shapes: &[u64]) -> bool
-    requires { ⌜ (layoutOf (now table) ≡ true) × (n ≡ countOf (now table)) × (n < length (now shapes)) × Stored (now table) (now shapes) ⌝ }
-    ensures { λ r. ⌜ r ≡ skipsRight (entriesOf (now (table .entry))) n ⌝ }
-{
-    let mut i = 0;
-    while i < n {
-        let e = entry_at(table, i);
-        if !skip_right(shapes, n, i, e) {
-            return false;
-        }
-        i += 1;
-    }
-    true
 }
 
 // ---- the check
 
-// The check of what the layout holds, with room for the numbers lent.
-fn kinds_right(table: &[u8], n: usize, shapes: &mut [u64]) -> bool
-    requires { ⌜ (layoutOf (now table) ≡ true) × (n ≡ countOf (now table)) × (n < length (now shapes)) ⌝ }
+// The check of what the layout holds, in one pass over the entries. It asks for the layout, which its caller has tested, and for room where nothing is wanted yet.
+fn kinds_right(table: &[u8], n: usize, wanted: &mut [u64]) -> bool
+    requires { ⌜ (layoutOf (now table) ≡ true) × (n ≡ countOf (now table)) × (n < length (now wanted)) × ((k : ℕ) → getD (now wanted) k 0 ≡ 0) ⌝ }
     ensures { λ r. ⌜ r ≡ checkOf (now (table .entry)) ⌝ }
 {
-    if !shapes_right(table, n, shapes) {
-        return false;
+    let strings = pool(table);
+    let mut c = 1;
+    let mut i = 0;
+    while i < n {
+        let w = wanted[i];
+        if !meets(w, c) {
+            return false;
+        }
+        let e = entry_at(table, i);
+        let g = groups::group_of(e.op);
+        if !entry_right(strings, g, e) {
+            return false;
+        }
+        if !lands_right(wanted, g, n, i, e.a, c) {
+            return false;
+        }
+        c = flow(g, e.a, c);
+        if c == 0 {
+            return false;
+        }
+        i += 1;
     }
     // one logic slot
-    if shapes[n] != 2 {
-        return false;
-    }
-    skips_right(table, n, shapes)
+    let w = wanted[n];
+    (c == 2) & meets(w, c)
 }
 
-// Whether the table passes; refusal 12 if not. A small table has a small array, since every element of an array is set before it is used. With a third array the compiler leaves this as a call, and its operands go through memory.
+// Whether the table passes; refusal 12 if not. A small table has a small array, since every element of an array is set before it is used.
+// The table is lent on as a part of itself: as it came, its pointer and length would be copied through memory in one piece, which waits for their stores.
 pub fn check(table: &[u8]) -> bool
     ensures { λ r. ⌜ r ≡ checkOf (now (table .entry)) ⌝ }
 {
@@ -351,10 +344,15 @@ pub fn check(table: &[u8]) -> bool
         return false;
     }
     let n = count(table);
+    let whole = &table[0..];
+    if n < 16 {
+        let mut fewest = [0u64; 16];
+        return kinds_right(whole, n, &mut fewest);
+    }
     if n < 64 {
         let mut few = [0u64; 64];
-        return kinds_right(table, n, &mut few);
+        return kinds_right(whole, n, &mut few);
     }
-    let mut shapes = [0u64; 513];
-    kinds_right(table, n, &mut shapes)
+    let mut wanted = [0u64; 513];
+    kinds_right(whole, n, &mut wanted)
 }

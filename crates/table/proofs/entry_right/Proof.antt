@@ -1,15 +1,9 @@
 -- `table::entry_right` meets its contract, group by group. Assumes nothing.
-use mathlib.Core.Path.{ap, _∙_}
-use mathlib.Core.List.{[]}
-use Rattle.table.specs.Table.{Entry}
-use Rattle.table.specs.Groups.{rightBy}
-use Rattle.table.specs.declared.groups.Group.{Group}
 use borrow.Author.Needs.{needs}
 use Rattle.table.proofs.entry_right.Statement.{statement}
 use Rattle.table.proofs.entry_right.Tie as tie
 use Rattle.table.proofs.entry_right.Reads as reads
 use Rattle.table.proofs.entry_right.Lts as lts
-use Rattle.table.proofs.entry_at.Reads as entry-at-reads
 use Rattle.table.proofs.int32_right.Reads as int32-right-reads
 use Rattle.table.proofs.many_right.Reads as many-right-reads
 use Rattle.table.proofs.name_right.Reads as name-right-reads
@@ -20,23 +14,14 @@ use Rattle.table.proofs.unused.Reads as unused-reads
 enum-told : tie.Need-enum-told
 enum-told c = search needs
 
-entry-at-requires : tie.Need-entry-at-requires
-entry-at-requires c κs = search needs
-
 int32-right-requires : tie.Need-int32-right-requires
 int32-right-requires c κs = search needs
 
 enum-told-2 : tie.Need-enum-told-2
 enum-told-2 c = search needs
 
-entry-at-requires-2 : tie.Need-entry-at-requires-2
-entry-at-requires-2 c κs = search needs
-
 enum-told-3 : tie.Need-enum-told-3
 enum-told-3 c = search needs
-
-entry-at-requires-3 : tie.Need-entry-at-requires-3
-entry-at-requires-3 c κs = search needs
 
 part-right-requires : tie.Need-part-right-requires
 part-right-requires c κs = search needs
@@ -44,17 +29,11 @@ part-right-requires c κs = search needs
 enum-told-4 : tie.Need-enum-told-4
 enum-told-4 c = search needs
 
-entry-at-requires-4 : tie.Need-entry-at-requires-4
-entry-at-requires-4 c κs = search needs
-
 name-right-requires : tie.Need-name-right-requires
 name-right-requires c κs = search needs
 
 enum-told-5 : tie.Need-enum-told-5
 enum-told-5 c = search needs
-
-entry-at-requires-5 : tie.Need-entry-at-requires-5
-entry-at-requires-5 c κs = search needs
 
 unused-requires : tie.Need-unused-requires
 unused-requires c κs = search needs
@@ -62,17 +41,11 @@ unused-requires c κs = search needs
 enum-told-6 : tie.Need-enum-told-6
 enum-told-6 c = search needs
 
-entry-at-requires-6 : tie.Need-entry-at-requires-6
-entry-at-requires-6 c κs = search needs
-
 unused-requires-2 : tie.Need-unused-requires-2
 unused-requires-2 c κs = search needs
 
 enum-told-7 : tie.Need-enum-told-7
 enum-told-7 c = search needs
-
-entry-at-requires-7 : tie.Need-entry-at-requires-7
-entry-at-requires-7 c κs = search needs
 
 unused-requires-3 : tie.Need-unused-requires-3
 unused-requires-3 c κs = search needs
@@ -80,17 +53,11 @@ unused-requires-3 c κs = search needs
 enum-told-8 : tie.Need-enum-told-8
 enum-told-8 c = search needs
 
-entry-at-requires-8 : tie.Need-entry-at-requires-8
-entry-at-requires-8 c κs = search needs
-
 unused-requires-4 : tie.Need-unused-requires-4
 unused-requires-4 c κs = search needs
 
 enum-told-9 : tie.Need-enum-told-9
 enum-told-9 c = search needs
-
-entry-at-requires-9 : tie.Need-entry-at-requires-9
-entry-at-requires-9 c κs = search needs
 
 unused-requires-5 : tie.Need-unused-requires-5
 unused-requires-5 c κs = search needs
@@ -98,26 +65,17 @@ unused-requires-5 c κs = search needs
 enum-told-10 : tie.Need-enum-told-10
 enum-told-10 c = search needs
 
-entry-at-requires-10 : tie.Need-entry-at-requires-10
-entry-at-requires-10 c κs = search needs
-
 unused-requires-6 : tie.Need-unused-requires-6
 unused-requires-6 c κs = search needs
 
 enum-told-11 : tie.Need-enum-told-11
 enum-told-11 c = search needs
 
-entry-at-requires-11 : tie.Need-entry-at-requires-11
-entry-at-requires-11 c κs = search needs
-
 many-right-requires : tie.Need-many-right-requires
 many-right-requires c κs = search needs
 
 enum-told-12 : tie.Need-enum-told-12
 enum-told-12 c = search needs
-
-entry-at-requires-12 : tie.Need-entry-at-requires-12
-entry-at-requires-12 c κs = search needs
 
 passes-some-requires : tie.Need-passes-some-requires
 passes-some-requires c κs = search needs
@@ -126,52 +84,40 @@ enum-told-13 : tie.Need-enum-told-13
 enum-told-13 c = search needs
 
 returns : tie.Need-returns
-returns c =
-    rw (c .before .before .enum-told .given .1) (c .int32-right .ensures ∙ ap (λ (x : Entry). rightBy [] Group.Int32 x) (c .before .entry-at .ensures))
+returns c = rw (c .before .enum-told .given .1) (c .int32-right .ensures)
 
 returns-2 : tie.Need-returns-2
-returns-2 c =
-    rw (c .before .before .enum-told2 .given .1) (ap (λ (x : Entry). rightBy [] Group.Wide x) (c .before .entry-at2 .ensures))
+returns-2 c = rw (c .before .enum-told2 .given .1)
 
 returns-3 : tie.Need-returns-3
-returns-3 c =
-    rw (c .before .before .enum-told3 .given .1) (c .part-right .ensures ∙ ap (λ (x : Entry). rightBy (c .before .before .before .before .before .before .args .pool .now) Group.Text x) (c .before .entry-at3 .ensures))
+returns-3 c = rw (c .before .enum-told3 .given .1) (c .part-right .ensures)
 
 returns-4 : tie.Need-returns-4
-returns-4 c =
-    rw (c .before .before .enum-told4 .given .1) (c .name-right .ensures ∙ ap (λ (x : Entry). rightBy (c .before .before .before .before .before .before .args .pool .now) Group.Name x) (c .before .entry-at4 .ensures))
+returns-4 c = rw (c .before .enum-told4 .given .1) (c .name-right .ensures)
 
 returns-5 : tie.Need-returns-5
-returns-5 c =
-    rw (c .before .before .enum-told5 .given .1) (c .unused .ensures ∙ ap (λ (x : Entry). rightBy [] Group.Change x) (c .before .entry-at5 .ensures))
+returns-5 c = rw (c .before .enum-told5 .given .1) (c .unused .ensures)
 
 returns-6 : tie.Need-returns-6
-returns-6 c =
-    rw (c .before .before .enum-told6 .given .1) (c .unused2 .ensures ∙ ap (λ (x : Entry). rightBy [] Group.Not x) (c .before .entry-at6 .ensures))
+returns-6 c = rw (c .before .enum-told6 .given .1) (c .unused2 .ensures)
 
 returns-7 : tie.Need-returns-7
-returns-7 c =
-    rw (c .before .before .enum-told7 .given .1) (c .unused3 .ensures ∙ ap (λ (x : Entry). rightBy [] Group.Test x) (c .before .entry-at7 .ensures))
+returns-7 c = rw (c .before .enum-told7 .given .1) (c .unused3 .ensures)
 
 returns-8 : tie.Need-returns-8
-returns-8 c =
-    rw (c .before .before .enum-told8 .given .1) (c .unused4 .ensures ∙ ap (λ (x : Entry). rightBy [] Group.Combine x) (c .before .entry-at8 .ensures))
+returns-8 c = rw (c .before .enum-told8 .given .1) (c .unused4 .ensures)
 
 returns-9 : tie.Need-returns-9
-returns-9 c =
-    rw (c .before .before .enum-told9 .given .1) (c .unused5 .ensures ∙ ap (λ (x : Entry). rightBy [] Group.Compare x) (c .before .entry-at9 .ensures))
+returns-9 c = rw (c .before .enum-told9 .given .1) (c .unused5 .ensures)
 
 returns-10 : tie.Need-returns-10
-returns-10 c =
-    rw (c .before .before .enum-told10 .given .1) (c .unused6 .ensures ∙ ap (λ (x : Entry). rightBy [] Group.Connect x) (c .before .entry-at10 .ensures))
+returns-10 c = rw (c .before .enum-told10 .given .1) (c .unused6 .ensures)
 
 returns-11 : tie.Need-returns-11
-returns-11 c =
-    rw (c .before .before .enum-told11 .given .1) (c .many-right .ensures ∙ ap (λ (x : Entry). rightBy [] Group.Many x) (c .before .entry-at11 .ensures))
+returns-11 c = rw (c .before .enum-told11 .given .1) (c .many-right .ensures)
 
 returns-12 : tie.Need-returns-12
-returns-12 c =
-    rw (c .before .before .enum-told12 .given .1) (c .passes-some .ensures ∙ ap (λ (x : Entry). rightBy [] Group.Skip x) (c .before .entry-at12 .ensures))
+returns-12 c = rw (c .before .enum-told12 .given .1) (c .passes-some .ensures)
 
 returns-13 : tie.Need-returns-13
 returns-13 c = search needs
@@ -181,39 +127,27 @@ entry-right-spec =
     tie.close
     (tie.spec
     enum-told
-    entry-at-requires
     int32-right-requires
     enum-told-2
-    entry-at-requires-2
     enum-told-3
-    entry-at-requires-3
     part-right-requires
     enum-told-4
-    entry-at-requires-4
     name-right-requires
     enum-told-5
-    entry-at-requires-5
     unused-requires
     enum-told-6
-    entry-at-requires-6
     unused-requires-2
     enum-told-7
-    entry-at-requires-7
     unused-requires-3
     enum-told-8
-    entry-at-requires-8
     unused-requires-4
     enum-told-9
-    entry-at-requires-9
     unused-requires-5
     enum-told-10
-    entry-at-requires-10
     unused-requires-6
     enum-told-11
-    entry-at-requires-11
     many-right-requires
     enum-told-12
-    entry-at-requires-12
     passes-some-requires
     enum-told-13
     returns
