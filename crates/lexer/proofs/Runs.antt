@@ -12,8 +12,9 @@ use lib.Seq.{drop-cons, getD-drop, sets, take-all, take-append-seam, drop-length
 use borrow.Author.Tests.{eq-eqb, ne-eqb, ltb-true, eqb-false}
 use Rattle.octets.specs.Octets.{folded, sameOf}
 use Rattle.octets.proofs.Theorems.{true-false, not-folded}
-use Rattle.lexer.specs.Byte.{is}
-use Rattle.lexer.specs.Run.{takes, ends, runFrom, unescaped, hasEscape, legalByte, legalName}
+use Rattle.lexer.specs.Byte.{is, isCommon}
+use Rattle.lexer.specs.Run.{takes, ends, runFrom, unescaped, hasEscape, legalByte, legalName, GoesOn}
+use Rattle.lexer.proofs.Bytes.{common-ends-none, common-takes-none, common-plain}
 
 -- a place past the end
 pub past-byte : (s : List ℕ) (i : ℕ) → length s ≤ i → 0 ≡ getD s i 0
@@ -69,6 +70,17 @@ module _ (s : List ℕ) (i : ℕ) where
       pub legal-so-far : (l u : Bool) → takes t (getD s i 0) ≡ u
           → (l && legalByte t (getD s i 0)) && legalName u (runFrom q u (drop (i + 1) s)) ≡ l && legalName t (runFrom q t (drop i s))
       legal-so-far l u f = and-assoc l (legalByte t (getD s i 0)) (legalName u (runFrom q u (drop (i + 1) s))) ∙ rw (add-one, drop-cons s i 0 h, e, f)
+
+    -- a common byte of a name
+    pub goes-on : isCommon (getD s i 0) ≡ true → GoesOn s i → GoesOn s (i + 1)
+    goes-on e g =
+        let b = getD s i 0 in
+        let d : (not false && ends 0 b) ≡ false = common-ends-none b e in
+        let t : takes false b ≡ false = common-takes-none b e in
+        let m = rw t at (run-more 0 false d) in
+        let k = kept 0 false d t in
+        let l = rw (common-plain b e) at (legal-so-far 0 false d true false t) in
+        (omega arith, omega (arith, m, g .1), omega (arith, ap length k, g .2), l ∙ g .3)
 
     pub legal-stop : (q : ℕ) (t : Bool) → (not t && ends q (getD s i 0)) ≡ true → legalName t (runFrom q t (drop i s)) ≡ not t
     legal-stop q t e = rw (drop-cons s i 0 h, e)

@@ -4,7 +4,8 @@ ghost use mathlib.Core.Path.{_≡_};
 ghost use mathlib.Core.Bool.{false};
 ghost use lib.ListN.{length, getD, drop, set};
 ghost use lib.Seq.{sets};
-ghost use Rattle.lexer.specs.Run.{takes as takesOf, ends as endsOf, runOf, unescaped, hasEscape, legalByte, legalName, bodyOf};
+ghost use Rattle.lexer.specs.Run.{takes as takesOf, ends as endsOf, runOf, unescaped, hasEscape, legalByte, legalName, GoesOn, bodyOf};
+use crate::byte::is_common;
 use crate::byte::is_delimiter;
 use crate::byte::is_plain;
 
@@ -154,6 +155,20 @@ fn legal_byte(taken: bool, b: u8) -> bool
     is_plain(b)
 }
 
+// How many of the bytes that most names have stand first. A name goes on after them, so that only the others need every test.
+fn common_length(s: &[u8]) -> usize
+    ensures { λ r. ⌜ GoesOn (now (s .entry)) r ⌝ }
+{
+    let mut i = 0;
+    while i < s.len() {
+        if !is_common(s[i]) {
+            return i;
+        }
+        i += 1;
+    }
+    i
+}
+
 // Of the name that stands first: its bytes, how many they are without escapes, whether they are legal.
 pub struct Measured {
     pub bytes: usize,
@@ -164,10 +179,11 @@ pub struct Measured {
 pub fn measure_name(s: &[u8]) -> Measured
     ensures { λ r. ⌜ (r .bytes ≡ length (runOf 0 (now (s .entry)))) × (r .plain ≡ length (unescaped false (runOf 0 (now (s .entry))))) × (r .legal ≡ legalName false (runOf 0 (now (s .entry)))) ⌝ }
 {
+    let first = common_length(s);
     let mut legal = true;
-    let mut n = 0;
+    let mut n = first;
     let mut taken = false;
-    let mut i = 0;
+    let mut i = first;
     while i < s.len() {
         let b = s[i];
         if (!taken) & ends(0, b) {
