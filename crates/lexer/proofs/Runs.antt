@@ -11,7 +11,7 @@ use lib.ListN.{length, getD, take, drop, set, drop-of-length-le, length-drop, le
 use lib.Seq.{drop-cons, getD-drop, sets, take-all, take-append-seam, drop-length}
 use borrow.Author.Tests.{eq-eqb, ne-eqb, ltb-true, eqb-false}
 use Rattle.octets.specs.Octets.{folded, sameOf}
-use Rattle.octets.proofs.Theorems.{true-false, not-folded}
+use Rattle.octets.proofs.Theorems.{true-false, same, same-refl, not-folded}
 use Rattle.lexer.specs.Byte.{is, isCommon}
 use Rattle.lexer.specs.Run.{takes, ends, runFrom, unescaped, hasEscape, legalByte, legalName, GoesOn}
 use Rattle.lexer.proofs.Bytes.{common-ends-none, common-takes-none, common-plain}
@@ -120,7 +120,7 @@ run-first q t (b ∷ s) = go (run-first q (takes t b) s) (not t && ends q b) ref
     go ih true e = rw e
     go ih false e = rw e (ap (λ (l : List ℕ). b ∷ l) ih)
 
--- what has no escape stays as it is, and is a word where it is the same
+-- what has no escape stays as it is; a run that is the same as a word has an escape where the word has one
 pub no-escapes : (s : List ℕ) → hasEscape s ≡ false → unescaped false s ≡ s
 no-escapes [] e = refl
 no-escapes (b ∷ s) e = go (no-escapes s) (eqb b 92) refl
@@ -129,16 +129,33 @@ no-escapes (b ∷ s) e = go (no-escapes s) (eqb b 92) refl
     go ih true f = true-false (rw f at e)
     go ih false f = let g = rw f at e in rw f (ap (λ (l : List ℕ). b ∷ l) (ih g))
 
-pub word-escaped : (run word : List ℕ) → hasEscape run ≡ true → false ≡ (not (hasEscape run) && sameOf (unescaped false run) word)
-word-escaped run word e = rw e
-
-pub word-same : (run word : List ℕ) → hasEscape run ≡ false
-    → sameOf (folded false run) (folded false word) ≡ (not (hasEscape run) && sameOf (unescaped false run) word)
+pub word-same : (run word : List ℕ) → sameOf (folded false run) (folded false word) ≡ true
+    → not (hasEscape word) ≡ (not (hasEscape run) && sameOf (unescaped false run) word)
 word-same run word e =
-    let u = no-escapes run e in
     let a = not-folded run in
     let b = not-folded word in
-    rw (e, u, a, b)
+    let z : run ≡ word = same run word .0 (rw (a, b) at e) in
+    rw z (go (hasEscape word) refl)
+  where
+    go : (x : Bool) → hasEscape word ≡ x → not (hasEscape word) ≡ (not (hasEscape word) && sameOf (unescaped false word) word)
+    go true f = rw f
+    go false f =
+        let u = no-escapes word f in
+        let r = same-refl word in
+        rw (f, u, r)
+
+pub word-differs : (run word : List ℕ) → sameOf (folded false run) (folded false word) ≡ false
+    → false ≡ (not (hasEscape run) && sameOf (unescaped false run) word)
+word-differs run word e = go (hasEscape run) refl
+  where
+    go : (x : Bool) → hasEscape run ≡ x → false ≡ (not (hasEscape run) && sameOf (unescaped false run) word)
+    go true f = rw f
+    go false f =
+        let u = no-escapes run f in
+        let a = not-folded run in
+        let b = not-folded word in
+        let z = rw (a, b) at e in
+        rw (f, u, z)
 
 -- a word whose first byte is not the one that stands first
 first-other : (s word : List ℕ) → 0 < length word → (getD s 0 0 ≡ getD word 0 0 → ⊥)

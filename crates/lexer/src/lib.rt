@@ -200,11 +200,10 @@ pub fn name_is(text: &[u8], at: usize, word: &[u8]) -> bool
     if (0 < word.len()) & (byte_at(text, at) != byte_at(word, 0)) {
         return false;
     }
-    let bytes = run(text, at, 0);
-    if has_escape(bytes) {
-        return false;
+    if octets::same(run(text, at, 0), false, word, false) {
+        return !has_escape(word);
     }
-    octets::same(bytes, false, word, false)
+    false
 }
 
 pub fn string_length(text: &[u8], at: usize) -> usize
