@@ -13,7 +13,7 @@ use borrow.Author.Tests.{eq-eqb, ne-eqb, ltb-true, eqb-false}
 use Rattle.octets.specs.Octets.{folded, sameOf}
 use Rattle.octets.proofs.Theorems.{true-false, same, same-refl, not-folded}
 use Rattle.lexer.specs.Byte.{is, isCommon}
-use Rattle.lexer.specs.Run.{takes, ends, runFrom, unescaped, hasEscape, legalByte, legalName, GoesOn}
+use Rattle.lexer.specs.Run.{takes, ends, runFrom, unescaped, Free, hasEscape, legalByte, legalName, GoesOn}
 use Rattle.lexer.proofs.Bytes.{common-ends-none, common-takes-none, common-plain}
 
 -- a place past the end
@@ -70,6 +70,10 @@ module _ (s : List ℕ) (i : ℕ) where
       pub legal-so-far : (l u : Bool) → takes t (getD s i 0) ≡ u
           → (l && legalByte t (getD s i 0)) && legalName u (runFrom q u (drop (i + 1) s)) ≡ l && legalName t (runFrom q t (drop i s))
       legal-so-far l u f = and-assoc l (legalByte t (getD s i 0)) (legalName u (runFrom q u (drop (i + 1) s))) ∙ rw (add-one, drop-cons s i 0 h, e, f)
+
+    -- a byte that ends nothing and takes nothing
+    pub free-more : (q : ℕ) → ends q (getD s i 0) ≡ false → (getD s i 0 ≡ 92 → ⊥) → Free q s i → Free q s (i + 1)
+    free-more q e f g = let k = kept q false e (ne-eqb (getD s i 0) 92 f) in (omega arith, omega (arith, ap length k, g .1))
 
     -- a common byte of a name
     pub goes-on : isCommon (getD s i 0) ≡ true → GoesOn s i → GoesOn s (i + 1)

@@ -30,6 +30,10 @@ abbrev pub unescaped : Bool → List ℕ → List ℕ
 unescaped taken [] = []
 unescaped taken (b ∷ s) = cond (takes taken b) (unescaped true s) (b ∷ unescaped false s)
 
+-- Inside the code: the first n bytes of s end no run and are no escape.
+abbrev pub Free : ℕ → List ℕ → ℕ → Type 0
+Free quote s n = (n ≤ length s) × (n + length (unescaped false (runOf quote (drop n s))) ≡ length (unescaped false (runOf quote s)))
+
 -- whether there is an escape: the first backslash is one
 abbrev pub hasEscape : List ℕ → Bool
 hasEscape [] = false
