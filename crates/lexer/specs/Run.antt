@@ -30,7 +30,7 @@ abbrev pub unescaped : Bool → List ℕ → List ℕ
 unescaped taken [] = []
 unescaped taken (b ∷ s) = cond (takes taken b) (unescaped true s) (b ∷ unescaped false s)
 
--- Inside the code: the first n bytes of s end no run and are no escape.
+-- Inside the code: the run that stands first in s, without escapes, has n bytes more than what is left of it after n bytes of s.
 abbrev pub Free : ℕ → List ℕ → ℕ → Type 0
 Free quote s n = (n ≤ length s) × (n + length (unescaped false (runOf quote (drop n s))) ≡ length (unescaped false (runOf quote s)))
 
@@ -48,7 +48,7 @@ abbrev pub legalName : Bool → List ℕ → Bool
 legalName taken [] = not taken
 legalName taken (b ∷ s) = legalByte taken b && legalName (takes taken b) s
 
--- Inside the code: the name that stands first in s goes on after n bytes, which are legal and have no escape.
+-- Inside the code: the name that stands first in s has n bytes more than what is left of it after n bytes, with and without escapes, and is as legal.
 abbrev pub GoesOn : List ℕ → ℕ → Type 0
 GoesOn s n =
     (n ≤ length s)
