@@ -1,22 +1,71 @@
--- Reals as they are written: how large decimal digits are, the count of those without leading zeros, and E. Assumes nothing.
+-- Reals as they are written: the places of their parts, how large decimal digits are, the count of those without leading zeros, and E. Assumes nothing.
 use mathlib.Core.Path.{_≡_, refl, sym, ap, _∙_}
-use mathlib.Core.Bool.{Bool, true, false, _&&_}
+use mathlib.Core.Bool.{Bool, true, false, not, cond, _&&_, _||_, and-true}
 use mathlib.Core.List.{List, [], _∷_, _++_}
 use Prim.Native.Nat.{ℕ, zero, suc, _+_, _-_, _*_, _^_, _≤_, _<_}
-use native.Mathlib.Nat.{pow-zero, pow-suc, pow-le-pow-right, add-mul, mul-assoc, mul-comm, mul-le-mul-right}
+use native.Mathlib.Nat.{add-zero, pow-zero, pow-suc, pow-le-pow-right, add-mul, mul-assoc, mul-comm, mul-le-mul-right}
 use native.Mathlib.Decide.{decLe}
 use native.Mathlib.Omega.{arith}
 use lib.Dec.{eqb, leb, ltb, lit<}
-use lib.ListN.{length, drop}
+use lib.ListN.{length, getD, drop}
+use lib.Seq.{drop-drop, getD-drop}
 use lib.IntN.{ℤ, pos, natAbs, _-ℤ_}
-use borrow.Author.Tests.{lt-ltb, le-ltb, le-leb, lt-leb, ltb-true, leb-true, eqb-true, eqb-false}
+use borrow.Author.Tests.{lt-ltb, le-ltb, le-leb, lt-leb, ltb-true, leb-true, eqb-true, eqb-false, eq-eqb, ne-eqb}
 use Rattle.number.specs.Integer.{isNegative, signedOf}
 use Rattle.lexer.specs.Byte.{within, digitOf, isDigitIn}
-use Rattle.lexer.specs.Digits.{signLength, digitsOf, wholeFrom, wholeOf, capped}
-use Rattle.lexer.specs.Real.{wholeDigits, fromPoint, fractionDigits, exponentPart, exponentDigits, realDigits, noZeros, scaleOf, realFits}
+use Rattle.lexer.specs.Run.{isEmpty}
+use Rattle.lexer.specs.Digits.{isMinus, signLength, digitsOf, wholeFrom, wholeOf, capped}
+use Rattle.lexer.specs.Real.{wholeDigits, fromPoint, fractionDigits, exponentPart, pointAt, exponentAt, exponentDigits, isExponent, isReal, realDigits, noZeros, scaleOf, realFits}
 use Rattle.octets.proofs.Theorems.{and-parts}
 use Rattle.lexer.proofs.Bytes.{range}
-use Rattle.lexer.proofs.Wholes.{capped-whole}
+use Rattle.lexer.proofs.Wholes.{digits-fit, capped-whole}
+
+-- the places of a real's parts
+pub same-place : (n k : ℕ) → eqb (n + k) n ≡ eqb k 0
+same-place n zero = eq-eqb (n + 0) n (omega arith)
+same-place n (suc k) = ne-eqb (n + suc k) n (λ z. omega arith) ∙ sym (ne-eqb (suc k) 0 (λ z. omega arith))
+
+module _ (run : List ℕ) where
+  from-point : drop (pointAt run) run ≡ fromPoint run
+  from-point = sym (drop-drop (length (wholeDigits run)) (signLength run) run)
+
+  pub after-point : drop (pointAt run + 1) run ≡ drop 1 (fromPoint run)
+  after-point = sym (drop-drop 1 (pointAt run) run) ∙ ap (λ (l : List ℕ). drop 1 l) from-point
+
+  pub from-exponent : drop (exponentAt run) run ≡ exponentPart run
+  from-exponent =
+      sym (drop-drop (length (fractionDigits run)) (pointAt run + 1) run)
+      ∙ ap (λ (l : List ℕ). drop (length (fractionDigits run)) l) after-point
+
+  pub point-fits : pointAt run ≤ length run + 1
+  point-fits = omega (arith, digits-fit 10 (signLength run) run, sign-small (isMinus run))
+    where
+      sign-small : (b : Bool) → cond b 1 0 ≤ 1
+      sign-small true = omega arith
+      sign-small false = omega arith
+
+  pub fraction-fits : length (fractionDigits run) ≤ length run
+  fraction-fits = omega (arith, digits-fit 10 (pointAt run + 1) run, ap (λ (l : List ℕ). length (digitsOf 10 l)) after-point)
+
+  -- the form, by those places
+  at-point : getD (fromPoint run) 0 0 ≡ getD run (pointAt run) 0
+  at-point = ap (λ (l : List ℕ). getD l 0 0) (sym from-point) ∙ getD-drop (pointAt run) run 0 0 ∙ ap (λ (k : ℕ). getD run k 0) (add-zero (pointAt run))
+
+  pub no-point : (getD run (pointAt run) 0 ≡ 46 → ⊥) → false ≡ isReal run
+  no-point f =
+      let e : eqb (getD (fromPoint run) 0 0) 46 ≡ false = ne-eqb (getD (fromPoint run) 0 0) 46 (λ z. f (sym at-point ∙ z)) in
+      rw e (go (not (isEmpty (wholeDigits run))))
+    where
+      go : (b : Bool) → false ≡ (b && false && not (isEmpty (fractionDigits run)) && (isEmpty (exponentPart run) || isExponent (exponentPart run)))
+      go true = refl
+      go false = refl
+
+  pub with-point : getD run (pointAt run) 0 ≡ 46
+      → (not (eqb (pointAt run) (signLength run)) && not (eqb (exponentAt run) (pointAt run + 1)) && (isEmpty (exponentPart run) || isExponent (exponentPart run)))
+      ≡ isReal run
+  with-point f =
+      let e : eqb (getD (fromPoint run) 0 0) 46 ≡ true = eq-eqb (getD (fromPoint run) 0 0) 46 (at-point ∙ f) in
+      rw (e, same-place (signLength run) (length (wholeDigits run)), same-place (pointAt run + 1) (length (fractionDigits run)), and-true (not (isEmpty (wholeDigits run))))
 
 -- "E, the exponent less the count of fraction digits", by its size and its sign
 abbrev Sized : ℤ → ℕ → Bool → Type 0

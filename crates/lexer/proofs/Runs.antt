@@ -11,9 +11,10 @@ use lib.ListN.{length, getD, take, drop, set, drop-of-length-le, length-drop, le
 use lib.Seq.{drop-cons, getD-drop, sets, take-all, take-append-seam, drop-length}
 use borrow.Author.Tests.{eq-eqb, ne-eqb, ltb-true, eqb-false}
 use Rattle.octets.specs.Octets.{folded, sameOf}
-use Rattle.octets.proofs.Theorems.{true-false, not-folded}
-use Rattle.lexer.specs.Byte.{is}
-use Rattle.lexer.specs.Run.{takes, ends, runFrom, unescaped, hasEscape, legalByte, legalName}
+use Rattle.octets.proofs.Theorems.{true-false, same, same-refl, not-folded}
+use Rattle.lexer.specs.Byte.{is, isCommon}
+use Rattle.lexer.specs.Run.{takes, ends, runFrom, unescaped, Free, hasEscape, legalByte, legalName, GoesOn}
+use Rattle.lexer.proofs.Bytes.{common-ends-none, common-takes-none, common-plain}
 
 -- a place past the end
 pub past-byte : (s : List ℕ) (i : ℕ) → length s ≤ i → 0 ≡ getD s i 0
@@ -70,6 +71,21 @@ module _ (s : List ℕ) (i : ℕ) where
           → (l && legalByte t (getD s i 0)) && legalName u (runFrom q u (drop (i + 1) s)) ≡ l && legalName t (runFrom q t (drop i s))
       legal-so-far l u f = and-assoc l (legalByte t (getD s i 0)) (legalName u (runFrom q u (drop (i + 1) s))) ∙ rw (add-one, drop-cons s i 0 h, e, f)
 
+    -- a byte that ends nothing and takes nothing
+    pub free-more : (q : ℕ) → ends q (getD s i 0) ≡ false → (getD s i 0 ≡ 92 → ⊥) → Free q s i → Free q s (i + 1)
+    free-more q e f g = let k = kept q false e (ne-eqb (getD s i 0) 92 f) in (omega arith, omega (arith, ap length k, g .1))
+
+    -- a common byte of a name
+    pub goes-on : isCommon (getD s i 0) ≡ true → GoesOn s i → GoesOn s (i + 1)
+    goes-on e g =
+        let b = getD s i 0 in
+        let d : (not false && ends 0 b) ≡ false = common-ends-none b e in
+        let t : takes false b ≡ false = common-takes-none b e in
+        let m = rw t at (run-more 0 false d) in
+        let k = kept 0 false d t in
+        let l = rw (common-plain b e) at (legal-so-far 0 false d true false t) in
+        (omega arith, omega (arith, m, g .1), omega (arith, ap length k, g .2), l ∙ g .3)
+
     pub legal-stop : (q : ℕ) (t : Bool) → (not t && ends q (getD s i 0)) ≡ true → legalName t (runFrom q t (drop i s)) ≡ not t
     legal-stop q t e = rw (drop-cons s i 0 h, e)
 
@@ -108,7 +124,7 @@ run-first q t (b ∷ s) = go (run-first q (takes t b) s) (not t && ends q b) ref
     go ih true e = rw e
     go ih false e = rw e (ap (λ (l : List ℕ). b ∷ l) ih)
 
--- what has no escape stays as it is, and is a word where it is the same
+-- what has no escape stays as it is; a run that is the same as a word has an escape where the word has one
 pub no-escapes : (s : List ℕ) → hasEscape s ≡ false → unescaped false s ≡ s
 no-escapes [] e = refl
 no-escapes (b ∷ s) e = go (no-escapes s) (eqb b 92) refl
@@ -117,16 +133,33 @@ no-escapes (b ∷ s) e = go (no-escapes s) (eqb b 92) refl
     go ih true f = true-false (rw f at e)
     go ih false f = let g = rw f at e in rw f (ap (λ (l : List ℕ). b ∷ l) (ih g))
 
-pub word-escaped : (run word : List ℕ) → hasEscape run ≡ true → false ≡ (not (hasEscape run) && sameOf (unescaped false run) word)
-word-escaped run word e = rw e
-
-pub word-same : (run word : List ℕ) → hasEscape run ≡ false
-    → sameOf (folded false run) (folded false word) ≡ (not (hasEscape run) && sameOf (unescaped false run) word)
+pub word-same : (run word : List ℕ) → sameOf (folded false run) (folded false word) ≡ true
+    → not (hasEscape word) ≡ (not (hasEscape run) && sameOf (unescaped false run) word)
 word-same run word e =
-    let u = no-escapes run e in
     let a = not-folded run in
     let b = not-folded word in
-    rw (e, u, a, b)
+    let z : run ≡ word = same run word .0 (rw (a, b) at e) in
+    rw z (go (hasEscape word) refl)
+  where
+    go : (x : Bool) → hasEscape word ≡ x → not (hasEscape word) ≡ (not (hasEscape word) && sameOf (unescaped false word) word)
+    go true f = rw f
+    go false f =
+        let u = no-escapes word f in
+        let r = same-refl word in
+        rw (f, u, r)
+
+pub word-differs : (run word : List ℕ) → sameOf (folded false run) (folded false word) ≡ false
+    → false ≡ (not (hasEscape run) && sameOf (unescaped false run) word)
+word-differs run word e = go (hasEscape run) refl
+  where
+    go : (x : Bool) → hasEscape run ≡ x → false ≡ (not (hasEscape run) && sameOf (unescaped false run) word)
+    go true f = rw f
+    go false f =
+        let u = no-escapes run f in
+        let a = not-folded run in
+        let b = not-folded word in
+        let z = rw (a, b) at e in
+        rw (f, u, z)
 
 -- a word whose first byte is not the one that stands first
 first-other : (s word : List ℕ) → 0 < length word → (getD s 0 0 ≡ getD word 0 0 → ⊥)

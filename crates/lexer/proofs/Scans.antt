@@ -11,15 +11,15 @@ use borrow.Author.Tests.{leb-true, eqb-true, eqb-false, ne-eqb, eq-eqb}
 use Rattle.octets.proofs.Theorems.{and-parts, true-false}
 use Rattle.lexer.specs.Byte.{startsName, startsNumber, isQuote}
 use Rattle.lexer.specs.Run.{runOf, unescaped, takes, hasEscape, legalName, nameFits, bodyOf, isEmpty, isClosed}
-use Rattle.lexer.specs.Digits.{signLength, digitsOf}
+use Rattle.lexer.specs.Digits.{signLength}
 use Rattle.lexer.specs.Integer.{baseOf, prefixLength, integerDigits, suffixAt, isLong, isInteger, integerFits, integerOf}
 use Rattle.lexer.specs.Real.{wholeDigits, fromPoint, fractionDigits, exponentPart, isExponent, isReal, realFits, realOf}
 use Rattle.lexer.specs.Symbol.{threeBytes, twoBytes, symbolOf, symbolLength}
-use Rattle.lexer.specs.Token.{Token, name, int32, int64, real, text, symbol, kindOf, Scan, good, bad, judged, pick, scanName, integerToken, scanRun, scanNumber, scanString, scanBytes, scanSymbol, scanOf}
+use Rattle.lexer.specs.Token.{Token, name, int32, int64, real, text, symbol, kindOf, Scan, good, bad, judged, pick, scanName, integerToken, scanInteger, scanRun, scanNumber, scanString, scanBytes, scanSymbol, scanOf}
 use Rattle.lexer.specs.Answer.{scannedOf}
 use Rattle.lexer.specs.declared.Scanned.the-variants.{Good, Bad}
 use Rattle.lexer.proofs.Runs.{first-fits, run-first}
-use Rattle.lexer.proofs.Wholes.{digits-first}
+use Rattle.lexer.proofs.Wholes.{digits-fit}
 
 pub pick-yes : {A : Type 0} (b : Bool) (x y : Unit {0} → A) → b ≡ true → pick b x y ≡ x tt
 pick-yes b x y e = rw e
@@ -81,7 +81,7 @@ module _ (s : List ℕ) where
 pub scan-real : (run : List ℕ) → isReal run ≡ true → scanRun run ≡ judged true (realFits run) (real (realOf run)) (length run)
 scan-real run e = pick-yes (isReal run) _ _ e
 
-pub scan-integer : (run : List ℕ) → isReal run ≡ false → scanRun run ≡ judged (isInteger run) (integerFits run) (integerToken run) (length run)
+pub scan-integer : (run : List ℕ) → isReal run ≡ false → scanRun run ≡ scanInteger run
 scan-integer run e = pick-no (isReal run) _ _ e
 
 module _ (run : List ℕ) where
@@ -91,27 +91,26 @@ module _ (run : List ℕ) where
   pub real-legal : isReal run ≡ true → realFits run ≡ true → Good 3 (length run) ≡ scannedOf (scanRun run)
   real-legal e f = legal true (realFits run) (real (realOf run)) (length run) refl f ∙ ap scannedOf (sym (scan-real run e))
 
-  module _ (r : isReal run ≡ false) where
-    pub integer-illegal : isInteger run ≡ false → Bad 1 ≡ scannedOf (scanRun run)
-    integer-illegal e = no-form (isInteger run) (integerFits run) (integerToken run) (length run) e ∙ ap scannedOf (sym (scan-integer run r))
+  pub integer-illegal : isInteger run ≡ false → Bad 1 ≡ scannedOf (scanInteger run)
+  integer-illegal e = no-form (isInteger run) (integerFits run) (integerToken run) (length run) e
 
-    pub integer-over : isInteger run ≡ true → integerFits run ≡ false → Bad 3 ≡ scannedOf (scanRun run)
-    integer-over e f = no-limits (isInteger run) (integerFits run) (integerToken run) (length run) e f ∙ ap scannedOf (sym (scan-integer run r))
+  pub integer-over : isInteger run ≡ true → integerFits run ≡ false → Bad 3 ≡ scannedOf (scanInteger run)
+  integer-over e f = no-limits (isInteger run) (integerFits run) (integerToken run) (length run) e f
 
-    integer-legal : isInteger run ≡ true → integerFits run ≡ true → Good (kindOf (integerToken run)) (length run) ≡ scannedOf (scanRun run)
-    integer-legal e f = legal (isInteger run) (integerFits run) (integerToken run) (length run) e f ∙ ap scannedOf (sym (scan-integer run r))
+  integer-legal : isInteger run ≡ true → integerFits run ≡ true → Good (kindOf (integerToken run)) (length run) ≡ scannedOf (scanInteger run)
+  integer-legal e f = legal (isInteger run) (integerFits run) (integerToken run) (length run) e f
 
-    pub long-legal : isInteger run ≡ true → integerFits run ≡ true → isLong run ≡ true → Good 2 (length run) ≡ scannedOf (scanRun run)
-    long-legal e f l = let k : 2 ≡ kindOf (integerToken run) = kind-of (isLong run) l in ap (λ (k : ℕ). Good k (length run)) k ∙ integer-legal e f
-      where
-        kind-of : (b : Bool) → b ≡ true → 2 ≡ kindOf (cond b (int64 (integerOf run)) (int32 (integerOf run)))
-        kind-of b e = rw e
+  pub long-legal : isInteger run ≡ true → integerFits run ≡ true → isLong run ≡ true → Good 2 (length run) ≡ scannedOf (scanInteger run)
+  long-legal e f l = let k : 2 ≡ kindOf (integerToken run) = kind-of (isLong run) l in ap (λ (k : ℕ). Good k (length run)) k ∙ integer-legal e f
+    where
+      kind-of : (b : Bool) → b ≡ true → 2 ≡ kindOf (cond b (int64 (integerOf run)) (int32 (integerOf run)))
+      kind-of b e = rw e
 
-    pub short-legal : isInteger run ≡ true → integerFits run ≡ true → isLong run ≡ false → Good 1 (length run) ≡ scannedOf (scanRun run)
-    short-legal e f l = let k : 1 ≡ kindOf (integerToken run) = kind-of (isLong run) l in ap (λ (k : ℕ). Good k (length run)) k ∙ integer-legal e f
-      where
-        kind-of : (b : Bool) → b ≡ false → 1 ≡ kindOf (cond b (int64 (integerOf run)) (int32 (integerOf run)))
-        kind-of b e = rw e
+  pub short-legal : isInteger run ≡ true → integerFits run ≡ true → isLong run ≡ false → Good 1 (length run) ≡ scannedOf (scanInteger run)
+  short-legal e f l = let k : 1 ≡ kindOf (integerToken run) = kind-of (isLong run) l in ap (λ (k : ℕ). Good k (length run)) k ∙ integer-legal e f
+    where
+      kind-of : (b : Bool) → b ≡ false → 1 ≡ kindOf (cond b (int64 (integerOf run)) (int32 (integerOf run)))
+      kind-of b e = rw e
 
 -- a string that closes, and one that does not
 module _ (s : List ℕ) where
@@ -162,9 +161,6 @@ unescaped-fits t (b ∷ s) = go (unescaped-fits true s) (unescaped-fits false s)
     go : length (unescaped true s) ≤ length s → length (unescaped false s) ≤ length s → (e : Bool) → takes t b ≡ e → length (unescaped t (b ∷ s)) ≤ length (b ∷ s)
     go p q true e = rw e (omega arith)
     go p q false e = rw e (omega arith)
-
-digits-fit : (base k : ℕ) (s : List ℕ) → length (digitsOf base (drop k s)) ≤ length s
-digits-fit base k s = let f = first-fits (digitsOf base (drop k s)) (drop k s) (digits-first base (drop k s)) in omega (arith, length-drop k s)
 
 not-empty : (s : List ℕ) → not (isEmpty s) ≡ true → 0 < length s
 not-empty [] e = true-false (sym e)

@@ -1,27 +1,28 @@
 -- Digits that stand first, and the whole numbers that they form. Assumes nothing.
-use mathlib.Core.Path.{_≡_, refl, ap}
+use mathlib.Core.Path.{_≡_, refl, ap, _∙_}
 use mathlib.Core.Bool.{Bool, true, false}
 use mathlib.Core.List.{List, [], _∷_}
-use Prim.Native.Nat.{ℕ, suc, _+_, _-_, _*_, _/_, _≤_, _<_}
-use native.Mathlib.Nat.{le-div-iff-mul-le, div-lt-iff-lt-mul, le-mul-of-pos-right}
+use Prim.Native.Nat.{ℕ, _+_, _-_, _*_, _/_, _≤_, _<_}
+use native.Mathlib.Nat.{le-div-iff-mul-le, div-lt-iff-lt-mul, le-mul-of-pos-right, mul-le-mul-left}
 use native.Mathlib.Decide.{decLe}
 use native.Mathlib.Numerals.{add-one}
 use native.Mathlib.Omega.{arith}
-use lib.ListN.{length, getD, drop, drop-of-length-le}
+use lib.ListN.{length, getD, drop, drop-of-length-le, length-drop}
 use lib.Seq.{drop-cons}
 use borrow.Author.Tests.{lt-ltb, le-ltb}
 use Rattle.lexer.specs.Byte.{digitOf, isDigitIn}
-use Rattle.lexer.specs.Digits.{digitsOf, wholeFrom, capped}
-use Rattle.lexer.proofs.Runs.{First}
+use Rattle.lexer.specs.Digits.{signLength, digitsOf, wholeFrom, capped}
+use Rattle.lexer.specs.Integer.{isHex, baseOf, prefixLength}
+use Rattle.lexer.proofs.Runs.{First, first-fits}
 
 module _ (s : List ℕ) (i base : ℕ) where
-  pub digits-stop : i < length s → base ≤ digitOf (getD s i 0) → length (digitsOf base (drop i s)) ≡ 0
+  pub digits-stop : i < length s → base ≤ digitOf (getD s i 0) → digitsOf base (drop i s) ≡ []
   digits-stop h d = rw (drop-cons s i 0 h, le-ltb (digitOf (getD s i 0)) base d)
 
-  pub digits-more : i < length s → digitOf (getD s i 0) < base → suc (length (digitsOf base (drop (i + 1) s))) ≡ length (digitsOf base (drop i s))
+  pub digits-more : i < length s → digitOf (getD s i 0) < base → getD s i 0 ∷ digitsOf base (drop (i + 1) s) ≡ digitsOf base (drop i s)
   digits-more h d = rw (add-one, drop-cons s i 0 h, lt-ltb (digitOf (getD s i 0)) base d)
 
-  pub digits-end : length s ≤ i → length (digitsOf base (drop i s)) ≡ 0
+  pub digits-end : length s ≤ i → digitsOf base (drop i s) ≡ []
   digits-end h = rw (drop-of-length-le s h)
 
 pub digits-first : (base : ℕ) (s : List ℕ) → First (digitsOf base s) s
@@ -32,7 +33,13 @@ digits-first base (b ∷ s) = go (digits-first base s) (isDigitIn base b) refl
     go ih true e = rw e (ap (λ (l : List ℕ). b ∷ l) ih)
     go ih false e = rw e
 
+pub digits-fit : (base k : ℕ) (s : List ℕ) → length (digitsOf base (drop k s)) ≤ length s
+digits-fit base k s = let f = first-fits (digitsOf base (drop k s)) (drop k s) (digits-first base (drop k s)) in omega (arith, length-drop k s)
+
 -- one digit more, within the cap
+pub small : (v base d : ℕ) → base ≤ 16 → d ≤ 16 → v < 576460752303423488 → v * base + d ≤ 9223372036854775808
+small v base d b h l = let m = mul-le-mul-left v b in omega (arith, m)
+
 module _ (v base d : ℕ) (b : 0 < base) (h : d ≤ 16) where
   pub over : (9223372036854775809 - d) / base < v → 9223372036854775809 ≡ capped (v * base + d)
   over l = let m : 9223372036854775809 - d < v * base = div-lt-iff-lt-mul b .0 l in omega arith
@@ -55,12 +62,32 @@ pub capped-whole : (base : ℕ) (s : List ℕ) (v w : ℕ) → 0 < base → capp
 capped-whole base [] v w b e = e
 capped-whole base (x ∷ s) v w b e = capped-whole base s (v * base + digitOf x) (w * base + digitOf x) b (capped-step v w base (digitOf x) b e)
 
-module _ (s : List ℕ) (i base : ℕ) (b : 0 < base) where
-  pub whole-more : (v w : ℕ) → i < length s → w ≡ capped (v * base + digitOf (getD s i 0))
-      → capped (wholeFrom base w (drop (i + 1) s)) ≡ capped (wholeFrom base v (drop i s))
-  whole-more v w h e =
-      let z : capped w ≡ capped (v * base + digitOf (getD s i 0)) = omega arith in
-      rw (add-one, drop-cons s i 0 h) (capped-whole base (drop (suc i) s) w (v * base + digitOf (getD s i 0)) b z)
+-- what the code finds, from a place on, of the digits from another
+abbrev pub Same : ℕ → List ℕ → ℕ → ℕ → ℕ → ℕ → Type 0
+Same base s at high i v =
+    (i + length (digitsOf base (drop i s)) ≡ at + length (digitsOf base (drop at s)))
+    × (capped (wholeFrom base v (digitsOf base (drop i s))) ≡ capped (wholeFrom base high (digitsOf base (drop at s))))
 
-  pub whole-end : (v : ℕ) → length s ≤ i → wholeFrom base v (drop i s) ≡ v
-  whole-end v h = rw (drop-of-length-le s h)
+module _ (s : List ℕ) (at base high i v : ℕ) where
+  pub read-more : 0 < base → i < length s → digitOf (getD s i 0) < base → (w : ℕ) → w ≡ capped (v * base + digitOf (getD s i 0))
+      → Same base s at high i v → Same base s at high (i + 1) w
+  read-more b h d w e same =
+      let m = digits-more s i base h d in
+      let z : capped w ≡ capped (v * base + digitOf (getD s i 0)) = omega arith in
+      let c = capped-whole base (digitsOf base (drop (i + 1) s)) w (v * base + digitOf (getD s i 0)) b z in
+      (omega (arith, ap length m, same .0), c ∙ ap (λ l. capped (wholeFrom base v l)) m ∙ same .1)
+
+  pub read-end : v ≤ 9223372036854775809 → digitsOf base (drop i s) ≡ [] → Same base s at high i v
+      → (i ≡ at + length (digitsOf base (drop at s))) × (v ≡ capped (wholeFrom base high (digitsOf base (drop at s))))
+  read-end h e same =
+      let l = same .0 in
+      let c = rw e at (same .1) in
+      (omega (arith, ap length e, l), omega (arith, c))
+
+-- an integer without a leading zero has decimal digits, after its sign
+pub decimal-prefix : (run : List ℕ) → baseOf run ≡ 10 → prefixLength run ≡ signLength run
+decimal-prefix run e = go (isHex run) refl
+  where
+    go : (b : Bool) → isHex run ≡ b → prefixLength run ≡ signLength run
+    go true f = let z = rw f at e in absurd (omega (arith, z))
+    go false f = rw f (omega arith)

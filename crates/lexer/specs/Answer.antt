@@ -1,6 +1,11 @@
 -- What the code answers, by the definitions.
-use lib.ListN.{length}
+use Prim.Native.Nat.{ℕ, _+_}
+use mathlib.Core.Path.{_≡_}
+use mathlib.Core.List.{List}
+use lib.ListN.{length, drop}
+use Rattle.lexer.specs.Digits.{digitsOf, wholeFrom, capped}
 use Rattle.lexer.specs.Token.{Scan, good, bad, kindOf, Lexed, tokens, refused}
+use Rattle.lexer.specs.declared.digits.Numeral.{Numeral}
 use Rattle.lexer.specs.declared.Lexing.{Lexing}
 use Rattle.lexer.specs.declared.Lexing.the-variants.{Tokens, Refused}
 use Rattle.lexer.specs.declared.Scanned.{Scanned}
@@ -15,3 +20,8 @@ lexingOf (refused k at ps) = Refused k at
 abbrev pub scannedOf : Scan → Scanned
 scannedOf (good t n) = Good (kindOf t) n
 scannedOf (bad k) = Bad k
+
+-- the digits of s from a place on: where they end, and the whole number that they form after the value of those before them
+abbrev pub Reads : ℕ → ℕ → ℕ → List ℕ → Numeral → Type 0
+Reads base high at s n =
+    (n .end ≡ at + length (digitsOf base (drop at s))) × (n .value ≡ capped (wholeFrom base high (digitsOf base (drop at s))))

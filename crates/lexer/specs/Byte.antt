@@ -38,6 +38,10 @@ isQuote b = is "'" b || is "\"" b
 abbrev pub isPlain : ℕ → Bool
 isPlain b = within 33 126 b && not (is "[" b || is "]" b || isQuote b)
 
+-- Inside the code: bytes that are plain, end no name and take no byte. They are not all of those.
+abbrev pub isCommon : ℕ → Bool
+isCommon b = among "-" "Z" b || among "^" "~" b
+
 -- the value of a digit, 0..9, a..f or A..F; another byte has one that is a digit's in no base
 abbrev pub digitOf : ℕ → ℕ
 digitOf b =

@@ -1,5 +1,5 @@
 -- Reals: the form of a run, its limits and its value. Document 01, "Tokens": "Reals".
-use Prim.Native.Nat.{ℕ}
+use Prim.Native.Nat.{ℕ, _+_}
 use mathlib.Core.Bool.{Bool, not, cond, _&&_, _||_}
 use mathlib.Core.List.{List, [], _∷_, _++_}
 use lib.Dec.{eqb, leb}
@@ -26,12 +26,22 @@ fractionDigits run = digitsOf 10 (drop 1 (fromPoint run))
 abbrev pub exponentPart : List ℕ → List ℕ
 exponentPart run = drop (length (fractionDigits run)) (drop 1 (fromPoint run))
 
--- of that part: whether its sign is `-`, what stands after `e` and sign, and the digits there
+-- their places in the run: where the point stands, and where what stands after the fraction begins
+abbrev pub pointAt : List ℕ → ℕ
+pointAt run = signLength run + length (wholeDigits run)
+
+abbrev pub exponentAt : List ℕ → ℕ
+exponentAt run = pointAt run + 1 + length (fractionDigits run)
+
+-- of that part: whether its sign is `-`, where `e` and sign end, what stands after them, and the digits there
 abbrev pub isDown : List ℕ → Bool
 isDown part = is "-" (getD part 1 0)
 
+abbrev pub signEnd : List ℕ → ℕ
+signEnd part = cond (is "+" (getD part 1 0) || isDown part) 2 1
+
 abbrev pub afterSign : List ℕ → List ℕ
-afterSign part = drop (cond (is "+" (getD part 1 0) || isDown part) 2 1) part
+afterSign part = drop (signEnd part) part
 
 abbrev pub exponentDigits : List ℕ → List ℕ
 exponentDigits part = digitsOf 10 (afterSign part)

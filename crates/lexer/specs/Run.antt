@@ -1,6 +1,7 @@
 -- The bytes of a name, of a number and of a string, with the escapes in them. Document 01, "Tokens".
 -- The Bool of a definition says whether a backslash before takes the first byte.
-use Prim.Native.Nat.{ℕ, zero, suc, _+_}
+use Prim.Native.Nat.{ℕ, zero, suc, _+_, _≤_}
+use mathlib.Core.Path.{_≡_}
 use mathlib.Core.Bool.{Bool, true, false, not, cond, _&&_, _||_}
 use mathlib.Core.List.{List, [], _∷_}
 use lib.Dec.{eqb}
@@ -29,6 +30,10 @@ abbrev pub unescaped : Bool → List ℕ → List ℕ
 unescaped taken [] = []
 unescaped taken (b ∷ s) = cond (takes taken b) (unescaped true s) (b ∷ unescaped false s)
 
+-- Inside the code: the run that stands first in s, without escapes, has n bytes more than what is left of it after n bytes of s.
+abbrev pub Free : ℕ → List ℕ → ℕ → Type 0
+Free quote s n = (n ≤ length s) × (n + length (unescaped false (runOf quote (drop n s))) ≡ length (unescaped false (runOf quote s)))
+
 -- whether there is an escape: the first backslash is one
 abbrev pub hasEscape : List ℕ → Bool
 hasEscape [] = false
@@ -42,6 +47,14 @@ legalByte false b = isPlain b
 abbrev pub legalName : Bool → List ℕ → Bool
 legalName taken [] = not taken
 legalName taken (b ∷ s) = legalByte taken b && legalName (takes taken b) s
+
+-- Inside the code: the name that stands first in s has n bytes more than what is left of it after n bytes, with and without escapes, and is as legal.
+abbrev pub GoesOn : List ℕ → ℕ → Type 0
+GoesOn s n =
+    (n ≤ length s)
+    × (n + length (runOf 0 (drop n s)) ≡ length (runOf 0 s))
+    × (n + length (unescaped false (runOf 0 (drop n s))) ≡ length (unescaped false (runOf 0 s)))
+    × (legalName false (runOf 0 (drop n s)) ≡ legalName false (runOf 0 s))
 
 -- "After removing escapes 1..64 bytes."
 abbrev pub nameFits : List ℕ → Bool

@@ -62,12 +62,15 @@ abbrev pub pick : {A : Type 0} → Bool → (Unit {0} → A) → (Unit {0} → A
 pick true x y = x tt
 pick false x y = y tt
 
+abbrev pub scanInteger : List ℕ → Scan
+scanInteger run = judged (isInteger run) (integerFits run) (integerToken run) (length run)
+
 -- a real's form, else an integer's: no integer has a point
 abbrev pub scanRun : List ℕ → Scan
 scanRun run =
     pick (isReal run)
     (λ _. judged true (realFits run) (real (realOf run)) (length run))
-    (λ _. judged (isInteger run) (integerFits run) (integerToken run) (length run))
+    (λ _. scanInteger run)
 
 abbrev pub scanNumber : List ℕ → Scan
 scanNumber s = scanRun (runOf 0 s)

@@ -1,20 +1,31 @@
 // Classes of bytes. Document 01, "Tokens".
 ghost use mathlib.Core.Path.{_≡_};
 ghost use Prim.Native.Nat.{_≤_};
-ghost use Rattle.lexer.specs.Byte.{isSpace, isDelimiter, startsName, isPlain, isQuote, digitOf, startsNumber};
+ghost use Rattle.lexer.specs.Byte.{isSpace, isDelimiter, startsName, isPlain, isCommon, isQuote, digitOf, isDigitIn, startsNumber};
 
 // "Whitespace is space, tab, LF, CR."
 pub fn is_space(b: u8) -> bool
     ensures { λ r. ⌜ r ≡ isSpace b ⌝ }
 {
-    (b == b' ') | (b == b'\t') | (b == b'\n') | (b == b'\r')
+    match b {
+        b' ' => true,
+        b'\t' => true,
+        b'\n' => true,
+        b'\r' => true,
+        _ => false,
+    }
 }
 
 // "whitespace, end, `(`, `)` or `,`"
 pub fn is_delimiter(b: u8) -> bool
     ensures { λ r. ⌜ r ≡ isDelimiter b ⌝ }
 {
-    is_space(b) | (b == b'(') | (b == b')') | (b == b',')
+    match b {
+        b'(' => true,
+        b')' => true,
+        b',' => true,
+        _ => is_space(b),
+    }
 }
 
 // "Names start with a letter, `_` or `\`"
@@ -29,6 +40,13 @@ pub fn is_plain(b: u8) -> bool
     ensures { λ r. ⌜ r ≡ isPlain b ⌝ }
 {
     ((33 <= b) & (b <= 126)) & !((b == b'[') | (b == b']') | ((b == b'\'') | (b == b'"')))
+}
+
+// The bytes that most names have: plain ones that end no name and take no byte.
+pub fn is_common(b: u8) -> bool
+    ensures { λ r. ⌜ r ≡ isCommon b ⌝ }
+{
+    ((b'-' <= b) & (b <= b'Z')) | ((b'^' <= b) & (b <= b'~'))
 }
 
 pub fn is_quote(b: u8) -> bool
@@ -53,9 +71,15 @@ pub fn digit(b: u8) -> u64
     16
 }
 
+fn is_decimal(b: u8) -> bool
+    ensures { λ r. ⌜ r ≡ isDigitIn 10 b ⌝ }
+{
+    (b'0' <= b) & (b <= b'9')
+}
+
 // "A `-` before a digit always starts a literal"
 pub fn starts_number(a: u8, b: u8) -> bool
     ensures { λ r. ⌜ r ≡ startsNumber a b ⌝ }
 {
-    (digit(a) < 10) | ((a == b'-') & (digit(b) < 10))
+    is_decimal(a) | ((a == b'-') & is_decimal(b))
 }

@@ -4,12 +4,13 @@ ghost use Prim.Native.Nat.{_≤_, _<_};
 ghost use lib.Signed.{mag};
 ghost use lib.Dec.{ltb};
 ghost use Rattle.number.specs.Integer.{signedOf};
-ghost use Rattle.lexer.specs.Digits.{capped, wholeOf};
+ghost use Rattle.lexer.specs.Digits.{signLength, capped, wholeOf};
 ghost use Rattle.lexer.specs.Integer.{isHex, baseOf, prefixLength, integerDigits, suffixAt, isLong, isInteger, integerFits, integerOf, held};
+ghost use Rattle.lexer.specs.Answer.{Reads};
+use crate::digits::Numeral;
 use crate::digits::digits;
 use crate::digits::is_minus;
 use crate::digits::sign_length;
-use crate::digits::whole;
 use crate::run::byte_at;
 use crate::run::rest;
 
@@ -22,7 +23,7 @@ fn is_hex(run: &[u8]) -> bool
 }
 
 fn base(run: &[u8]) -> u64
-    ensures { λ r. ⌜ (r ≡ baseOf (now (run .entry))) × (0 < r) ⌝ }
+    ensures { λ r. ⌜ (r ≡ baseOf (now (run .entry))) × (0 < r) × (r ≤ 16) ⌝ }
 {
     if is_hex(run) {
         return 16;
@@ -43,46 +44,39 @@ fn prefix_length(run: &[u8]) -> usize
     n
 }
 
-fn integer_digits<'a>(run: &'a [u8]) -> &'a [u8]
-    ensures { λ r. ⌜ now r ≡ integerDigits (now (run .entry)) ⌝ }
+// The digits, of which the caller has read those that are decimal: an integer without a leading zero has no others.
+pub fn integer_digits(run: &[u8], whole: Numeral) -> Numeral
+    requires { ⌜ Reads 10 0 (signLength (now run)) (now run) whole ⌝ }
+    ensures { λ r. ⌜ Reads (baseOf (now (run .entry))) 0 (prefixLength (now (run .entry))) (now (run .entry)) r ⌝ }
 {
-    digits(run, prefix_length(run), base(run))
+    let b = base(run);
+    if b == 10 {
+        return whole;
+    }
+    digits(run, prefix_length(run), b, 0)
 }
 
-fn suffix_at(run: &[u8]) -> usize
-    ensures { λ r. ⌜ r ≡ suffixAt (now (run .entry)) ⌝ }
-{
-    let n = prefix_length(run);
-    let d = integer_digits(run);
-    n + d.len()
-}
-
-// "then optional `l` or `L` for int64"
-pub fn is_long(run: &[u8]) -> bool
+// "then optional `l` or `L` for int64", after the digits
+pub fn is_long(run: &[u8], end: usize) -> bool
+    requires { ⌜ end ≡ suffixAt (now run) ⌝ }
     ensures { λ r. ⌜ r ≡ isLong (now (run .entry)) ⌝ }
 {
-    let b = byte_at(run, suffix_at(run));
+    let b = byte_at(run, end);
     (b == b'l') | (b == b'L')
 }
 
-pub fn is_integer(run: &[u8]) -> bool
+pub fn is_integer(run: &[u8], end: usize, long: bool) -> bool
+    requires { ⌜ (end ≡ suffixAt (now run)) × (long ≡ isLong (now run)) ⌝ }
     ensures { λ r. ⌜ r ≡ isInteger (now (run .entry)) ⌝ }
 {
-    let d = integer_digits(run);
-    if d.len() == 0 {
+    if end == prefix_length(run) {
         return false;
     }
-    let left = rest(run, suffix_at(run));
-    if is_long(run) {
+    let left = rest(run, end);
+    if long {
         return left.len() == 1;
     }
     left.len() == 0
-}
-
-fn magnitude(run: &[u8]) -> u64
-    ensures { λ r. ⌜ r ≡ capped (wholeOf (baseOf (now (run .entry))) (integerDigits (now (run .entry)))) ⌝ }
-{
-    whole(integer_digits(run), base(run), 0)
 }
 
 // Whether the number of a sign and a size is one of -half..half - 1.
@@ -97,12 +91,12 @@ fn fits(negative: bool, size: u64, half: u64) -> bool
 }
 
 // "The signed value must fit its type."
-pub fn integer_fits(run: &[u8]) -> bool
+pub fn integer_fits(run: &[u8], size: u64, long: bool) -> bool
+    requires { ⌜ (size ≡ capped (wholeOf (baseOf (now run)) (integerDigits (now run)))) × (long ≡ isLong (now run)) ⌝ }
     ensures { λ r. ⌜ r ≡ integerFits (now (run .entry)) ⌝ }
 {
-    let size = magnitude(run);
     let negative = is_minus(run);
-    if is_long(run) {
+    if long {
         return fits(negative, size, 0x8000_0000_0000_0000);
     }
     fits(negative, size, 0x8000_0000)
@@ -131,5 +125,6 @@ fn signed(negative: bool, size: u64) -> i64
 pub fn integer_value(run: &[u8]) -> i64
     ensures { λ r. ⌜ r ≡ held (integerOf (now (run .entry))) ⌝ }
 {
-    signed(is_minus(run), magnitude(run))
+    let d = digits(run, prefix_length(run), base(run), 0);
+    signed(is_minus(run), d.value)
 }

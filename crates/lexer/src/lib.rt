@@ -3,8 +3,9 @@ ghost use mathlib.Core.Path.{_≡_};
 ghost use Prim.Native.Nat.{_≤_};
 ghost use lib.ListN.{length};
 ghost use lib.Seq.{sets};
-ghost use Rattle.lexer.specs.Token.{scanName, scanNumber, scanString, scanSymbol, scanOf, tokensOf, kindsOf, startsOf, nameAt, escapedAt, nameIs, stringAt, integerAt, realAt};
-ghost use Rattle.lexer.specs.Answer.{lexingOf, scannedOf};
+ghost use Rattle.lexer.specs.Digits.{signLength};
+ghost use Rattle.lexer.specs.Token.{scanName, scanInteger, scanNumber, scanString, scanSymbol, scanOf, tokensOf, kindsOf, startsOf, nameAt, escapedAt, nameIs, stringAt, integerAt, realAt};
+ghost use Rattle.lexer.specs.Answer.{lexingOf, scannedOf, Reads};
 
 mod byte;
 mod digits;
@@ -17,11 +18,15 @@ use byte::is_quote;
 use byte::is_space;
 use byte::starts_name;
 use byte::starts_number;
+use digits::Numeral;
+use integer::integer_digits;
 use integer::integer_fits;
 use integer::is_integer;
 use integer::is_long;
+use real::fraction_digits;
 use real::is_real;
 use real::real_fits;
+use real::whole_digits;
 use run::body;
 use run::byte_at;
 use run::copy_plain;
@@ -53,26 +58,39 @@ fn scan_name(s: &[u8]) -> Scanned
     Scanned::Bad(3)
 }
 
+// An integer, or what has no legal form. The caller has read the decimal digits.
+fn scan_integer(bytes: &[u8], whole: Numeral) -> Scanned
+    requires { ⌜ Reads 10 0 (signLength (now bytes)) (now bytes) whole ⌝ }
+    ensures { λ r. ⌜ r ≡ scannedOf (scanInteger (now (bytes .entry))) ⌝ }
+{
+    let d = integer_digits(bytes, whole);
+    let long = is_long(bytes, d.end);
+    if !is_integer(bytes, d.end, long) {
+        return Scanned::Bad(1);
+    }
+    if !integer_fits(bytes, d.value, long) {
+        return Scanned::Bad(3);
+    }
+    if long {
+        return Scanned::Good(2, bytes.len());
+    }
+    Scanned::Good(1, bytes.len())
+}
+
+// The digits of a number are read once, but those of an octal or hex integer, which are read as decimal ones too.
 fn scan_number(s: &[u8]) -> Scanned
     ensures { λ r. ⌜ r ≡ scannedOf (scanNumber (now (s .entry))) ⌝ }
 {
     let bytes = run(s, 0, 0);
-    if is_real(bytes) {
-        if real_fits(bytes) {
-            return Scanned::Good(3, bytes.len());
-        }
-        return Scanned::Bad(3);
+    let whole = whole_digits(bytes);
+    let all = fraction_digits(bytes, whole);
+    if !is_real(bytes, whole.end, all.end) {
+        return scan_integer(bytes, whole);
     }
-    if !is_integer(bytes) {
-        return Scanned::Bad(1);
+    if real_fits(bytes, whole.end, all) {
+        return Scanned::Good(3, bytes.len());
     }
-    if !integer_fits(bytes) {
-        return Scanned::Bad(3);
-    }
-    if is_long(bytes) {
-        return Scanned::Good(2, bytes.len());
-    }
-    Scanned::Good(1, bytes.len())
+    Scanned::Bad(3)
 }
 
 fn scan_string(s: &[u8]) -> Scanned
@@ -182,11 +200,10 @@ pub fn name_is(text: &[u8], at: usize, word: &[u8]) -> bool
     if (0 < word.len()) & (byte_at(text, at) != byte_at(word, 0)) {
         return false;
     }
-    let bytes = run(text, at, 0);
-    if has_escape(bytes) {
-        return false;
+    if octets::same(run(text, at, 0), false, word, false) {
+        return !has_escape(word);
     }
-    octets::same(bytes, false, word, false)
+    false
 }
 
 pub fn string_length(text: &[u8], at: usize) -> usize

@@ -2,9 +2,11 @@
 // In the loops `taken` says whether a backslash before takes the byte.
 ghost use mathlib.Core.Path.{_≡_};
 ghost use mathlib.Core.Bool.{false};
+ghost use mathlib.Core.List.{[]};
 ghost use lib.ListN.{length, getD, drop, set};
 ghost use lib.Seq.{sets};
-ghost use Rattle.lexer.specs.Run.{takes as takesOf, ends as endsOf, runOf, unescaped, hasEscape, legalByte, legalName, bodyOf};
+ghost use Rattle.lexer.specs.Run.{takes as takesOf, ends as endsOf, runOf, unescaped, Free, hasEscape, legalByte, legalName, GoesOn, bodyOf};
+use crate::byte::is_common;
 use crate::byte::is_delimiter;
 use crate::byte::is_plain;
 
@@ -87,13 +89,42 @@ pub fn has_escape(run: &[u8]) -> bool
     false
 }
 
+// How many bytes stand first that end nothing and take nothing. Where no backslash comes after them, they are all.
+fn free_length(s: &[u8], quote: u8) -> usize
+    ensures { λ r. ⌜ Free quote (now (s .entry)) r × ((getD (now (s .entry)) r 0 ≡ 92 → ⊥) → unescaped false (runOf quote (drop r (now (s .entry)))) ≡ []) ⌝ }
+{
+    let mut i = 0;
+    while i < s.len() {
+        if ends(quote, s[i]) {
+            return i;
+        }
+        if s[i] == b'\\' {
+            return i;
+        }
+        i += 1;
+    }
+    i
+}
+
 // How many bytes stand from the start up to the first one that ends them and is not taken, without escapes.
 pub fn plain_length(s: &[u8], quote: u8) -> usize
     ensures { λ r. ⌜ r ≡ length (unescaped false (runOf quote (now (s .entry)))) ⌝ }
 {
-    let mut n = 0;
+    let n = free_length(s, quote);
+    if byte_at(s, n) == b'\\' {
+        return escaped_length(s, quote, n);
+    }
+    n
+}
+
+// The same where the bytes before a place are known to end nothing and take nothing.
+fn escaped_length(s: &[u8], quote: u8, from: usize) -> usize
+    requires { ⌜ Free quote (now s) from ⌝ }
+    ensures { λ r. ⌜ r ≡ length (unescaped false (runOf quote (now (s .entry)))) ⌝ }
+{
+    let mut n = from;
     let mut taken = false;
-    let mut i = 0;
+    let mut i = from;
     while i < s.len() {
         let b = s[i];
         if (!taken) & ends(quote, b) {
@@ -154,6 +185,20 @@ fn legal_byte(taken: bool, b: u8) -> bool
     is_plain(b)
 }
 
+// How many of the bytes that most names have stand first. A name goes on after them, so that only the others need every test.
+fn common_length(s: &[u8]) -> usize
+    ensures { λ r. ⌜ GoesOn (now (s .entry)) r ⌝ }
+{
+    let mut i = 0;
+    while i < s.len() {
+        if !is_common(s[i]) {
+            return i;
+        }
+        i += 1;
+    }
+    i
+}
+
 // Of the name that stands first: its bytes, how many they are without escapes, whether they are legal.
 pub struct Measured {
     pub bytes: usize,
@@ -164,10 +209,11 @@ pub struct Measured {
 pub fn measure_name(s: &[u8]) -> Measured
     ensures { λ r. ⌜ (r .bytes ≡ length (runOf 0 (now (s .entry)))) × (r .plain ≡ length (unescaped false (runOf 0 (now (s .entry))))) × (r .legal ≡ legalName false (runOf 0 (now (s .entry)))) ⌝ }
 {
+    let first = common_length(s);
     let mut legal = true;
-    let mut n = 0;
+    let mut n = first;
     let mut taken = false;
-    let mut i = 0;
+    let mut i = first;
     while i < s.len() {
         let b = s[i];
         if (!taken) & ends(0, b) {

@@ -14,7 +14,7 @@ is-hex-requires : tie.Need-is-hex-requires
 is-hex-requires c κs = search needs
 
 returns : tie.Need-returns
-returns c = let e = sym (c .before .is-hex .ensures) ∙ c .if1 .taken in (rw e, omega arith)
+returns c = let e = sym (c .before .is-hex .ensures) ∙ c .if1 .taken in (rw e, omega arith, omega arith)
 
 sign-length-requires : tie.Need-sign-length-requires
 sign-length-requires c κs = search needs
@@ -26,13 +26,13 @@ returns-2 : tie.Need-returns-2
 returns-2 c =
     let e = sym (c .before .before .before .before .is-hex .ensures) ∙ c .before .before .before .if1 .left in
     let f = rw (c .before .byte-at .ensures, c .before .before .sign-length .ensures .0) at (eq-eqb _ 48 (c .if2 .taken)) in
-    (rw (e, f), omega arith)
+    (rw (e, f), omega arith, omega arith)
 
 returns-3 : tie.Need-returns-3
 returns-3 c =
     let e = sym (c .before .before .before .before .is-hex .ensures) ∙ c .before .before .before .if1 .left in
     let f = rw (c .before .byte-at .ensures, c .before .before .sign-length .ensures .0) at (ne-eqb _ 48 (c .if2 .left)) in
-    (rw (e, f), omega arith)
+    (rw (e, f), omega arith, omega arith)
 
 pub base-spec : {M : Type 1} → statement M
 base-spec =

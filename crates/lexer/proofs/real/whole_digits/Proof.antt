@@ -13,7 +13,7 @@ digits-requires : tie.Need-digits-requires
 digits-requires c κs = search needs
 
 returns : tie.Need-returns
-returns c = rw (c .digits .ensures, c .before .sign-length .ensures .0)
+returns c = (rw (c .before .sign-length .ensures .0) at (c .digits .ensures))
 
 pub whole-digits-spec : {M : Type 1} → statement M
 whole-digits-spec = tie.close (tie.spec sign-length-requires digits-requires returns)

@@ -1,5 +1,5 @@
 use Prim.Native.Nat.{_≤_, _-_, _+_}
-use mathlib.Core.Path.{_≡_, refl, sym, ap, _∙_}
+use mathlib.Core.Path.{_≡_, sym, ap, _∙_}
 use mathlib.Core.Bool.{true, false, _&&_}
 use native.Mathlib.Omega.{arith}
 use lib.ListN.{length, drop}
@@ -10,12 +10,13 @@ use Rattle.lexer.proofs.run.measure_name.Statement.{statement}
 use Rattle.lexer.proofs.run.measure_name.Tie as tie
 use Rattle.lexer.proofs.run.measure_name.Reads as reads
 use Rattle.lexer.proofs.run.measure_name.Lts as lts
+use Rattle.lexer.proofs.run.common_length.Reads as common-length-reads
 use Rattle.lexer.proofs.run.ends.Reads as ends-reads
 use Rattle.lexer.proofs.run.legal_byte.Reads as legal-byte-reads
 use Rattle.lexer.proofs.run.takes.Reads as takes-reads
 
 abbrev Inv-loop : tie.InvT-loop
-Inv-loop s legal₀ n₀ taken₀ i₀ legal n taken i =
+Inv-loop s first legal₀ n₀ taken₀ i₀ legal n taken i =
     (i ≤ length s)
     × (n ≤ i)
     × (i + length (runFrom 0 taken (drop i s)) ≡ length (runOf 0 s))
@@ -23,10 +24,15 @@ Inv-loop s legal₀ n₀ taken₀ i₀ legal n taken i =
     × (legal && legalName taken (runFrom 0 taken (drop i s)) ≡ legalName false (runOf 0 s))
 
 abbrev μ-loop : tie.MeasureT-loop
-μ-loop s legal₀ n₀ taken₀ i₀ legal n taken i = length s - i
+μ-loop s first legal₀ n₀ taken₀ i₀ legal n taken i = length s - i
+
+common-length-requires : tie.Need-common-length-requires Inv-loop μ-loop
+common-length-requires c κs = search needs
 
 loop-holds : tie.Need-loop-holds Inv-loop μ-loop
-loop-holds c = (omega arith, omega arith, omega arith, omega arith, refl)
+loop-holds c =
+    let g = c .common-length .ensures in
+    (g .0, omega arith, g .1, g .2, g .3)
 
 shared-slice-read-b : tie.Need-shared-slice-read-b Inv-loop μ-loop
 shared-slice-read-b c = search needs
@@ -36,7 +42,7 @@ ends-requires c κs = search needs
 
 returns : tie.Need-returns Inv-loop μ-loop
 returns c =
-    let s = c .before .before .before .before .before .before .args .s .now in
+    let s = c .before .before .before .before .before .before .before .args .s .now in
     let l = c .before .before .before .before .loop in
     let e = rw (c .before .ends .ensures) at (c .if1 .taken) in
     let z = run-stop s (l .i) (omega arith) 0 (l .taken) e in
@@ -60,7 +66,7 @@ loop-again : tie.Need-loop-again Inv-loop μ-loop
 loop-again c =
     let l = c .before .before .before .before .before .before .before .loop in
     let e = rw (c .before .before .before .before .ends .ensures) at (c .before .before .before .if1 .left) in
-    let s = c .before .before .before .before .before .before .before .before .before .args .s .now in
+    let s = c .before .before .before .before .before .before .before .before .before .before .args .s .now in
     let g = sym (c .before .takes .ensures) ∙ c .if2 .taken in
     let m = run-more s (l .i) (omega arith) 0 (l .taken) e in
     let d = dropped s (l .i) (omega arith) 0 (l .taken) e g in
@@ -77,7 +83,7 @@ loop-again-2 : tie.Need-loop-again-2 Inv-loop μ-loop
 loop-again-2 c =
     let l = c .before .before .before .before .before .before .before .loop in
     let e = rw (c .before .before .before .before .ends .ensures) at (c .before .before .before .if1 .left) in
-    let s = c .before .before .before .before .before .before .before .before .before .args .s .now in
+    let s = c .before .before .before .before .before .before .before .before .before .before .args .s .now in
     let g = sym (c .before .takes .ensures) ∙ c .if2 .left in
     let m = run-more s (l .i) (omega arith) 0 (l .taken) e in
     let d = kept s (l .i) (omega arith) 0 (l .taken) e g in
@@ -86,7 +92,7 @@ loop-again-2 c =
 
 returns-2 : tie.Need-returns-2 Inv-loop μ-loop
 returns-2 c =
-    let s = c .before .before .before .args .s .now in
+    let s = c .before .before .before .before .args .s .now in
     let l = c .before .loop in
     let z = run-end s (l .i) (omega arith) 0 (l .taken) in
     let p = plain-end s (l .i) (omega arith) 0 (l .taken) in
@@ -99,6 +105,7 @@ measure-name-spec =
     (tie.spec
     Inv-loop
     μ-loop
+    common-length-requires
     loop-holds
     shared-slice-read-b
     ends-requires
