@@ -22,6 +22,7 @@ use Rattle.grammar.specs.Parse.{ok, parseAll}
 use Rattle.grammar.specs.Size.{entriesOf, poolOf as poolSize}
 use Rattle.grammar.proofs.Theorems.{parses}
 use Rattle.table.specs.Table.{Program, encode, decode, poolOf}
+use Rattle.table.specs.Check.{checkOf as tableCheck}
 use Rattle.value.specs.Held.{itemOf}
 use Rattle.interpreter.specs.Run.{State, after, runOf, verdictOf}
 use Rattle.interpreter.specs.Machine.{stateOf}
@@ -50,6 +51,10 @@ use Rattle.router.proofs.Made.{accepted-made}
 written-table : (o : Outcome) (buffer written : List ℕ) (r : Translated) → length (o .table) ≤ length buffer → Answers o buffer written r → take (r .length) written ≡ o .table
 written-table o buffer written r h a = rw (a .answer, a .bytes) (stored buffer (o .table) h)
 
+-- where both checks pass, the guarded run answers the whole run
+pub runs-checked : (table notice : List ℕ) → tableCheck table ≡ true → noticeCheck notice ≡ WellFormed → answerOf (runOf (decode table) notice) ≡ runningOf table notice
+runs-checked table notice p w = rw (p, w)
+
 module _ (text notice : List ℕ) (tree : Tree) (b : Bytes text) (a : Accepted text tree) where
   made : Made tree
   made = accepted-made (map (λ p. p .token) (a .placed)) tree (a .derived) (lexed-text text (a .placed) b (a .lexed) .right) (a .forms)
@@ -67,7 +72,7 @@ module _ (text notice : List ℕ) (tree : Tree) (b : Bytes text) (a : Accepted t
       let table = encode (compile tree) in
       let p = passes-check text tree b a in
       let d = decodes text tree b a in
-      let r : runningOf table notice ≡ answerOf (runOf (decode table) notice) = rw (p, w) in
+      let r : runningOf table notice ≡ answerOf (runOf (decode table) notice) = sym (runs-checked table notice p w) in
       let e = whole .ends in
       record {
         passes = p;
@@ -128,6 +133,13 @@ module _ (text buffer notice written : List ℕ) (t : Translated) (a : Answers (
 
   number-is : t .number ≡ translationOf text (length buffer) .number
   number-is = ap (λ (x : Translated). x .number) (a .answer)
+
+  -- a table that is written passes the check, by `PassesCheck`
+  pub passes : Bytes text → (long : ℕ) → long ≡ t .length → t .number ≡ 0 → tableCheck (take long written) ≡ true
+  passes b long l n =
+      let z : translationOf text (length buffer) .number ≡ 0 = sym number-is ∙ n in
+      let k = accepts-exactly text (length buffer) .0 z in
+      rw (l, table-is, writes-table text (k .0) (length buffer) (k .1) (k .2)) (passes-check text (k .0) b (k .1))
 
   pub refused-run : (r : Matched) → (t .number ≡ 0 → ⊥) → r ≡ refusedWith (t .number) (t .place) → RunsTable (translationOf text (length buffer)) buffer notice written r
   refused-run r n q =

@@ -2,6 +2,10 @@
 ghost use Rattle.router.specs.Demand.{RunsTable, Matches, refused as refusedWith, ranOf};
 ghost use Rattle.translator.specs.Translation.{translationOf};
 ghost use Rattle.interpreter.specs.Running.{runningOf};
+ghost use Rattle.notice.specs.Layout.{checkOf as noticeCheck};
+ghost use Rattle.notice.specs.declared.Layout.the-variants.{WellFormed};
+ghost use Rattle.table.specs.Check.{checkOf as tableCheck};
+ghost use mathlib.Core.Bool.{true};
 ghost use mathlib.Core.Path.{_≡_};
 ghost use lib.ListN.{length};
 use notice::Layout;
@@ -28,11 +32,12 @@ fn refused(number: u8, place: usize) -> Matched
     }
 }
 
-// What the run of a table on a notice answers, with the table's length.
+// What the run of a table on a notice answers, with the table's length. Its callers know that both pass their checks, so they are not made again.
 fn run_table<'a>(table: &'a [u8], notice: &'a [u8]) -> Matched
+    requires { ⌜ (tableCheck (now table) ≡ true) × (noticeCheck (now notice) ≡ WellFormed) ⌝ }
     ensures { λ r. ⌜ r ≡ ranOf (length (now (table .entry))) (runningOf (now (table .entry)) (now (notice .entry))) ⌝ }
 {
-    let a = interpreter::run(table, notice);
+    let a = interpreter::run_whole(table, notice);
     let verdict = a.verdict;
     Matched {
         number: a.number,
@@ -43,8 +48,9 @@ fn run_table<'a>(table: &'a [u8], notice: &'a [u8]) -> Matched
     }
 }
 
-// Translates the text into the buffer and runs the table on the notice.
+// Translates the text into the buffer and runs the table on the notice, which was judged before. Every table that is translated passes the check (`PassesCheck`).
 fn translate_and_run(text: &[u8], buffer: &mut [u8], notice: &[u8]) -> Matched
+    requires { ⌜ noticeCheck (now notice) ≡ WellFormed ⌝ }
     ensures { λ r. ⌜ RunsTable (translationOf (now (text .entry)) (length (now (buffer .entry)))) (now (buffer .entry)) (now (notice .entry)) (now (buffer .exit)) r ⌝ }
 {
     let t = translator::translate(text, buffer);

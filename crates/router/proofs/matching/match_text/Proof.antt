@@ -1,5 +1,5 @@
 use native.Mathlib.Omega.{arith}
-use mathlib.Core.Path.{refl}
+use mathlib.Core.Path.{refl, sym, _∙_}
 use Rattle.router.proofs.Demand.{fault-matches, run-matches}
 use borrow.Author.Needs.{needs}
 use Rattle.router.proofs.matching.match_text.Statement.{statement}
@@ -20,7 +20,7 @@ enum-told c = search needs
 
 -- src/matching.rt:64:31
 translate-and-run-requires : tie.Need-translate-and-run-requires
-translate-and-run-requires c κs = search needs
+translate-and-run-requires c κs = sym (c .before .before .before .check .ensures) ∙ c .before .enum-told .given .1
 
 -- src/matching.rt:65:23
 enum-known-layout : tie.Need-enum-known-layout

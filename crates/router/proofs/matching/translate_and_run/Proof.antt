@@ -1,6 +1,7 @@
 use Prim.Native.Nat.{_-_}
 use native.Mathlib.Nat.{sub-zero}
-use Rattle.router.proofs.Demand.{fits, refused-run, table-run}
+use native.Mathlib.Omega.{arith}
+use Rattle.router.proofs.Demand.{fits, passes, refused-run, table-run}
 use borrow.Author.Needs.{needs}
 use Rattle.router.proofs.matching.translate_and_run.Statement.{statement}
 use Rattle.router.proofs.matching.translate_and_run.Tie as tie
@@ -42,7 +43,10 @@ part-run-table-end c =
 
 -- src/matching.rt:53:5
 run-table-requires : tie.Need-run-table-requires
-run-table-requires c κs = search needs
+run-table-requires c κs =
+    let a = c .before .before .before .before .before .before .before .before .before .before .before .args in
+    let t = c .before .before .before .before .before .before .translate in
+    (passes (a .text .now) (a .buffer .now) (a .notice .now) _ (t .result) (t .ensures) (λ i. omega (arith, c .before .before .before .before .before .before .before .before .before .before .shared-slice-known .given i)) (t .result .length - 0) (sub-zero _) (c .before .before .if1 .left), c .before .before .before .before .before .before .before .before .before .before .before .pre)
 
 -- src/matching.rt:45:1
 same-length-2 : tie.Need-same-length-2
