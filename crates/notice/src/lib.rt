@@ -7,15 +7,16 @@ ghost use Rattle.notice.specs.Layout.{headerRight, countOf, checkFrom, c
 ghost use Rattle.notice.specs.Lookup.{lookupOf};
 
 mod field;
+mod name;
 mod reading;
 mod writing;
 
 use field::field_size;
 use field::lies;
-pub use field::name_right;
 use field::name_size;
 pub use field::size_right;
 use field::stands;
+pub use name::name_right;
 pub use reading::kind_of;
 pub use reading::locate;
 pub use reading::name_of;
