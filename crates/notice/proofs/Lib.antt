@@ -1,5 +1,6 @@
 pub mod Words
 pub mod Names
+pub mod Keys
 pub mod Places
 pub mod Checks
 pub mod Walks

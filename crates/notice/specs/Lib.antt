@@ -1,4 +1,5 @@
 pub mod Field
+pub mod Key
 pub mod Render
 pub mod Layout
 pub mod Lookup

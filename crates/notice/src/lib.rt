@@ -8,6 +8,7 @@ ghost use Rattle.notice.specs.Lookup.{lookupOf};
 
 mod field;
 mod name;
+mod order;
 mod reading;
 mod writing;
 
@@ -17,6 +18,8 @@ use field::name_size;
 pub use field::size_right;
 use field::stands;
 pub use name::name_right;
+use order::key_of;
+use order::rises;
 pub use reading::kind_of;
 pub use reading::locate;
 pub use reading::name_of;
@@ -91,13 +94,17 @@ fn check_fields(notice: &[u8]) -> Layout
     let mut at = 8;
     let mut last = 0;
     let mut last_end = 0;
+    let mut last_key: u64 = 0;
     while 0 < left {
         if stands(notice, at) {
             let name = at + 5;
-            let end = name + name_size(notice, at);
-            if octets::before(&notice[last..last_end], false, &notice[name..end], false) {
+            let n = name_size(notice, at);
+            let end = name + n;
+            let key = key_of(notice, name, n);
+            if rises(&notice[last..last_end], last_key, &notice[name..end], key) {
                 last = name;
                 last_end = end;
+                last_key = key;
                 at = at + 2 + field_size(notice, at);
                 left -= 1;
             } else {
