@@ -13,8 +13,10 @@ use borrow.Author.Tests.{leb-true, leb-false, le-ltb, eq-eqb, ne-eqb, ltb-true, 
 use Rattle.word.specs.Word.{Bytes}
 use Rattle.octets.specs.Octets.{beforeOf}
 use Rattle.octets.proofs.Theorems.{and-parts}
-use Rattle.notice.specs.Field.{printable}
-use Rattle.notice.specs.Key.{lead, keyOf}
+use Rattle.notice.specs.Field.{printable, fieldRight}
+use Rattle.notice.specs.Layout.{nameSizeAt, nameAt, fieldAt, liesAt, rightAt}
+use Rattle.notice.specs.Key.{lead, keyOf, lastNameAt, Last}
+use Rattle.notice.proofs.Places.{length-name, right-lies, right-name}
 
 -- parts of a slice of bytes
 pub bytes-take : (n : ℕ) (s : List ℕ) → Bytes s → Bytes (take n s)
@@ -35,7 +37,7 @@ lead-less (suc k) v w [] (y ∷ t) b h = lead-less k (v * 256) (w * 256 + y) [] 
 lead-less (suc k) v w (x ∷ s) [] b h = let l = b 0 in lead-less k (v * 256 + x) (w * 256) s [] (λ i. b (suc i)) (omega arith)
 lead-less (suc k) v w (x ∷ s) (y ∷ t) b h = let l = b 0 in lead-less k (v * 256 + x) (w * 256 + y) s t (λ i. b (suc i)) (omega arith)
 
-pub key-empty : 0 ≡ keyOf []
+key-empty : 0 ≡ keyOf []
 unfolding lead
 key-empty = refl
 
@@ -53,6 +55,14 @@ head-high b s e = leb-true 32 b (and-parts (leb 32 b) (leb b 126) (and-parts (le
 
 same-order : (a b : ℕ) (s t : List ℕ) → a ≡ b → beforeOf (a ∷ s) (b ∷ t) ≡ beforeOf s t
 same-order a b s t e = rw (le-ltb a b (omega arith), eq-eqb a b e)
+
+-- no name has the key of none
+key-some : (s : List ℕ) → printable s ≡ true → 1 ≤ length s → keyOf [] < keyOf s
+unfolding lead
+key-some [] p h = absurd (omega arith)
+key-some (b ∷ s) p h =
+    let l = head-high b s p in
+    lead-less 7 (0 * 256) (0 * 256 + b) [] s (λ i. omega arith) (omega arith)
 
 -- what the numbers say of the strings, after equal starts that stand for v
 pub less-before : (k v : ℕ) (s t : List ℕ) → printable s ≡ true → printable t ≡ true → lead k v s < lead k v t → true ≡ beforeOf s t
@@ -180,3 +190,28 @@ key-read m n at s b z h = go (leb n 8) refl
         let l : 8 < n = leb-false n 8 e in
         shifted m 8 (drop (at - m) s) (bytes-drop (at - m) s b) (omega arith) ∙ (ap (λ (t : List ℕ). keyOf (take 8 t)) on
         ∙ (lead-take 8 8 0 (drop at s) (omega arith) ∙ sym (lead-take 8 n 0 (drop at s) (omega arith))))
+
+-- the last field's name, and that there is one where a key does not rise
+module _ (s : List ℕ) (last at : ℕ) where
+  first-none : last ≡ 0 → lastNameAt s last ≡ []
+  first-none z = rw (eq-eqb last 0 z)
+
+  pub last-name : (last ≡ 0 → ⊥) → lastNameAt s last ≡ nameAt s last
+  last-name f = rw (ne-eqb last 0 f)
+
+  pub some-last : (last-key key : ℕ) → Last s last last-key → rightAt s at ≡ true → key ≡ keyOf (nameAt s at) → key ≤ last-key → last ≡ 0 → ⊥
+  some-last last-key key l r e h z =
+      let n = right-name s at r in
+      let m : length (nameAt s at) ≡ nameSizeAt s at = length-name s at (right-lies s at r) in
+      let k = key-some (nameAt s at) (n .1) (omega (arith, m, n .0)) in
+      let f : last-key ≡ keyOf [] = l .key-is ∙ ap keyOf (first-none z) in
+      omega (arith, k, f, e, h)
+
+  -- a field that the walk has passed is the last one of the next turn
+  pub now-last : (key : ℕ) → (at ≡ 0 → ⊥) → rightAt s at ≡ true → key ≡ keyOf (nameAt s at) → Last s at key
+  now-last key f r e =
+      let n : lastNameAt s at ≡ nameAt s at = rw (ne-eqb at 0 f) in
+      record { lies = λ g. and-parts (liesAt s at) (fieldRight (fieldAt s at)) r .0; right = ap printable n ∙ right-name s at r .1; key-is = e ∙ ap keyOf (sym n) }
+
+pub none-last : (s : List ℕ) → Last s 0 0
+none-last s = record { lies = λ f. absurd (f refl); right = refl; key-is = key-empty }

@@ -93,17 +93,12 @@ fn check_fields(notice: &[u8]) -> Layout
     let mut left = word::read_u16(notice, 6);
     let mut at = 8;
     let mut last = 0;
-    let mut last_end = 0;
     let mut last_key: u64 = 0;
     while 0 < left {
         if stands(notice, at) {
-            let name = at + 5;
-            let n = name_size(notice, at);
-            let end = name + n;
-            let key = key_of(notice, name, n);
-            if rises(&notice[last..last_end], last_key, &notice[name..end], key) {
-                last = name;
-                last_end = end;
+            let key = key_of(notice, at + 5, name_size(notice, at));
+            if rises(notice, last, last_key, at, key) {
+                last = at;
                 last_key = key;
                 at = at + 2 + field_size(notice, at);
                 left -= 1;

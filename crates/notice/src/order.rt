@@ -4,8 +4,9 @@ ghost use mathlib.Core.Path.{_≡_};
 ghost use Prim.Native.Nat.{_+_, _-_, _≤_};
 ghost use lib.ListN.{length, take, drop};
 ghost use Rattle.octets.specs.Octets.{beforeOf};
-ghost use Rattle.notice.specs.Field.{printable};
-ghost use Rattle.notice.specs.Key.{keyOf};
+ghost use Rattle.notice.specs.Layout.{nameAt, rightAt};
+ghost use Rattle.notice.specs.Key.{keyOf, lastNameAt, Last};
+use crate::field::name_size;
 
 // Eight bytes as one number, the first greatest.
 fn eight(s: &[u8], at: usize) -> u64
@@ -37,16 +38,20 @@ pub fn key_of(notice: &[u8], at: usize, n: usize) -> u64
     eight(notice, at - m) << (m * 8)
 }
 
-// Whether a name is before another, by their keys where these differ.
-pub fn rises(s: &[u8], s_key: u64, t: &[u8], t_key: u64) -> bool
-    requires { ⌜ (printable (now s) ≡ true) × («s_key» ≡ keyOf (now s)) × (printable (now t) ≡ true) × («t_key» ≡ keyOf (now t)) ⌝ }
-    ensures { λ r. ⌜ r ≡ beforeOf (now (s .entry)) (now (t .entry)) ⌝ }
+// Whether the name of the last field is before that of the field at `at`, by their keys where these differ.
+pub fn rises(notice: &[u8], last: usize, last_key: u64, at: usize, key: u64) -> bool
+    requires { ⌜ Last (now notice) last «last_key» × (rightAt (now notice) at ≡ true) × (key ≡ keyOf (nameAt (now notice) at)) ⌝ }
+    ensures { λ r. ⌜ r ≡ beforeOf (lastNameAt (now (notice .entry)) last) (nameAt (now (notice .entry)) at) ⌝ }
 {
-    if s_key < t_key {
+    if last_key < key {
         return true;
     }
-    if t_key < s_key {
+    if key < last_key {
         return false;
     }
-    octets::before(s, false, t, false)
+    let s = last + 5;
+    let s_end = s + name_size(notice, last);
+    let t = at + 5;
+    let t_end = t + name_size(notice, at);
+    octets::before(&notice[s..s_end], false, &notice[t..t_end], false)
 }
