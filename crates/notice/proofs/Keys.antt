@@ -192,26 +192,25 @@ key-read m n at s b z h = go (leb n 8) refl
         ∙ (lead-take 8 8 0 (drop at s) (omega arith) ∙ sym (lead-take 8 n 0 (drop at s) (omega arith))))
 
 -- the last field's name, and that there is one where a key does not rise
-module _ (s : List ℕ) (last at : ℕ) where
-  first-none : last ≡ 0 → lastNameAt s last ≡ []
-  first-none z = rw (eq-eqb last 0 z)
+pub last-name : (s : List ℕ) (last : ℕ) → (last ≡ 0 → ⊥) → lastNameAt s last ≡ nameAt s last
+last-name s last f = rw (ne-eqb last 0 f)
 
-  pub last-name : (last ≡ 0 → ⊥) → lastNameAt s last ≡ nameAt s last
-  last-name f = rw (ne-eqb last 0 f)
+pub some-last : (s : List ℕ) (last at last-key key : ℕ) → Last s last last-key → rightAt s at ≡ true → key ≡ keyOf (nameAt s at) → key ≤ last-key → last ≡ 0 → ⊥
+some-last s last at last-key key l r e h z =
+    let n = right-name s at r in
+    let m : length (nameAt s at) ≡ nameSizeAt s at = length-name s at (right-lies s at r) in
+    let k = key-some (nameAt s at) (n .1) (omega (arith, m, n .0)) in
+    let y : lastNameAt s last ≡ [] = rw (eq-eqb last 0 z) in
+    let f : last-key ≡ keyOf [] = l .key-is ∙ ap keyOf y in
+    omega (arith, k, f, e, h)
 
-  pub some-last : (last-key key : ℕ) → Last s last last-key → rightAt s at ≡ true → key ≡ keyOf (nameAt s at) → key ≤ last-key → last ≡ 0 → ⊥
-  some-last last-key key l r e h z =
-      let n = right-name s at r in
-      let m : length (nameAt s at) ≡ nameSizeAt s at = length-name s at (right-lies s at r) in
-      let k = key-some (nameAt s at) (n .1) (omega (arith, m, n .0)) in
-      let f : last-key ≡ keyOf [] = l .key-is ∙ ap keyOf (first-none z) in
-      omega (arith, k, f, e, h)
-
-  -- a field that the walk has passed is the last one of the next turn
-  pub now-last : (key : ℕ) → (at ≡ 0 → ⊥) → rightAt s at ≡ true → key ≡ keyOf (nameAt s at) → Last s at key
-  now-last key f r e =
-      let n : lastNameAt s at ≡ nameAt s at = rw (ne-eqb at 0 f) in
-      record { lies = λ g. and-parts (liesAt s at) (fieldRight (fieldAt s at)) r .0; right = ap printable n ∙ right-name s at r .1; key-is = e ∙ ap keyOf (sym n) }
+-- a right field is the last one of the next turn; before the first turn there is none
+pub now-last : (s : List ℕ) (at key : ℕ) → (at ≡ 0 → ⊥) → rightAt s at ≡ true → key ≡ keyOf (nameAt s at) → Last s at key
+now-last s at key f r e = record {
+  lies = λ g. and-parts (liesAt s at) (fieldRight (fieldAt s at)) r .0;
+  right = ap printable (last-name s at f) ∙ right-name s at r .1;
+  key-is = e ∙ ap keyOf (sym (last-name s at f));
+}
 
 pub none-last : (s : List ℕ) → Last s 0 0
 none-last s = record { lies = λ f. absurd (f refl); right = refl; key-is = key-empty }

@@ -12,7 +12,7 @@ use Rattle.octets.proofs.Theorems.{and-parts}
 use Rattle.notice.specs.Field.{printable}
 
 -- the word of k bytes c
-abbrev pub each : ℕ → ℕ → ℕ
+abbrev each : ℕ → ℕ → ℕ
 each c zero = 0
 each c (suc k) = each c k * 256 + c
 
@@ -33,7 +33,7 @@ module _ (k b r : ℕ) (h : b < 256) where
 parts : (x : ℕ) → x ≡ x / 256 * 256 + x % 256
 parts x = omega arith
 
-pub clear-small : (k x : ℕ) → x < 256 ^ k → bitAnd x (each 128 k) ≡ 0 → x ≤ each 127 k
+clear-small : (k x : ℕ) → x < 256 ^ k → bitAnd x (each 128 k) ≡ 0 → x ≤ each 127 k
 clear-small zero x h e = let m : x < 1 = rw (pow-zero 256) at h in omega arith
 clear-small (suc k) x h e =
     let m : x < 256 ^ k * 256 = rw (pow-suc 256 k) at h in
@@ -42,7 +42,7 @@ clear-small (suc k) x h e =
     omega (arith, ih, p .0)
 
 -- the tests: no byte has its high bit, nor has it with 1 more, nor has what is left of 159
-pub record Clear (k x : ℕ) : Type 0 where
+record Clear (k x : ℕ) : Type 0 where
   pub plain : bitAnd x (each 128 k) ≡ 0
   pub high : bitAnd (x + each 1 k) (each 128 k) ≡ 0
   pub low : bitAnd (each 159 k - x) (each 128 k) ≡ 0
@@ -51,7 +51,7 @@ each-le : (k : ℕ) → each 127 k ≤ each 159 k
 each-le zero = omega arith
 each-le (suc k) = let ih = each-le k in omega arith
 
-pub clear-right : (k x : ℕ) → x < 256 ^ k → Clear k x → printable (leBytes k x) ≡ true
+clear-right : (k x : ℕ) → x < 256 ^ k → Clear k x → printable (leBytes k x) ≡ true
 unfolding leBytes
 clear-right zero x h c = refl
 clear-right (suc k) x h c =
@@ -67,7 +67,7 @@ clear-right (suc k) x h c =
     let ih = clear-right k r (omega arith) (record { plain = p .1; high = q .1; low = t .1 }) in
     rw (le-leb 32 b (omega (arith, t .0)), le-leb b 126 (omega (arith, q .0))) ih
 
-pub right-clear : (k x : ℕ) → x < 256 ^ k → printable (leBytes k x) ≡ true → Clear k x
+right-clear : (k x : ℕ) → x < 256 ^ k → printable (leBytes k x) ≡ true → Clear k x
 unfolding leBytes
 right-clear zero x h e = record { plain = and-zero-r x; high = and-zero-r (x + 0); low = and-zero-r (0 - x) }
 right-clear (suc k) x h e =

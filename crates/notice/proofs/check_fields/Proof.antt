@@ -85,8 +85,8 @@ loop-again c =
     let m = right-field s (i .at) (lastNameAt s (i .last)) (i .left) (omega arith) (nameAt s (i .at)) refl (right (c .before .before .before .before .before)) b in (
       omega arith,
       omega arith,
-      now-last s (i .last) (i .at) (c .before .before .before .key-of .result) f (right (c .before .before .before .before .before)) (key-is (c .before .before .before)),
-      ap (λ (t : List ℕ). checkFrom (i .left - 1) t s (i .at + 2 + c .field-size .result)) (last-name s (i .at) (i .at) f)
+      now-last s (i .at) (c .before .before .before .key-of .result) f (right (c .before .before .before .before .before)) (key-is (c .before .before .before)),
+      ap (λ (t : List ℕ). checkFrom (i .left - 1) t s (i .at + 2 + c .field-size .result)) (last-name s (i .at) f)
           ∙ (ap (λ (k : ℕ). checkFrom (i .left - 1) (nameAt s (i .at)) s (i .at + 2 + k)) (c .field-size .ensures .0) ∙ (m ∙ i .inv .3)),
     )
 

@@ -103,7 +103,7 @@ returns-3 c =
     let m : j ≡ nameSizeAt s (a .last) = omega arith in
     let n : k ≡ nameSizeAt s (a .at) = omega arith in
     c .before2 .ensures
-    ∙ ap₂ beforeOf (not-folded (take j (drop (a .last + 5) s)) ∙ (ap (λ (i : ℕ). take i (drop (a .last + 5) s)) m ∙ sym (last-name s (a .last) (a .at) (after-one (c .before .before .before .before .before)))))
+    ∙ ap₂ beforeOf (not-folded (take j (drop (a .last + 5) s)) ∙ (ap (λ (i : ℕ). take i (drop (a .last + 5) s)) m ∙ sym (last-name s (a .last) (after-one (c .before .before .before .before .before)))))
     (not-folded (take k (drop (a .at + 5) s)) ∙ ap (λ (i : ℕ). take i (drop (a .at + 5) s)) n)
 
 pub rises-spec : {M : Type 1} → statement M
