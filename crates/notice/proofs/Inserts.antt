@@ -19,17 +19,11 @@ use Rattle.notice.specs.Render.{fieldBytes, fieldsBytes, headerBytes, re
 use Rattle.notice.specs.Layout.{pick, unless, nameAt, kindAt, valueStart, valueSizeAt, fieldAt, countOf, startsFrom, startsOf, fieldsOf}
 use Rattle.notice.specs.Lookup.{lookupIn, lookupOf}
 use Rattle.notice.specs.Write.{fieldSize, hasName, insertField, placeIn, placeFor, hasRoom, refusalIn, Insertable, insertedBytes}
+use Rattle.notice.proofs.Keys.{bytes-take}
 use Rattle.notice.proofs.Walks.{starts-end, starts-more}
 use Rattle.notice.proofs.Fields.{Small, right-small, length-field, field-read, next-read, lies-read}
 use Rattle.notice.proofs.Renders.{length-header, length-render, well-header, well-starts, well-count, well-render, well-fields}
 use Rattle.notice.proofs.Stores.{sets-between}
-
--- a part of a slice of bytes
-pub bytes-take : (n : ℕ) (s : List ℕ) → Bytes s → Bytes (take n s)
-bytes-take zero s b i = omega arith
-bytes-take (suc n) [] b i = omega arith
-bytes-take (suc n) (x ∷ xs) b zero = b 0
-bytes-take (suc n) (x ∷ xs) b (suc i) = bytes-take n xs (λ j. b (suc j)) i
 
 -- lookup finds a name exactly if a field has it
 abbrev isFound : Found → Bool

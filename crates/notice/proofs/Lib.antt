@@ -1,5 +1,7 @@
+pub mod Words
 pub mod Names
 pub mod Places
+pub mod Keys
 pub mod Checks
 pub mod Walks
 pub mod Fields

@@ -1,6 +1,6 @@
 -- Where a field's parts lie. Assumes nothing.
 use mathlib.Core.Path.{_≡_, refl}
-use mathlib.Core.Bool.{Bool, true, false, and-false}
+use mathlib.Core.Bool.{Bool, true, false, _&&_, and-false}
 use mathlib.Core.List.{List}
 use Prim.Native.Nat.{ℕ, _+_, _-_, _≤_, _<_}
 use native.Mathlib.Omega.{arith}
@@ -9,8 +9,8 @@ use lib.ListN.{length, drop, length-drop}
 use lib.Seq.{length-take-le}
 use borrow.Author.Tests.{le-leb, lt-leb, leb-true, leb-false}
 use Rattle.octets.proofs.Theorems.{and-parts}
-use Rattle.notice.specs.Field.{nameRight, sizeRight}
-use Rattle.notice.specs.Layout.{sizeAt, kindAt, nameSizeAt, valueSizeAt, valueStart, nextAt, nameAt, valueAt, liesAt, rightAt}
+use Rattle.notice.specs.Field.{printable, nameRight, sizeRight, fieldRight}
+use Rattle.notice.specs.Layout.{sizeAt, kindAt, nameSizeAt, valueSizeAt, valueStart, nextAt, nameAt, valueAt, fieldAt, liesAt, rightAt}
 
 module _ (s : List ℕ) (at : ℕ) where
   -- a field that lies within the notice, in numbers
@@ -67,3 +67,10 @@ module _ (s : List ℕ) (at : ℕ) where
 
   pub right-lies : rightAt s at ≡ true → Lies
   right-lies e = lies-true (and-parts _ _ e .0)
+
+  pub right-name : rightAt s at ≡ true → (1 ≤ nameSizeAt s at) × (printable (nameAt s at) ≡ true)
+  right-name e =
+      let p = and-parts (nameRight (nameAt s at)) (sizeRight (kindAt s at) (length (valueAt s at))) (and-parts (liesAt s at) (fieldRight (fieldAt s at)) e .1) in
+      let q = and-parts (leb 1 (length (nameAt s at)) && leb (length (nameAt s at)) 64) (printable (nameAt s at)) (p .0) in
+      let l : 1 ≤ length (nameAt s at) = leb-true 1 (length (nameAt s at)) (and-parts (leb 1 (length (nameAt s at))) (leb (length (nameAt s at)) 64) (q .0) .0) in
+      (omega (arith, l, length-name (right-lies e)), q .1)

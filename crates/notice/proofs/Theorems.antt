@@ -25,12 +25,13 @@ use Rattle.notice.specs.Theorems.{WellFormed, lastName, FaultPlace, OneL
 use Rattle.notice.proofs.Places.{lies-true}
 use Rattle.notice.proofs.Walks.{starts-end, starts-more, starts-stop}
 use Rattle.notice.proofs.Renders.{render-passes, render-fields, well-render, well-fields, well-count, length-render}
+use Rattle.notice.proofs.Keys.{bytes-take}
 use Rattle.notice.proofs.Orders.{before-not-same, insert-splits, insertAll, fresh, perm-fresh, perm-inserted, perm-right, perm-length, perm-size, allBeforeFirst, rising-fresh, rising-inserted}
 use Rattle.notice.proofs.Checks.{header-long}
 use Rattle.notice.proofs.Faults.{faulted}
 use Rattle.notice.proofs.Trips.{Fitting, added-fields, added-length, over, writes-all}
 use Rattle.notice.proofs.Writes.{added}
-use Rattle.notice.proofs.Inserts.{accepted, bytes-take}
+use Rattle.notice.proofs.Inserts.{accepted}
 
 pub well-formed : WellFormed
 well-formed s bytes = (

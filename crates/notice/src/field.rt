@@ -1,46 +1,28 @@
-// One field: its rules by itself, and where its parts lie.
+// One field: the size of its value, and where its parts lie.
 ghost use mathlib.Core.Path.{_≡_};
 ghost use Prim.Native.Nat.{_+_, _≤_, _<_};
 ghost use lib.ListN.{length};
-ghost use Rattle.notice.specs.Field.{nameRight, sizeRight};
+ghost use Rattle.notice.specs.Field.{sizeRight};
 ghost use Rattle.notice.specs.Layout.{sizeAt, nameSizeAt, liesAt, rightAt};
-
-// "u8 name length 1..64; name (bytes 32..126)"
-pub fn name_right(name: &[u8]) -> bool
-    ensures { λ r. ⌜ r ≡ nameRight (now (name .entry)) ⌝ }
-{
-    if name.len() == 0 {
-        return false;
-    }
-    if 64 < name.len() {
-        return false;
-    }
-    let mut i = 0;
-    while i < name.len() {
-        let b = name[i];
-        if b < 32 {
-            return false;
-        }
-        if 126 < b {
-            return false;
-        }
-        i += 1;
-    }
-    true
-}
+use crate::name::name_right;
 
 // "Kinds: 1 int32 (4 bytes), 2 int64 (8), 3 real64 (8, bits), 4 string, 5 opaque (each 0..1,024)."
 pub fn size_right(kind: u16, size: usize) -> bool
     ensures { λ r. ⌜ r ≡ sizeRight kind size ⌝ }
 {
-    match kind {
-        1 => size == 4,
-        2 => size == 8,
-        3 => size == 8,
-        4 => size <= 1024,
-        5 => size <= 1024,
-        _ => false,
+    if kind == 1 {
+        return size == 4;
     }
+    if kind == 0 {
+        return false;
+    }
+    if kind <= 3 {
+        return size == 8;
+    }
+    if kind <= 5 {
+        return size <= 1024;
+    }
+    false
 }
 
 // The field's length word, and the length of its name. The callers have tested that the bytes are there.

@@ -7,15 +7,19 @@ ghost use Rattle.notice.specs.Layout.{headerRight, countOf, checkFrom, c
 ghost use Rattle.notice.specs.Lookup.{lookupOf};
 
 mod field;
+mod name;
+mod order;
 mod reading;
 mod writing;
 
 use field::field_size;
 use field::lies;
-pub use field::name_right;
 use field::name_size;
 pub use field::size_right;
 use field::stands;
+pub use name::name_right;
+use order::key_of;
+use order::rises;
 pub use reading::kind_of;
 pub use reading::locate;
 pub use reading::name_of;
@@ -89,14 +93,13 @@ fn check_fields(notice: &[u8]) -> Layout
     let mut left = word::read_u16(notice, 6);
     let mut at = 8;
     let mut last = 0;
-    let mut last_end = 0;
+    let mut last_key: u64 = 0;
     while 0 < left {
         if stands(notice, at) {
-            let name = at + 5;
-            let end = name + name_size(notice, at);
-            if octets::before(&notice[last..last_end], false, &notice[name..end], false) {
-                last = name;
-                last_end = end;
+            let key = key_of(notice, at + 5, name_size(notice, at));
+            if rises(notice, last, last_key, at, key) {
+                last = at;
+                last_key = key;
                 at = at + 2 + field_size(notice, at);
                 left -= 1;
             } else {

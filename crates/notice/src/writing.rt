@@ -11,10 +11,10 @@ use crate::Written;
 use crate::check;
 use crate::field::field_size;
 use crate::field::lies;
-use crate::field::name_right;
 use crate::field::name_size;
 use crate::field::size_right;
 use crate::lookup;
+use crate::name::name_right;
 
 // The start of the first field that a name is before, or the notice's end.
 fn place_for(notice: &[u8], name: &[u8]) -> usize

@@ -1,78 +1,69 @@
 use mathlib.Core.Bool.{true, false}
-use mathlib.Core.Path.{_≡_, sym, ap, ap₂, _∙_}
+use mathlib.Core.Path.{_≡_, refl, sym, ap, _∙_}
 use Prim.Native.Nat.{ℕ, _+_, _-_, _≤_}
-use mathlib.Core.List.{[]}
+use mathlib.Core.List.{List, []}
 use native.Mathlib.Omega.{arith}
 use lib.ListN.{length, take, drop}
 use Rattle.octets.specs.Octets.{beforeOf}
-use Rattle.octets.proofs.Theorems.{not-folded}
-use Rattle.notice.specs.Layout.{nameSizeAt, countOf, checkFrom}
-use Rattle.notice.proofs.Places.{Lies, right-lies}
+use Rattle.notice.specs.Key.{keyOf, lastNameAt, Last}
+use Rattle.notice.specs.Layout.{nameAt, countOf, rightAt, checkFrom}
+use Rattle.notice.proofs.Places.{Lies, right-lies, right-name}
+use Rattle.notice.proofs.Keys.{last-name, now-last, none-last}
 use Rattle.notice.proofs.Checks.{no-more, spare, wrong-field, wrong-order, right-field}
 use borrow.Author.Needs.{needs}
 use Rattle.notice.proofs.check_fields.Statement.{statement}
 use Rattle.notice.proofs.check_fields.Tie as tie
 
 abbrev Inv-loop : tie.InvT-loop
-Inv-loop notice left₀ at₀ last₀ last-end₀ left at last last-end =
-    (at ≤ length notice) × (last ≤ last-end) × (last-end ≤ length notice) × (checkFrom left (take (last-end - last) (drop last notice)) notice at ≡ checkFrom (countOf notice) [] notice 8)
+Inv-loop notice left₀ at₀ last₀ last-key₀ left at last last-key =
+    (8 ≤ at) × (at ≤ length notice) × Last notice last last-key × (checkFrom left (lastNameAt notice last) notice at ≡ checkFrom (countOf notice) [] notice 8)
 
 abbrev μ-loop : tie.MeasureT-loop
-μ-loop notice left₀ at₀ last₀ last-end₀ left at last last-end = left
+μ-loop notice left₀ at₀ last₀ last-key₀ left at last last-key = left
+
+right : (c : tie.Then1 Inv-loop μ-loop) → rightAt (c .before .before .before .before .before .before .args .notice .now) (c .before .before .before .loop .at) ≡ true
+right c = sym (c .before .stands .ensures) ∙ c .if1 .taken
 
 lying : (c : tie.Then1 Inv-loop μ-loop) → Lies (c .before .before .before .before .before .before .args .notice .now) (c .before .before .before .loop .at)
-lying c = right-lies (c .before .before .before .before .before .before .args .notice .now) (c .before .before .before .loop .at) (sym (c .before .stands .ensures) ∙ c .if1 .taken)
+lying c = right-lies (c .before .before .before .before .before .before .args .notice .now) (c .before .before .before .loop .at) (right c)
+
+key-is : (c : tie.After-key-of Inv-loop μ-loop) → c .key-of .result ≡ keyOf (nameAt (c .before .before .before .before .before .before .before .before .args .notice .now) (c .before .before .before .before .before .loop .at))
+key-is c =
+    c .key-of .ensures ∙ ap (λ (k : ℕ). keyOf (take k (drop (c .before .before .before .before .before .loop .at + 5) (c .before .before .before .before .before .before .before .before .args .notice .now)))) (c .before .name-size .ensures .0)
 
 read-u16-requires : tie.Need-read-u16-requires Inv-loop μ-loop
 read-u16-requires c κs = search needs
 
 loop-holds : tie.Need-loop-holds Inv-loop μ-loop
 loop-holds c =
-    (omega arith, omega arith, omega arith, ap (λ (n : ℕ). checkFrom n [] (c .before .before .args .notice .now) 8) (c .read-u16 .ensures))
+    (omega arith, omega arith, none-last (c .before .before .args .notice .now), ap (λ (n : ℕ). checkFrom n [] (c .before .before .args .notice .now) 8) (c .read-u16 .ensures))
 
 stands-requires : tie.Need-stands-requires Inv-loop μ-loop
 stands-requires c κs = search needs
 
-add-name : tie.Need-add-name Inv-loop μ-loop
-add-name c = search needs
+add-key-of : tie.Need-add-key-of Inv-loop μ-loop
+add-key-of c = search needs
 
 name-size-requires : tie.Need-name-size-requires Inv-loop μ-loop
 name-size-requires c κs =
     let l = lying c in
     omega arith
 
-add-end : tie.Need-add-end Inv-loop μ-loop
-add-end c = search needs
+key-of-requires : tie.Need-key-of-requires Inv-loop μ-loop
+key-of-requires c κs =
+    let l = lying (c .before) in
+    let n = right-name (c .before .before .before .before .before .before .before .args .notice .now) (c .before .before .before .before .loop .at) (right (c .before)) .0 in
+    (omega arith, omega arith, omega arith)
 
-sub-before : tie.Need-sub-before Inv-loop μ-loop
-sub-before c = search needs
-
-part-before-start : tie.Need-part-before-start Inv-loop μ-loop
-part-before-start c = search needs
-
-part-before-end : tie.Need-part-before-end Inv-loop μ-loop
-part-before-end c = search needs
-
-sub-before-2 : tie.Need-sub-before-2 Inv-loop μ-loop
-sub-before-2 c = search needs
-
-part-before-start-2 : tie.Need-part-before-start-2 Inv-loop μ-loop
-part-before-start-2 c = search needs
-
-part-before-end-2 : tie.Need-part-before-end-2 Inv-loop μ-loop
-part-before-end-2 c =
-    let l = lying (c .before .before) in
-    omega arith
-
-before-requires : tie.Need-before-requires Inv-loop μ-loop
-before-requires c κs = search needs
+rises-requires : tie.Need-rises-requires Inv-loop μ-loop
+rises-requires c κs = (c .before .before .before .before .before .loop .inv .2, right (c .before .before), key-is c)
 
 add-at : tie.Need-add-at Inv-loop μ-loop
 add-at c = search needs
 
 field-size-requires : tie.Need-field-size-requires Inv-loop μ-loop
 field-size-requires c κs =
-    let l = lying (c .before .before .before .before .before) in
+    let l = lying (c .before .before .before .before) in
     omega arith
 
 add-at-2 : tie.Need-add-at-2 Inv-loop μ-loop
@@ -86,47 +77,45 @@ loop-less c = search needs
 
 loop-again : tie.Need-loop-again Inv-loop μ-loop
 loop-again c =
-    let s = c .before .before .before .before .before .before .before .before .before .before .before .before .args .notice .now in
-    let i = c .before .before .before .before .before .before .before .before .before .loop in
-    let r = sym (c .before .before .before .before .before .before .before .stands .ensures) ∙ c .before .before .before .before .before .before .if1 .taken in
-    let l = right-lies s (i .at) r in
-    let n : i .at + 5 + c .before .before .before .before .before .name-size .result - (i .at + 5) ≡ nameSizeAt s (i .at) = omega arith in
-    let name = take (i .at + 5 + c .before .before .before .before .before .name-size .result - (i .at + 5)) (drop (i .at + 5) s) in
-    let last = take (i .last-end - i .last) (drop (i .last) s) in
-    let b : beforeOf last name ≡ true = ap₂ beforeOf (sym (not-folded last)) (sym (not-folded name)) ∙ (sym (c .before .before .before2 .ensures) ∙ c .before .if2 .taken) in
-    let m = right-field s (i .at) last (i .left) (omega arith) name (ap (λ (k : ℕ). take k (drop (i .at + 5) s)) n) r b in
-    (omega arith, omega arith, omega arith, ap (λ (k : ℕ). checkFrom (i .left - 1) name s (i .at + 2 + k)) (c .field-size .ensures .0) ∙ (m ∙ i .inv .3))
+    let s = c .before .before .before .before .before .before .before .before .before .before .before .args .notice .now in
+    let i = c .before .before .before .before .before .before .before .before .loop in
+    let l = lying (c .before .before .before .before .before) in
+    let f : i .at ≡ 0 → ⊥ = λ e. omega arith in
+    let b : beforeOf (lastNameAt s (i .last)) (nameAt s (i .at)) ≡ true = sym (c .before .before .rises .ensures) ∙ c .before .if2 .taken in
+    let m = right-field s (i .at) (lastNameAt s (i .last)) (i .left) (omega arith) (nameAt s (i .at)) refl (right (c .before .before .before .before .before)) b in (
+      omega arith,
+      omega arith,
+      now-last s (i .at) (c .before .before .before .key-of .result) f (right (c .before .before .before .before .before)) (key-is (c .before .before .before)),
+      ap (λ (t : List ℕ). checkFrom (i .left - 1) t s (i .at + 2 + c .field-size .result)) (last-name s (i .at) f)
+          ∙ (ap (λ (k : ℕ). checkFrom (i .left - 1) (nameAt s (i .at)) s (i .at + 2 + k)) (c .field-size .ensures .0) ∙ (m ∙ i .inv .3)),
+    )
 
 returns : tie.Need-returns Inv-loop μ-loop
 returns c =
-    let s = c .before .before .before .before .before .before .before .before .before .before .before .args .notice .now in
-    let i = c .before .before .before .before .before .before .before .before .loop in
-    let r = sym (c .before .before .before .before .before .before .stands .ensures) ∙ c .before .before .before .before .before .if1 .taken in
-    let n : i .at + 5 + c .before .before .before .before .name-size .result - (i .at + 5) ≡ nameSizeAt s (i .at) = omega arith in
-    let name = take (i .at + 5 + c .before .before .before .before .name-size .result - (i .at + 5)) (drop (i .at + 5) s) in
-    let last = take (i .last-end - i .last) (drop (i .last) s) in
-    let b : beforeOf last name ≡ false = ap₂ beforeOf (sym (not-folded last)) (sym (not-folded name)) ∙ (sym (c .before .before2 .ensures) ∙ c .if2 .left) in
-    wrong-order s (i .at) last (i .left) (omega arith) name (ap (λ (k : ℕ). take k (drop (i .at + 5) s)) n) r b ∙ i .inv .3
+    let s = c .before .before .before .before .before .before .before .before .before .before .args .notice .now in
+    let i = c .before .before .before .before .before .before .before .loop in
+    let b : beforeOf (lastNameAt s (i .last)) (nameAt s (i .at)) ≡ false = sym (c .before .rises .ensures) ∙ c .if2 .left in
+    wrong-order s (i .at) (lastNameAt s (i .last)) (i .left) (omega arith) (nameAt s (i .at)) refl (right (c .before .before .before .before)) b ∙ i .inv .3
 
 returns-2 : tie.Need-returns-2 Inv-loop μ-loop
 returns-2 c =
     let s = c .before .before .before .before .before .before .args .notice .now in
     let i = c .before .before .before .loop in
-    wrong-field s (i .at) (take (i .last-end - i .last) (drop (i .last) s)) (i .left) (omega arith) (sym (c .before .stands .ensures) ∙ c .if1 .left) ∙ i .inv .3
+    wrong-field s (i .at) (lastNameAt s (i .last)) (i .left) (omega arith) (sym (c .before .stands .ensures) ∙ c .if1 .left) ∙ i .inv .3
 
 returns-3 : tie.Need-returns-3 Inv-loop μ-loop
 returns-3 c =
     let s = c .before .before .before .before .before .args .notice .now in
     let i = c .before .before .loop in
     let z : i .left ≡ 0 = omega arith in
-    no-more s (i .at) (take (i .last-end - i .last) (drop (i .last) s)) (c .if3 .taken) ∙ (rw z at (i .inv .3))
+    no-more s (i .at) (lastNameAt s (i .last)) (c .if3 .taken) ∙ (rw z at (i .inv .3))
 
 returns-4 : tie.Need-returns-4 Inv-loop μ-loop
 returns-4 c =
     let s = c .before .before .before .before .before .args .notice .now in
     let i = c .before .before .loop in
     let z : i .left ≡ 0 = omega arith in
-    spare s (i .at) (take (i .last-end - i .last) (drop (i .last) s)) (c .if3 .left) ∙ (rw z at (i .inv .3))
+    spare s (i .at) (lastNameAt s (i .last)) (c .if3 .left) ∙ (rw z at (i .inv .3))
 
 pub check-fields-spec : {M : Type 1} → statement M
 check-fields-spec =
@@ -137,16 +126,10 @@ check-fields-spec =
     read-u16-requires
     loop-holds
     stands-requires
-    add-name
+    add-key-of
     name-size-requires
-    add-end
-    sub-before
-    part-before-start
-    part-before-end
-    sub-before-2
-    part-before-start-2
-    part-before-end-2
-    before-requires
+    key-of-requires
+    rises-requires
     add-at
     field-size-requires
     add-at-2

@@ -8,7 +8,8 @@ use Rattle.notice.specs.declared.Layout.the-variants.{WellFormed}
 use Rattle.notice.specs.Layout.{checkOf}
 use Rattle.notice.specs.Field.{Field}
 use Rattle.notice.specs.Write.{field, refusalIn, Insertable}
-use Rattle.notice.proofs.Inserts.{known, bytes-take}
+use Rattle.notice.proofs.Keys.{bytes-take}
+use Rattle.notice.proofs.Inserts.{known}
 use Rattle.notice.proofs.Renders.{well-header}
 use Rattle.notice.proofs.Writes.{past-buffer, faulty, refused, added}
 use borrow.Author.Needs.{needs}

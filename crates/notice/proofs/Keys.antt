@@ -1,0 +1,216 @@
+-- The keys of names: how they are read, and that they order names. Assumes nothing.
+use mathlib.Core.Path.{_≡_, refl, sym, ap, ap₂, _∙_}
+use mathlib.Core.Bool.{Bool, true, false, _&&_}
+use mathlib.Core.List.{List, [], _∷_}
+use Prim.Native.Nat.{ℕ, zero, suc, _+_, _*_, _-_, _%_, _^_, _≤_, _<_}
+use native.Mathlib.Nat.{pow-zero, pow-suc, add-mul, mul-assoc, mul-comm, add-mul-mod-self-right, mod-eq-of-lt, min-le-left}
+use native.Mathlib.Omega.{arith}
+use lib.Dec.{leb, ltb}
+use lib.ListN.{length, getD, take, drop, drop-of-length-le, length-take}
+use lib.Pow.{pow-add}
+use lib.Seq.{drop-nil, drop-cons, drop-drop, getD-drop}
+use borrow.Author.Tests.{leb-true, leb-false, le-ltb, eq-eqb, ne-eqb, ltb-true, ltb-false}
+use Rattle.word.specs.Word.{Bytes}
+use Rattle.octets.specs.Octets.{beforeOf}
+use Rattle.octets.proofs.Theorems.{and-parts}
+use Rattle.notice.specs.Field.{printable, fieldRight}
+use Rattle.notice.specs.Layout.{nameSizeAt, nameAt, fieldAt, liesAt, rightAt}
+use Rattle.notice.specs.Key.{lead, keyOf, lastNameAt, Last}
+use Rattle.notice.proofs.Places.{length-name, right-lies, right-name}
+
+-- parts of a slice of bytes
+pub bytes-take : (n : ℕ) (s : List ℕ) → Bytes s → Bytes (take n s)
+bytes-take zero s b i = omega arith
+bytes-take (suc n) [] b i = omega arith
+bytes-take (suc n) (x ∷ s) b zero = b 0
+bytes-take (suc n) (x ∷ s) b (suc i) = bytes-take n s (λ j. b (suc j)) i
+
+bytes-drop : (n : ℕ) (s : List ℕ) → Bytes s → Bytes (drop n s)
+bytes-drop n s b i = rw (getD-drop n s i 0) (b (n + i))
+
+-- the greater number stays greater, whatever bytes come after it
+lead-less : (k v w : ℕ) (s t : List ℕ) → Bytes s → v < w → lead k v s < lead k w t
+unfolding lead
+lead-less zero v w s t b h = h
+lead-less (suc k) v w [] [] b h = lead-less k (v * 256) (w * 256) [] [] b (omega arith)
+lead-less (suc k) v w [] (y ∷ t) b h = lead-less k (v * 256) (w * 256 + y) [] t b (omega arith)
+lead-less (suc k) v w (x ∷ s) [] b h = let l = b 0 in lead-less k (v * 256 + x) (w * 256) s [] (λ i. b (suc i)) (omega arith)
+lead-less (suc k) v w (x ∷ s) (y ∷ t) b h = let l = b 0 in lead-less k (v * 256 + x) (w * 256 + y) s t (λ i. b (suc i)) (omega arith)
+
+key-empty : 0 ≡ keyOf []
+unfolding lead
+key-empty = refl
+
+-- names by their keys
+printable-bytes : (s : List ℕ) → printable s ≡ true → Bytes s
+printable-bytes [] e i = omega arith
+printable-bytes (b ∷ s) e zero =
+    let p = and-parts (leb 32 b && leb b 126) (printable s) e in
+    let u : b ≤ 126 = leb-true b 126 (and-parts (leb 32 b) (leb b 126) (p .0) .1) in
+    omega arith
+printable-bytes (b ∷ s) e (suc i) = printable-bytes s (and-parts (leb 32 b && leb b 126) (printable s) e .1) i
+
+head-high : (b : ℕ) (s : List ℕ) → printable (b ∷ s) ≡ true → 32 ≤ b
+head-high b s e = leb-true 32 b (and-parts (leb 32 b) (leb b 126) (and-parts (leb 32 b && leb b 126) (printable s) e .0) .0)
+
+same-order : (a b : ℕ) (s t : List ℕ) → a ≡ b → beforeOf (a ∷ s) (b ∷ t) ≡ beforeOf s t
+same-order a b s t e = rw (le-ltb a b (omega arith), eq-eqb a b e)
+
+-- no name has the key of none
+key-some : (s : List ℕ) → printable s ≡ true → 1 ≤ length s → keyOf [] < keyOf s
+unfolding lead
+key-some [] p h = absurd (omega arith)
+key-some (b ∷ s) p h =
+    let l = head-high b s p in
+    lead-less 7 (0 * 256) (0 * 256 + b) [] s (λ i. omega arith) (omega arith)
+
+-- what the numbers say of the strings, after equal starts that stand for v
+pub less-before : (k v : ℕ) (s t : List ℕ) → printable s ≡ true → printable t ≡ true → lead k v s < lead k v t → true ≡ beforeOf s t
+unfolding lead
+less-before zero v s t p q h = absurd (omega arith)
+less-before (suc k) v [] [] p q h = absurd (omega arith)
+less-before (suc k) v [] (b ∷ t) p q h = refl
+less-before (suc k) v (a ∷ s) [] p q h =
+    let l = head-high a s p in
+    let m = lead-less k (v * 256) (v * 256 + a) [] s (λ i. omega arith) (omega arith) in
+    absurd (omega arith)
+less-before (suc k) v (a ∷ s) (b ∷ t) p q h = go (ltb a b) (ltb b a) refl refl (less-before k (v * 256 + b) s t (and-parts (leb 32 a && leb a 126) (printable s) p .1) (and-parts (leb 32 b && leb b 126) (printable t) q .1))
+  where
+    go : (x y : Bool) → ltb a b ≡ x → ltb b a ≡ y → (lead k (v * 256 + b) s < lead k (v * 256 + b) t → true ≡ beforeOf s t) → true ≡ beforeOf (a ∷ s) (b ∷ t)
+    go true y e f ih = rw e
+    go false true e f ih =
+        let l : b < a = ltb-true b a f in
+        let m = lead-less k (v * 256 + b) (v * 256 + a) t s (λ i. printable-bytes (b ∷ t) q (suc i)) (omega arith) in
+        absurd (omega arith)
+    go false false e f ih =
+        let z : a ≡ b = omega (arith, ltb-false a b e, ltb-false b a f) in
+        let g : lead k (v * 256 + b) s < lead k (v * 256 + b) t = rw z at h in
+        ih g ∙ sym (same-order a b s t z)
+
+pub less-after : (k v : ℕ) (s t : List ℕ) → printable s ≡ true → printable t ≡ true → lead k v t < lead k v s → false ≡ beforeOf s t
+unfolding lead
+less-after zero v s t p q h = absurd (omega arith)
+less-after (suc k) v [] [] p q h = refl
+less-after (suc k) v (a ∷ s) [] p q h = refl
+less-after (suc k) v [] (b ∷ t) p q h =
+    let l = head-high b t q in
+    let m = lead-less k (v * 256) (v * 256 + b) [] t (λ i. omega arith) (omega arith) in
+    absurd (omega arith)
+less-after (suc k) v (a ∷ s) (b ∷ t) p q h = go (ltb a b) (ltb b a) refl refl (less-after k (v * 256 + b) s t (and-parts (leb 32 a && leb a 126) (printable s) p .1) (and-parts (leb 32 b && leb b 126) (printable t) q .1))
+  where
+    go : (x y : Bool) → ltb a b ≡ x → ltb b a ≡ y → (lead k (v * 256 + b) t < lead k (v * 256 + b) s → false ≡ beforeOf s t) → false ≡ beforeOf (a ∷ s) (b ∷ t)
+    go true y e f ih =
+        let l : a < b = ltb-true a b e in
+        let m = lead-less k (v * 256 + a) (v * 256 + b) s t (λ i. printable-bytes (a ∷ s) p (suc i)) (omega arith) in
+        absurd (omega arith)
+    go false true e f ih = let l : b < a = ltb-true b a f in rw (e, ne-eqb a b (λ z. omega arith))
+    go false false e f ih =
+        let z : a ≡ b = omega (arith, ltb-false a b e, ltb-false b a f) in
+        let g : lead k (v * 256 + b) t < lead k (v * 256 + b) s = rw z at h in
+        ih g ∙ sym (same-order a b s t z)
+
+-- one byte more of eight
+pub lead-more : (v at i : ℕ) (s : List ℕ) → i < 8 → at + i < length s → lead (8 - (i + 1)) (v * 256 + getD s (at + i) 0) (drop (at + (i + 1)) s) ≡ lead (8 - i) v (drop (at + i) s)
+unfolding lead
+lead-more v at i s h l =
+    let e1 : 8 - i ≡ suc (8 - (i + 1)) = omega arith in
+    let e2 : at + (i + 1) ≡ suc (at + i) = omega arith in
+    rw (e1, e2, drop-cons s (at + i) 0 l)
+
+pub lead-all : (v : ℕ) (s : List ℕ) → lead 0 v s ≡ v
+unfolding lead
+lead-all v s = refl
+
+-- numbers of bytes: after none, after others, and what a shift leaves
+lead-nil : (k v : ℕ) → lead k v [] ≡ v * 256 ^ k
+unfolding lead
+lead-nil zero v = rw (pow-zero 256) (omega arith)
+lead-nil (suc k) v = lead-nil k (v * 256) ∙ rw (pow-suc 256 k, mul-assoc, mul-comm (256 ^ k) 256) refl
+
+lead-from : (k v : ℕ) (s : List ℕ) → lead k v s ≡ v * 256 ^ k + lead k 0 s
+unfolding lead
+lead-from zero v s = rw (pow-zero 256) (omega arith)
+lead-from (suc k) v [] =
+    let e = lead-nil (suc k) v in
+    let o : lead k (0 * 256) [] ≡ 0 = lead-nil k 0 ∙ omega arith in
+    e ∙ omega (arith, o)
+lead-from (suc k) v (b ∷ s) =
+    let e = lead-from k (v * 256 + b) s in
+    let f = lead-from k (0 * 256 + b) s in
+    let p1 : (v * 256 + b) * 256 ^ k ≡ v * 256 * 256 ^ k + b * 256 ^ k = add-mul (v * 256) b (256 ^ k) in
+    let p2 : v * 256 * 256 ^ k ≡ v * (256 ^ k * 256) = mul-assoc v 256 (256 ^ k) ∙ ap (λ (n : ℕ). v * n) (mul-comm 256 (256 ^ k)) in
+    let p3 : v * 256 ^ suc k ≡ v * (256 ^ k * 256) = ap (λ (n : ℕ). v * n) (pow-suc 256 k) in
+    let z : 0 * 256 + b ≡ b = omega arith in
+    let p4 : (0 * 256 + b) * 256 ^ k ≡ b * 256 ^ k = ap (λ (n : ℕ). n * 256 ^ k) z in
+    omega (arith, e, f, p1, p2, p3, p4)
+
+lead-parts : (j k v : ℕ) (s : List ℕ) → lead (j + k) v s ≡ lead k (lead j v s) (drop j s)
+unfolding lead
+lead-parts zero k v s = let z : 0 + k ≡ k = omega arith in rw z refl
+lead-parts (suc j) k v [] = let z : suc j + k ≡ suc (j + k) = omega arith in rw z (lead-parts j k (v * 256) [] ∙ ap (lead k (lead j (v * 256) [])) (drop-nil j))
+lead-parts (suc j) k v (b ∷ s) = let z : suc j + k ≡ suc (j + k) = omega arith in rw z (lead-parts j k (v * 256 + b) s)
+
+lead-take : (k n v : ℕ) (s : List ℕ) → k ≤ n → lead k v (take n s) ≡ lead k v s
+unfolding lead
+lead-take zero n v s h = refl
+lead-take (suc k) zero v s h = absurd (omega arith)
+lead-take (suc k) (suc n) v [] h = refl
+lead-take (suc k) (suc n) v (b ∷ s) h = lead-take k n (v * 256 + b) s (omega arith)
+
+lead-short : (k : ℕ) (s : List ℕ) → Bytes s → lead k 0 s < 256 ^ k
+lead-short k s b = let m = lead-less k 0 1 s [] b (omega arith) in let e = lead-nil k 1 in omega (arith, m, e)
+
+two-power : (m : ℕ) → 2 ^ (m * 8) ≡ 256 ^ m
+two-power zero = refl
+two-power (suc m) = let z : suc m * 8 ≡ m * 8 + 8 = omega arith in rw (z, pow-add 2 (m * 8) 8, pow-suc 256 m, two-power m) refl
+
+-- m bytes, and n of a name after them: the shift by m bytes leaves the key of the n
+shifted : (m n : ℕ) (s : List ℕ) → Bytes s → m + n ≡ 8 → (keyOf s * 2 ^ (m * 8)) % 2 ^ 64 ≡ keyOf (take n (drop m s))
+shifted m n s b z =
+    let u = drop m s in
+    let w = lead m 0 s in
+    let y : n + m ≡ 8 = omega arith in
+    let e1 : keyOf s ≡ lead n w u = ap (λ (k : ℕ). lead k 0 s) (sym z) ∙ lead-parts m n 0 s in
+    let e2 : keyOf s * 2 ^ (m * 8) ≡ lead m (lead n w u) [] = ap₂ _*_ e1 (two-power m) ∙ sym (lead-nil m (lead n w u)) in
+    let l : length (take n u) ≤ n = rw (length-take n u) (min-le-left n (length u)) in
+    let e3 : lead m (lead n w u) [] ≡ lead m (lead n w (take n u)) (drop n (take n u)) = ap₂ (lead m) (sym (lead-take n n w u (omega arith))) (sym (drop-of-length-le (take n u) l)) in
+    let e4 : lead m (lead n w (take n u)) (drop n (take n u)) ≡ lead 8 w (take n u) = sym (lead-parts n m w (take n u)) ∙ ap (λ (k : ℕ). lead k w (take n u)) y in
+    let e5 : lead 8 w (take n u) ≡ keyOf (take n u) + w * 2 ^ 64 = lead-from 8 w (take n u) ∙ omega arith in
+    ap (λ (x : ℕ). x % 2 ^ 64) (e2 ∙ e3 ∙ e4 ∙ e5) ∙ add-mul-mod-self-right (keyOf (take n u)) w (2 ^ 64) ∙ mod-eq-of-lt (lead-short 8 (take n u) (bytes-take n u (bytes-drop m s b)))
+
+pub key-read : (m n at : ℕ) (s : List ℕ) → Bytes s → m ≡ 8 - n → m ≤ at → (keyOf (drop (at - m) s) * 2 ^ (m * 8)) % 2 ^ 64 ≡ keyOf (take n (drop at s))
+key-read m n at s b z h = go (leb n 8) refl
+  where
+    on : drop m (drop (at - m) s) ≡ drop at s
+    on = let e : at - m + m ≡ at = omega arith in drop-drop m (at - m) s ∙ ap (λ (k : ℕ). drop k s) e
+
+    go : (t : Bool) → leb n 8 ≡ t → (keyOf (drop (at - m) s) * 2 ^ (m * 8)) % 2 ^ 64 ≡ keyOf (take n (drop at s))
+    go true e = shifted m n (drop (at - m) s) (bytes-drop (at - m) s b) (omega (arith, leb-true n 8 e)) ∙ ap (λ (t : List ℕ). keyOf (take n t)) on
+    go false e =
+        let l : 8 < n = leb-false n 8 e in
+        shifted m 8 (drop (at - m) s) (bytes-drop (at - m) s b) (omega arith) ∙ (ap (λ (t : List ℕ). keyOf (take 8 t)) on
+        ∙ (lead-take 8 8 0 (drop at s) (omega arith) ∙ sym (lead-take 8 n 0 (drop at s) (omega arith))))
+
+-- the last field's name, and that there is one where a key does not rise
+pub last-name : (s : List ℕ) (last : ℕ) → (last ≡ 0 → ⊥) → lastNameAt s last ≡ nameAt s last
+last-name s last f = rw (ne-eqb last 0 f)
+
+pub some-last : (s : List ℕ) (last at last-key key : ℕ) → Last s last last-key → rightAt s at ≡ true → key ≡ keyOf (nameAt s at) → key ≤ last-key → last ≡ 0 → ⊥
+some-last s last at last-key key l r e h z =
+    let n = right-name s at r in
+    let m : length (nameAt s at) ≡ nameSizeAt s at = length-name s at (right-lies s at r) in
+    let k = key-some (nameAt s at) (n .1) (omega (arith, m, n .0)) in
+    let y : lastNameAt s last ≡ [] = rw (eq-eqb last 0 z) in
+    let f : last-key ≡ keyOf [] = l .key-is ∙ ap keyOf y in
+    omega (arith, k, f, e, h)
+
+-- a right field is the last one of the next turn; before the first turn there is none
+pub now-last : (s : List ℕ) (at key : ℕ) → (at ≡ 0 → ⊥) → rightAt s at ≡ true → key ≡ keyOf (nameAt s at) → Last s at key
+now-last s at key f r e = record {
+  lies = λ g. and-parts (liesAt s at) (fieldRight (fieldAt s at)) r .0;
+  right = ap printable (last-name s at f) ∙ right-name s at r .1;
+  key-is = e ∙ ap keyOf (sym (last-name s at f));
+}
+
+pub none-last : (s : List ℕ) → Last s 0 0
+none-last s = record { lies = λ f. absurd (f refl); right = refl; key-is = key-empty }

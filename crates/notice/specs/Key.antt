@@ -1,0 +1,27 @@
+-- A name's key: its first eight bytes as one number. Names with other keys have the keys' order. Document 01, "Notice": "Names rise strictly by bytes, a prefix before the longer."
+use Prim.Native.Nat.{ℕ, zero, suc, _+_, _*_}
+use mathlib.Core.Path.{_≡_}
+use mathlib.Core.Bool.{true, cond}
+use mathlib.Core.List.{List, [], _∷_}
+use lib.Dec.{eqb}
+use Rattle.notice.specs.Field.{printable}
+use Rattle.notice.specs.Layout.{nameAt, liesAt}
+
+-- the number of v and the k bytes after it, greatest first; a byte past the end counts as 0
+unfoldable pub lead : ℕ → ℕ → List ℕ → ℕ
+lead zero v s = v
+lead (suc k) v [] = lead k (v * 256) []
+lead (suc k) v (b ∷ s) = lead k (v * 256 + b) s
+
+abbrev pub keyOf : List ℕ → ℕ
+keyOf name = lead 8 0 name
+
+-- the name of the last field, which starts at `last`; before the first field there is none, and `last` is 0
+abbrev pub lastNameAt : List ℕ → ℕ → List ℕ
+lastNameAt s last = cond (eqb last 0) [] (nameAt s last)
+
+-- what is known of the last field: it lies within the notice, its name is right, and this is its key
+pub record Last (s : List ℕ) (last key : ℕ) : Type 0 where
+  pub lies : (last ≡ 0 → ⊥) → liesAt s last ≡ true
+  pub right : printable (lastNameAt s last) ≡ true
+  pub key-is : key ≡ keyOf (lastNameAt s last)
