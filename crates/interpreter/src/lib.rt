@@ -146,8 +146,8 @@ pub fn run_checked<'a>(table: &'a [u8], notice: &'a [u8], budget: usize) -> Mach
                 Binary::Combine(o) => {
                     let i = depth - 2;
                     let j = depth - 1;
-                    let s = stack[i];
                     let t = stack[j];
+                    let s = stack[i];
                     let x = s.held;
                     let y = t.held;
                     let h = value::combine(o, x, y);
@@ -158,8 +158,8 @@ pub fn run_checked<'a>(table: &'a [u8], notice: &'a [u8], budget: usize) -> Mach
                 Binary::Compare(o) => {
                     let i = depth - 2;
                     let j = depth - 1;
-                    let s = stack[i];
                     let t = stack[j];
+                    let s = stack[i];
                     let x = s.held;
                     let y = t.held;
                     let h = value::compare(pool, notice, o, x, y);
@@ -170,8 +170,8 @@ pub fn run_checked<'a>(table: &'a [u8], notice: &'a [u8], budget: usize) -> Mach
                 Binary::Connect(o) => {
                     let i = depth - 2;
                     let j = depth - 1;
-                    let s = stack[i];
                     let t = stack[j];
+                    let s = stack[i];
                     let x = s.held;
                     let y = t.held;
                     let h = value::connect(o, x, y);

@@ -391,17 +391,17 @@ sub-i-4 c = omega (arith, binary-fits (c .before .before .before .before .before
 sub-j : tie.Need-sub-j Inv-loop2 μ-loop2 Inv-loop μ-loop
 sub-j c = omega (arith, binary-fits (c .before .before .before .before .before .before) (c .before .before .before .before .op3 .given .1))
 
-mul-s-4 : tie.Need-mul-s-4 Inv-loop2 μ-loop2 Inv-loop μ-loop
-mul-s-4 c = omega (arith, binary-fits (c .before .before .before .before .before .before) (c .before .before .before .before .op3 .given .1))
-
-array-copy-out-s-4 : tie.Need-array-copy-out-s-4 Inv-loop2 μ-loop2 Inv-loop μ-loop
-array-copy-out-s-4 c = omega (arith, binary-fits (c .before .before .before .before .before .before) (c .before .before .before .before .op3 .given .1))
-
 mul-t : tie.Need-mul-t Inv-loop2 μ-loop2 Inv-loop μ-loop
-mul-t c = omega (arith, binary-fits (c .before .before .before .before .before .before .before) (c .before .before .before .before .before .op3 .given .1))
+mul-t c = omega (arith, binary-fits (c .before .before .before .before .before .before) (c .before .before .before .before .op3 .given .1))
 
 array-copy-out-t : tie.Need-array-copy-out-t Inv-loop2 μ-loop2 Inv-loop μ-loop
-array-copy-out-t c = omega (arith, binary-fits (c .before .before .before .before .before .before .before) (c .before .before .before .before .before .op3 .given .1))
+array-copy-out-t c = omega (arith, binary-fits (c .before .before .before .before .before .before) (c .before .before .before .before .op3 .given .1))
+
+mul-s-4 : tie.Need-mul-s-4 Inv-loop2 μ-loop2 Inv-loop μ-loop
+mul-s-4 c = omega (arith, binary-fits (c .before .before .before .before .before .before .before) (c .before .before .before .before .before .op3 .given .1))
+
+array-copy-out-s-4 : tie.Need-array-copy-out-s-4 Inv-loop2 μ-loop2 Inv-loop μ-loop
+array-copy-out-s-4 c = omega (arith, binary-fits (c .before .before .before .before .before .before .before) (c .before .before .before .before .before .op3 .given .1))
 
 combine-requires : tie.Need-combine-requires Inv-loop2 μ-loop2 Inv-loop μ-loop
 combine-requires c κs = search needs
@@ -427,17 +427,17 @@ sub-i-5 c = omega (arith, binary-fits (c .before .before .before .before .before
 sub-j-2 : tie.Need-sub-j-2 Inv-loop2 μ-loop2 Inv-loop μ-loop
 sub-j-2 c = omega (arith, binary-fits (c .before .before .before .before .before .before) (c .before .before .before .before .op3 .given .1))
 
-mul-s-5 : tie.Need-mul-s-5 Inv-loop2 μ-loop2 Inv-loop μ-loop
-mul-s-5 c = omega (arith, binary-fits (c .before .before .before .before .before .before) (c .before .before .before .before .op3 .given .1))
-
-array-copy-out-s-5 : tie.Need-array-copy-out-s-5 Inv-loop2 μ-loop2 Inv-loop μ-loop
-array-copy-out-s-5 c = omega (arith, binary-fits (c .before .before .before .before .before .before) (c .before .before .before .before .op3 .given .1))
-
 mul-t-2 : tie.Need-mul-t-2 Inv-loop2 μ-loop2 Inv-loop μ-loop
-mul-t-2 c = omega (arith, binary-fits (c .before .before .before .before .before .before .before) (c .before .before .before .before .before .op3 .given .1))
+mul-t-2 c = omega (arith, binary-fits (c .before .before .before .before .before .before) (c .before .before .before .before .op3 .given .1))
 
 array-copy-out-t-2 : tie.Need-array-copy-out-t-2 Inv-loop2 μ-loop2 Inv-loop μ-loop
-array-copy-out-t-2 c = omega (arith, binary-fits (c .before .before .before .before .before .before .before) (c .before .before .before .before .before .op3 .given .1))
+array-copy-out-t-2 c = omega (arith, binary-fits (c .before .before .before .before .before .before) (c .before .before .before .before .op3 .given .1))
+
+mul-s-5 : tie.Need-mul-s-5 Inv-loop2 μ-loop2 Inv-loop μ-loop
+mul-s-5 c = omega (arith, binary-fits (c .before .before .before .before .before .before .before) (c .before .before .before .before .before .op3 .given .1))
+
+array-copy-out-s-5 : tie.Need-array-copy-out-s-5 Inv-loop2 μ-loop2 Inv-loop μ-loop
+array-copy-out-s-5 c = omega (arith, binary-fits (c .before .before .before .before .before .before .before) (c .before .before .before .before .before .op3 .given .1))
 
 compare-requires : tie.Need-compare-requires Inv-loop2 μ-loop2 Inv-loop μ-loop
 compare-requires c κs = search needs
@@ -463,17 +463,17 @@ sub-i-6 c = omega (arith, binary-fits (c .before .before .before .before .before
 sub-j-3 : tie.Need-sub-j-3 Inv-loop2 μ-loop2 Inv-loop μ-loop
 sub-j-3 c = omega (arith, binary-fits (c .before .before .before .before .before .before) (c .before .before .before .before .op3 .given .1))
 
-mul-s-6 : tie.Need-mul-s-6 Inv-loop2 μ-loop2 Inv-loop μ-loop
-mul-s-6 c = omega (arith, binary-fits (c .before .before .before .before .before .before) (c .before .before .before .before .op3 .given .1))
-
-array-copy-out-s-6 : tie.Need-array-copy-out-s-6 Inv-loop2 μ-loop2 Inv-loop μ-loop
-array-copy-out-s-6 c = omega (arith, binary-fits (c .before .before .before .before .before .before) (c .before .before .before .before .op3 .given .1))
-
 mul-t-3 : tie.Need-mul-t-3 Inv-loop2 μ-loop2 Inv-loop μ-loop
-mul-t-3 c = omega (arith, binary-fits (c .before .before .before .before .before .before .before) (c .before .before .before .before .before .op3 .given .1))
+mul-t-3 c = omega (arith, binary-fits (c .before .before .before .before .before .before) (c .before .before .before .before .op3 .given .1))
 
 array-copy-out-t-3 : tie.Need-array-copy-out-t-3 Inv-loop2 μ-loop2 Inv-loop μ-loop
-array-copy-out-t-3 c = omega (arith, binary-fits (c .before .before .before .before .before .before .before) (c .before .before .before .before .before .op3 .given .1))
+array-copy-out-t-3 c = omega (arith, binary-fits (c .before .before .before .before .before .before) (c .before .before .before .before .op3 .given .1))
+
+mul-s-6 : tie.Need-mul-s-6 Inv-loop2 μ-loop2 Inv-loop μ-loop
+mul-s-6 c = omega (arith, binary-fits (c .before .before .before .before .before .before .before) (c .before .before .before .before .before .op3 .given .1))
+
+array-copy-out-s-6 : tie.Need-array-copy-out-s-6 Inv-loop2 μ-loop2 Inv-loop μ-loop
+array-copy-out-s-6 c = omega (arith, binary-fits (c .before .before .before .before .before .before .before) (c .before .before .before .before .before .op3 .given .1))
 
 connect-requires : tie.Need-connect-requires Inv-loop2 μ-loop2 Inv-loop μ-loop
 connect-requires c κs = search needs
@@ -703,10 +703,10 @@ run-checked-spec =
     enum-known-k-3
     sub-i-4
     sub-j
-    mul-s-4
-    array-copy-out-s-4
     mul-t
     array-copy-out-t
+    mul-s-4
+    array-copy-out-s-4
     combine-requires
     mul-stack-9
     array-set-from-stack-9
@@ -715,10 +715,10 @@ run-checked-spec =
     enum-known-k-4
     sub-i-5
     sub-j-2
-    mul-s-5
-    array-copy-out-s-5
     mul-t-2
     array-copy-out-t-2
+    mul-s-5
+    array-copy-out-s-5
     compare-requires
     mul-stack-10
     array-set-from-stack-10
@@ -727,10 +727,10 @@ run-checked-spec =
     enum-known-k-5
     sub-i-6
     sub-j-3
-    mul-s-6
-    array-copy-out-s-6
     mul-t-3
     array-copy-out-t-3
+    mul-s-6
+    array-copy-out-s-6
     connect-requires
     mul-stack-11
     array-set-from-stack-11
