@@ -51,6 +51,7 @@ fn stride(skip: Skip, a: u16, top: Held) -> usize
 
 // The inner run: at most `budget` visits, or as many as there are. It asks for a table that passes the check, so that a caller checks a table once and runs it often; the notice may be any bytes.
 // The stack is updated in place, and the numbers stand beside it, so that they stay in registers. Each group of operators stores its own answer and goes on: where the groups meet, a slot would be put together from its parts.
+// Of two operands the second is read first: the slot that is written is then the one that was read last, and the compiler copies nothing between the two.
 pub fn run_checked<'a>(table: &'a [u8], notice: &'a [u8], budget: usize) -> Machine
     requires { ⌜ checkOf (now table) ≡ true ⌝ }
     ensures { λ r. ⌜ (stateOf (poolOf (now (table .entry))) (now (notice .entry)) r ≡ after (decode (now (table .entry))) (now (notice .entry)) budget) × (r .depth ≤ 32) ⌝ }
