@@ -53,6 +53,3 @@ module _ (f : Held → Item) (xs : List Slot) where
       ap (λ (q : ℕ). reverse (take q st)) e
       ∙ ap reverse (take-suc st k (logic Bottom) l ∙ ap (λ (y : Item). take k st ++ (y ∷ [])) g)
       ∙ reverse-append (take k st) (x ∷ [])
-
-  pub stack-none : (d : ℕ) → reverse (take (d - d) (stackOf f xs d)) ≡ []
-  stack-none d = let e : d - d ≡ 0 = omega arith in rw e

@@ -10,4 +10,3 @@ pub mod Reached
 pub mod Theorems
 pub mod Answer
 pub mod Passing
-pub mod Entries

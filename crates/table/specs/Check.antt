@@ -82,9 +82,6 @@ flowBy op a s = push (givesOf op) (pop (takesOf op a) s)
 abbrev pub after : Entry → Option (List Kind) → Option (List Kind)
 after e s = flowBy (opOf (e .op)) (e .a) s
 
-abbrev pub flowOf : Entry → List Kind → Option (List Kind)
-flowOf e ks = after e (some ks)
-
 -- the kinds before the entry i, where those before the first are s; the entry's index may be the end, N
 unfoldable pub shapeFrom : List Entry → Option (List Kind) → ℕ → Option (List Kind)
 shapeFrom es s zero = s

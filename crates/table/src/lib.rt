@@ -33,19 +33,7 @@ pub fn count(table: &[u8]) -> usize
     word::read_u16(table, 6) as usize
 }
 
-// The entry i. It tests nothing: it asks that the entry lies in the table, which the layout says of each.
-pub fn entry_at(table: &[u8], i: usize) -> Entry
-    requires { ⌜ 22 + 12 * i ≤ length (now table) ⌝ }
-    ensures { λ r. ⌜ r ≡ entryAt (now (table .entry)) i ⌝ }
-{
-    let at = 12 * i;
-    let op = word::read_u16(table, 10 + at);
-    let a = word::read_u16(table, 12 + at);
-    let b = word::read_u64(table, 14 + at);
-    Entry { op: op, a: a, b: b }
-}
-
-// The op, the a and the b of the entry i alone: where one of them is not needed, it is not read.
+// The op, the a and the b of the entry i, each alone: where one of them is not needed, it is not read. They test nothing: they ask that the entry lies in the table, which the layout says of each.
 pub fn op_at(table: &[u8], i: usize) -> u16
     requires { ⌜ 22 + 12 * i ≤ length (now table) ⌝ }
     ensures { λ r. ⌜ r ≡ entryAt (now (table .entry)) i .op ⌝ }
@@ -65,6 +53,17 @@ pub fn b_at(table: &[u8], i: usize) -> u64
     ensures { λ r. ⌜ r ≡ entryAt (now (table .entry)) i .b ⌝ }
 {
     word::read_u64(table, 14 + 12 * i)
+}
+
+// The entry i. It asks for the same.
+pub fn entry_at(table: &[u8], i: usize) -> Entry
+    requires { ⌜ 22 + 12 * i ≤ length (now table) ⌝ }
+    ensures { λ r. ⌜ r ≡ entryAt (now (table .entry)) i ⌝ }
+{
+    let op = op_at(table, i);
+    let a = a_at(table, i);
+    let b = b_at(table, i);
+    Entry { op: op, a: a, b: b }
 }
 
 // The pool, as a part of the table. It asks that the entries lie in the table, which the layout says.
