@@ -35,7 +35,7 @@ fn field_value(notice: &[u8], kind: u16, start: u16, len: u16) -> Typed
         3 => Typed::Real(number::real_of_bits(first_word(s, 8))),
         4 => Typed::Text(in_notice(start, len)),
         5 => Typed::Opaque(in_notice(start, len)),
-        _ => Typed::Missing,
+        _ => Typed::Bottom,
     }
 }
 
@@ -58,6 +58,6 @@ pub fn named<'a>(pool: &'a [u8], notice: &'a [u8], name: Piece) -> Typed
     let found = notice::lookup(notice, key);
     match found {
         Found::At { kind, start, len } => field_value(notice, kind, start, len),
-        Found::Nothing => Typed::Missing,
+        Found::Nothing => Typed::Bottom,
     }
 }
