@@ -109,8 +109,8 @@ module _ {s : List ℕ} (notice : List ℕ) {t : State} (checked : checkOf s ≡
   pub visit-sound : Sound s (visit (poolOf s) notice (entryAt s (t .next)) t)
   visit-sound = by (opOf (entryAt s (t .next) .op)) refl
 
--- visits after visits, and one more
 module _ (p : Program) (notice : List ℕ) where
+  -- visits after visits, and one more
   pub more-visits : (j k : ℕ) (t : State) → afterFrom p notice (j + k) t ≡ afterFrom p notice k (afterFrom p notice j t)
   unfolding afterFrom
   more-visits zero k t = let e : 0 + k ≡ k = omega arith in rw e
@@ -120,6 +120,12 @@ module _ (p : Program) (notice : List ℕ) where
   unfolding afterFrom
   after-next k = more-visits k 1 start
 
+  -- at the end nothing changes
+  pub stays : (k : ℕ) (t : State) → length (p .entries) ≤ t .next → afterFrom p notice k t ≡ t
+  unfolding afterFrom
+  stays zero t h = refl
+  stays (suc k) t h = rw (le-ltb (t .next) (length (p .entries)) h) (stays k t h)
+
 module _ (s notice : List ℕ) where
   -- the rule, before the end and at it
   pub rule-more : (t : State) → t .next < countOf s → rule (decode s) notice t ≡ visit (poolOf s) notice (entryAt s (t .next)) t
@@ -128,10 +134,8 @@ module _ (s notice : List ℕ) where
   pub rule-ended : (t : State) → countOf s ≤ t .next → rule (decode s) notice t ≡ t
   rule-ended t h = rw (length-entries s, le-ltb (t .next) (countOf s) h)
 
-  pub after-ended : (k : ℕ) (t : State) → countOf s ≤ t .next → afterFrom (decode s) notice k t ≡ t
-  unfolding afterFrom
-  after-ended zero t h = refl
-  after-ended (suc k) t h = ap (afterFrom (decode s) notice k) (rule-ended t h) ∙ after-ended k t h
+  after-ended : (k : ℕ) (t : State) → countOf s ≤ t .next → afterFrom (decode s) notice k t ≡ t
+  after-ended k t h = stays (decode s) notice k t (omega (arith, length-entries s))
 
   -- where the run has ended, more visits change nothing
   pub after-past : (j k : ℕ) → j ≤ k → countOf s ≤ after (decode s) notice j .next → after (decode s) notice k ≡ after (decode s) notice j

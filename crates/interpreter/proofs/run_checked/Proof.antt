@@ -25,7 +25,6 @@ use Rattle.value.specs.Held.{itemOf}
 use Rattle.value.specs.declared.Held.{Held}
 use Rattle.value.specs.declared.Slot.{Slot}
 use Rattle.interpreter.specs.declared.Machine.{Machine}
-use Rattle.interpreter.specs.Run.{State}
 use Rattle.interpreter.specs.Machine.{blank, stackOf}
 use Rattle.interpreter.proofs.Stack.{stack-up}
 use Rattle.interpreter.proofs.Visits.{Going, Within, heldAt, begin, spent, ended, low, few, entry-fits, counted, room, many-room, skip-room, load-law, unary-law, binary-law, many-law, skip-law, no-unknown, within}
