@@ -65,6 +65,7 @@ visited : {s notice : List ℕ} {k : ℕ} {m : Machine} → checkOf s ≡ true �
 visited {s} {notice} {k} {m} c e = record { state = e; inside = omega (arith, as-many s notice k m e, stack-small s notice c k) }
 
 module _ {s pool notice : List ℕ} {n : ℕ} {m : Machine} (l : Going s pool notice n m) where
+  -- the state over the loop's own pool, and its soundness, which every state of the rule has
   state : stateOf pool notice m ≡ after (decode s) notice (m .steps)
   state = ap (λ (p : List ℕ). stateOf p notice m) (l .strings) ∙ l .follows .state
 

@@ -3,7 +3,7 @@
 -- Take any accepted text, one to which no refusal of translation applies but perhaps that for a short buffer; any lent buffer with room for its table; and any well-formed notice. The table that
 -- translation writes, of the length that it answers, passes the table check. Running it on that notice is not refused. The verdict answered equals the meaning of the text on that notice when every
 -- part of the expression is worked out and nothing is skipped. The verdict and the steps answered are exactly those of document 01's run of that table on that notice. Neither that run nor the
--- interpreter ever holds more than 32 values on its stack.
+-- runner ever holds more than 32 values on its stack.
 --
 -- `DemandThree` says it of the answers of `translate`, `check`, `run` and `run_checked`, by their promises; `Matches` is the promise of `match_text`, which calls all four and carries it as well. The proofs are in proofs/Demand.antt.
 use Prim.Native.Nat.{ℕ, _≤_}
@@ -69,7 +69,7 @@ pub record Calls (text buffer notice : List ℕ) (visits : ℕ) : Type 0 where
   -- `run(table, notice)`
   pub ran : Ran
   pub runs : ran ≡ runningOf (take (translated .length) written) notice
-  -- `run_checked(table, notice, visits)`, the runner's machine after that many visits; it asks for a table that passes the check
+  -- `run_checked(table, notice, visits)`, by which `run` makes its visits: the runner's machine after that many; it asks for a table that passes the check
   pub machine : Machine
   pub runner : tableCheck (take (translated .length) written) ≡ true → Visited (take (translated .length) written) notice visits machine
 
