@@ -22,7 +22,7 @@ use Rattle.translator.specs.Compile.{codeOf, compile}
 use Rattle.translator.specs.Depth.{mostSlots}
 use Rattle.translator.specs.Translation.{Outcome, refusal, refusalOf, ofTree, ofResult, ofTokens, ofLexed, translationOf}
 use Rattle.translator.specs.Theorems.{Expression, Right, Accepted, Given, long, formless, outside, deep, broken, form, kind, many, high, short, none, GivenExactly}
-use Rattle.translator.proofs.Ways.{Way, before, at-tree, way}
+use Rattle.translator.proofs.Stages.{Stage, before, at-tree, stage}
 use Rattle.translator.proofs.Fits.{outcomeBy}
 use Rattle.translator.proofs.Filling.{table-size, by-4, by-5, by-7, by-8, by-9, refusal-by}
 use Rattle.translator.proofs.Theorems.{of-tree, tree-is, writes-table, table-sizes}
@@ -58,9 +58,9 @@ module _ (s : List ℕ) (room : ℕ) (bytes : Bytes s) where
       go true true true false false false p q r u v w =
           none t (record { expression = x; right = record { forms = p; kinds = q; logic = r }; few = ltb-false 512 (entriesOf t) u; low = ltb-false 32 (depthOf t) v }) (ltb-false room (length (encode (compile t))) w)
 
-  way-given : {o : Outcome} → Way s room o → Given s room (o .number) (o .place)
-  way-given (before k place g some) = g
-  way-given (at-tree t x) = tree-given t x
+  stage-given : {o : Outcome} → Stage s room o → Given s room (o .number) (o .place)
+  stage-given (before k place g some) = g
+  stage-given (at-tree t x) = tree-given t x
 
   -- ---- what is given is answered
 
@@ -91,4 +91,4 @@ module _ (s : List ℕ) (room : ℕ) (bytes : Bytes s) where
 
 pub given-exactly : GivenExactly
 given-exactly s room number place bytes =
-    (λ h. rw (← (h .0), ← (h .1)) (way-given s room bytes (way s room)), λ g. answered s room bytes g)
+    (λ h. rw (← (h .0), ← (h .1)) (stage-given s room bytes (stage s room)), λ g. answered s room bytes g)

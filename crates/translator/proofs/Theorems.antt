@@ -27,7 +27,7 @@ use Rattle.translator.proofs.Passes as passes
 use Rattle.translator.proofs.Brought.{tree-small}
 use Rattle.translator.proofs.Lexed.{lexed-text}
 use Rattle.translator.proofs.Filling.{table-size, whole-level, by-0, free, refusal-by}
-use Rattle.translator.proofs.Ways.{Way, before, at-tree, way}
+use Rattle.translator.proofs.Stages.{Stage, before, at-tree, stage}
 
 -- ---- the answer
 
@@ -55,9 +55,9 @@ tree-is t room = go (eqb (refusalOf t room) 0) refl
     go false e = (refl, refl)
 
 accepted : (s : List ℕ) (room : ℕ) → translationOf s room .number ≡ 0 → (t : Tree) × Accepted s t × (length (encode (compile t)) ≤ room)
-accepted s room e = go (way s room) e
+accepted s room e = go (stage s room) e
   where
-    go : {o : Outcome} → Way s room o → o .number ≡ 0 → (t : Tree) × Accepted s t × (length (encode (compile t)) ≤ room)
+    go : {o : Outcome} → Stage s room o → o .number ≡ 0 → (t : Tree) × Accepted s t × (length (encode (compile t)) ≤ room)
     go (before k place g some) h = absurd (omega arith)
     go (at-tree t x) h =
         let f = free (foundOf t) room (sym (refusal-by t room) ∙ sym (tree-is t room .0) ∙ h) in

@@ -1,4 +1,4 @@
--- How translation comes to its answer: a refusal before the tree, or the tree. Assumes nothing.
+-- Where translation comes to its answer: before there is a tree, or by the tree. Assumes nothing.
 use Prim.Native.Nat.{ℕ, _+_, _≤_, _<_}
 use native.Mathlib.Omega.{arith}
 use mathlib.Core.Path.{_≡_, refl, sym, ap, _∙_, subst}
@@ -52,34 +52,34 @@ laid-numbered : (k place at : ℕ) (ps : List Placed) (s : List ℕ) → Laid (B
 laid-numbered k place at [] s l = subst Numbered (l .4 .3) (scan-numbered (l .1))
 laid-numbered k place at (p ∷ ps) s l = laid-numbered k place (p .start + length (l .1)) ps (l .2) (l .8)
 
-pub data Way (s : List ℕ) (room : ℕ) : Outcome → Type 0 where
-  before : (k place : ℕ) → Given s room k place → 0 < k → Way s room (refusal k place)
-  at-tree : (t : Tree) → Expression s t → Way s room (ofTree t room)
+pub data Stage (s : List ℕ) (room : ℕ) : Outcome → Type 0 where
+  before : (k place : ℕ) → Given s room k place → 0 < k → Stage s room (refusal k place)
+  at-tree : (t : Tree) → Expression s t → Stage s room (ofTree t room)
 
-pub way : (s : List ℕ) (room : ℕ) → Way s room (translationOf s room)
+pub stage : (s : List ℕ) (room : ℕ) → Stage s room (translationOf s room)
 unfolding translationOf ofLexed ofTokens ofResult
-way s room = by-lexed (tokensOf s) refl
+stage s room = by-lexed (tokensOf s) refl
   where
     by-parsed : (ps : List Placed) → tokensOf s ≡ tokens ps → tooDeep (map (λ p. kindOf (p .token)) ps) ≡ false → (x : Result) → parseAll (map (λ p. p .token) ps) ≡ x
-        → Way s room (ofResult (length s) (map (λ p. p .start) ps) room x)
+        → Stage s room (ofResult (length s) (map (λ p. p .start) ps) room x)
     by-parsed ps q d (ok t n) r =
         let ks = map (λ p. p .token) ps in
         at-tree t (record { placed = ps; lexed = q; shallow = d; derived = parses ks t .0 (r ∙ ap (ok t) (whole-level ks r .1)) })
     by-parsed ps q d (unfit p) r = before 2 _ (broken ps p q d (names-place (map (λ p. p .token) ps) p .0 r)) (omega arith)
 
     by-deep : (ps : List Placed) → tokensOf s ≡ tokens ps → (b : Bool) → tooDeep (map (λ p. kindOf (p .token)) ps) ≡ b
-        → Way s room (lexer.pick b (λ _. refusal 6 0) (λ _. ofResult (length s) (map (λ p. p .start) ps) room (parseAll (map (λ p. p .token) ps))))
+        → Stage s room (lexer.pick b (λ _. refusal 6 0) (λ _. ofResult (length s) (map (λ p. p .start) ps) room (parseAll (map (λ p. p .token) ps))))
     by-deep ps q true d = before 6 0 (deep ps q d) (omega arith)
     by-deep ps q false d = by-parsed ps q d (parseAll (map (λ p. p .token) ps)) refl
 
-    by-number : (k place : ℕ) (ps : List Placed) → length s ≤ 4096 → Laid (BadToken k place) 0 ps s → (k ≡ 1) ⊎ (k ≡ 3) → Way s room (refusal k place)
+    by-number : (k place : ℕ) (ps : List Placed) → length s ≤ 4096 → Laid (BadToken k place) 0 ps s → (k ≡ 1) ⊎ (k ≡ 3) → Stage s room (refusal k place)
     by-number k place ps h l (inl e) = before k place (subst (λ (n : ℕ). Given s room n place) (sym e) (formless place ps h (subst (λ (n : ℕ). Laid (BadToken n place) 0 ps s) e l))) (omega arith)
     by-number k place ps h l (inr e) = before k place (subst (λ (n : ℕ). Given s room n place) (sym e) (outside place ps h (subst (λ (n : ℕ). Laid (BadToken n place) 0 ps s) e l))) (omega arith)
 
-    by-token : (k place : ℕ) (ps : List Placed) → ((length s ≤ 4096) × Laid (BadToken k place) 0 ps s) ⊎ ((4096 < length s) × (k ≡ 10) × (place ≡ 0) × (ps ≡ [])) → Way s room (refusal k place)
+    by-token : (k place : ℕ) (ps : List Placed) → ((length s ≤ 4096) × Laid (BadToken k place) 0 ps s) ⊎ ((4096 < length s) × (k ≡ 10) × (place ≡ 0) × (ps ≡ [])) → Stage s room (refusal k place)
     by-token k place ps (inl h) = by-number k place ps (h .0) (h .1) (laid-numbered k place 0 ps s (h .1))
     by-token k place ps (inr h) = rw (h .1, h .2) (before 10 0 (long (h .0)) (omega arith))
 
-    by-lexed : (l : Lexed) → tokensOf s ≡ l → Way s room (ofLexed (length s) room l)
+    by-lexed : (l : Lexed) → tokensOf s ≡ l → Stage s room (ofLexed (length s) room l)
     by-lexed (tokens ps) q = by-deep ps q (tooDeep (map (λ p. kindOf (p .token)) ps)) refl
     by-lexed (refused k place ps) q = by-token k place ps (first-bad s k place ps .0 q)
