@@ -52,14 +52,14 @@ written-table o buffer written r h a = rw (a .answer, a .bytes) (stored buffer (
 
 module _ (text notice : List ℕ) (tree : Tree) (b : Bytes text) (a : Accepted text tree) where
   made : Made tree
-  made = accepted-made (map (λ p. p .token) (a .placed)) tree (a .derived) (lexed-text text (a .placed) b (a .lexed) .right) (a .forms)
+  made = let x = a .expression in accepted-made (map (λ p. p .token) (x .placed)) tree (x .derived) (lexed-text text (x .placed) b (x .lexed) .right) (a .right .forms)
 
   whole : Whole tree notice
   whole = let h = pool-small text tree b a in runs-whole tree notice (omega arith) made
 
   -- the text's meaning is the tree's
   text-means : textMeaning text notice ≡ some (meaning tree notice)
-  text-means = rw (a .lexed, parses (map (λ p. p .token) (a .placed)) tree .1 (a .derived))
+  text-means = let x = a .expression in rw (x .lexed, parses (map (λ p. p .token) (x .placed)) tree .1 (x .derived))
 
   -- the accepted text's own table, by the definitions, and a machine of the runner on it
   met : noticeCheck notice ≡ WellFormed → {visits : ℕ} {m : Machine} → Visited (encode (compile tree)) notice visits m

@@ -21,7 +21,7 @@ use Rattle.grammar.specs.Parse.{tokenAt}
 use Rattle.grammar.specs.Stream.{tokenOf, tokensIn}
 use Rattle.grammar.proofs.Streams.{token-at}
 use Rattle.translator.specs.Compile.{entry, leafEntry, callEntry, skipOp, skipEntries}
-use Rattle.translator.specs.Emit.{placeOf, skipCount}
+use Rattle.translator.specs.Emit.{entryStart, skipCount}
 use Rattle.translator.proofs.Stores.{sets-all, length-entry, entries-one, entries-none}
 
 -- three words over the whole of a part
@@ -75,12 +75,12 @@ after-some k o i e z = let n = some-skip k o e z .0 in omega (arith, n)
 
 -- what is written of an operator
 module _ (s : List ℕ) (k o from end : ℕ) (e : o ≡ skipOp k) where
-  pub operator-alone : {now : List ℕ} {x : Entry} → o ≡ 0 → x ≡ entry k 0 0 → now ≡ sets s (placeOf end) (entryBytes x)
-      → now ≡ sets (sets s (placeOf from) (entriesBytes (skipEntries k (end - from - 1)))) (placeOf end) (entryBytes (entry k 0 0))
+  pub operator-alone : {now : List ℕ} {x : Entry} → o ≡ 0 → x ≡ entry k 0 0 → now ≡ sets s (entryStart end) (entryBytes x)
+      → now ≡ sets (sets s (entryStart from) (entriesBytes (skipEntries k (end - from - 1)))) (entryStart end) (entryBytes (entry k 0 0))
   operator-alone z ex q = q ∙ rw (no-skip k o e z .1 (end - from - 1), entries-none, ex)
 
-  pub operator-skip : {mid now : List ℕ} {x y : Entry} → (o ≡ 0 → ⊥) → y ≡ entry o (end - from - 1 + 1) 0 → mid ≡ sets s (placeOf from) (entryBytes y) → x ≡ entry k 0 0 → now ≡ sets mid (placeOf end) (entryBytes x)
-      → now ≡ sets (sets s (placeOf from) (entriesBytes (skipEntries k (end - from - 1)))) (placeOf end) (entryBytes (entry k 0 0))
+  pub operator-skip : {mid now : List ℕ} {x y : Entry} → (o ≡ 0 → ⊥) → y ≡ entry o (end - from - 1 + 1) 0 → mid ≡ sets s (entryStart from) (entryBytes y) → x ≡ entry k 0 0 → now ≡ sets mid (entryStart end) (entryBytes x)
+      → now ≡ sets (sets s (entryStart from) (entriesBytes (skipEntries k (end - from - 1)))) (entryStart end) (entryBytes (entry k 0 0))
   operator-skip z ey p ex q = q ∙ rw (some-skip k o e z .1 (end - from - 1), entries-one (entry o (end - from - 1 + 1) 0), p, ex, ey)
 
 -- ---- literals, names and calls

@@ -1,5 +1,5 @@
 use native.Mathlib.Omega.{arith}
-use Rattle.translator.proofs.Filling.{by-5, by-7, by-8, by-9, by-0}
+use Rattle.translator.proofs.Filling.{by-4, by-5, by-7, by-8, by-9, by-0}
 use borrow.Author.Needs.{needs}
 use Rattle.translator.proofs.first_refusal.Statement.{statement}
 use Rattle.translator.proofs.first_refusal.Tie as tie
@@ -8,7 +8,7 @@ use Rattle.translator.proofs.first_refusal.Lts as lts
 
 -- src/lib.rt:200:9
 returns : tie.Need-returns
-returns c = search needs
+returns c = by-4 (c .before .before .args .f) (c .before .before .args .room) (c .if1 .taken)
 
 -- src/lib.rt:203:9
 returns-2 : tie.Need-returns-2

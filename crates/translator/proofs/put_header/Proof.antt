@@ -57,7 +57,7 @@ same-length c = search needs
 returns : tie.Need-returns
 returns c =
     let s = c .before .before .before .before .before .before .before .before .before .before .before .before .before .before .before .before .before in
-    header-written (s .args .out .now) (c .before .before .before .before .before .before .before .before .before .before .before .before .before .before .write-u32 .last .0) (c .before .before .before .before .before .before .before .before .before .before .write-u16 .last .0) (c .before .before .before .before .before .before .write-u162 .last .0) (c .before .before .write-u163 .last .0) _ (s .args .entries) (s .args .names) refl (c .before .before .before .before .before .before .before .before .before .before .before .before .before .before .write-u32 .ensures) (c .before .before .before .before .before .before .before .before .before .before .write-u16 .ensures) (c .before .before .before .before .before .before .write-u162 .ensures) (c .before .before .write-u163 .ensures)
+    header-written (s .args .out .now) (c .before .before .before .before .before .before .before .before .before .before .before .before .before .before .write-u32 .last .0) (c .before .before .before .before .before .before .before .before .before .before .write-u16 .last .0) (c .before .before .before .before .before .before .write-u162 .last .0) (c .before .before .write-u163 .last .0) _ (s .args .entries) (s .args .pool) refl (c .before .before .before .before .before .before .before .before .before .before .before .before .before .before .write-u32 .ensures) (c .before .before .before .before .before .before .before .before .before .before .write-u16 .ensures) (c .before .before .before .before .before .before .write-u162 .ensures) (c .before .before .write-u163 .ensures)
 
 pub put-header-spec : {M : Type 1} → statement M
 put-header-spec =
