@@ -10,7 +10,7 @@ use Rattle.notice.specs.declared.Layout.the-variants.{WellFormed}
 use Rattle.notice.specs.declared.Written.{Written}
 use Rattle.notice.specs.Field.{Field}
 use Rattle.notice.specs.Layout.{countOf, checkOf, fieldsOf}
-use Rattle.notice.specs.Read.{readNumber, blank, readField}
+use Rattle.notice.specs.Read.{blank, readField}
 use Rattle.notice.specs.Write.{field, insertField, writtenOf, writtenBytes, Writes}
 use Rattle.notice.specs.RoundTrip.{ReadCall, WriteCall, Copies, NoneRefused, numbersFrom, ReadWrittenAgain, answered, Gives, ReadsBack, WrittenReadBack}
 use Rattle.notice.proofs.Renders.{rendered-count}

@@ -11,7 +11,7 @@ use Rattle.notice.specs.Field.{Field}
 use Rattle.notice.specs.Render.{render}
 use Rattle.notice.specs.Layout.{countOf, checkOf}
 use Rattle.notice.specs.Read.{ReadIs}
-use Rattle.notice.specs.Write.{field, writtenOf, writtenBytes}
+use Rattle.notice.specs.Write.{field, WriteIs}
 
 -- A call of `read(s, k)`: what it answers, and its promise.
 pub record ReadCall (s : List ℕ) (k : ℕ) : Type 0 where
@@ -26,7 +26,7 @@ pub record ReadCall (s : List ℕ) (k : ℕ) : Type 0 where
 pub record WriteCall (buffer : List ℕ) (len : ℕ) (name : List ℕ) (kind : ℕ) (value : List ℕ) : Type 0 where
   pub answer : Written
   pub after : List ℕ
-  pub promise : (answer ≡ writtenOf buffer len (field kind name value)) × (after ≡ writtenBytes buffer len (field kind name value))
+  pub promise : WriteIs buffer len (field kind name value) answer after
 
 -- ---- "one that is read and written again has the same bytes"
 
@@ -47,7 +47,7 @@ abbrev pub numbersFrom : ℕ → ℕ → List ℕ
 numbersFrom zero k = []
 numbersFrom (suc n) k = k ∷ numbersFrom n (suc k)
 
--- What `read` answers for every k below the count, in any order, given to `write` one by one on the empty notice in any buffer that has room: no call is refused, the notice's own bytes are left, and its length is answered; the bytes after them stay.
+-- What `read` answers for every k below the count, in any order, given to `write` one by one on the empty notice E in any buffer that has room: no call is refused, the notice's own bytes are left, and its length is answered; the bytes after them stay.
 abbrev pub ReadWrittenAgain : Type 0
 ReadWrittenAgain =
     (s : List ℕ) → Bytes s → checkOf s ≡ WellFormed → (ks : List ℕ) → List·Permᴰ ks (numbersFrom (countOf s) 0) →
