@@ -45,7 +45,7 @@ def limits():
     yield text(b"Op == 42") + record(1, b""), "S 0 0 48\nN 11 bottom 0 0\n"
 
 
-def main(vectors):
+def main(vectors=Path(__file__).resolve().with_name("vectors")):
     crates = Path(__file__).resolve().parent.parent / "crates"
     cases = [(i, o.encode()) for i, o in limits()]
     (crates / "verdict" / "stdin").write_bytes(cases[0][0])
@@ -58,4 +58,4 @@ def main(vectors):
     (crates / "verdict_test" / "stdout").write_text("".join((o.hex() or "-") + "\n" for _, o in cases))
 
 
-main(sys.argv[1])
+main(*sys.argv[1:])
