@@ -1,5 +1,6 @@
 -- What stands first in a text: its class, what the code answers of it, and that a token takes at least one byte and not more than there are. Assumes nothing.
 use mathlib.Core.Path.{_≡_, refl, sym, ap, _∙_}
+use mathlib.Core.Logic.{_⊎_, inl, inr}
 use mathlib.Core.Bool.{Bool, true, false, not, cond, _&&_, _||_}
 use mathlib.Core.List.{List, [], _∷_}
 use Prim.Native.Nat.{ℕ, _+_, _≤_, _<_}
@@ -52,6 +53,18 @@ module _ (s : List ℕ) where
           pick-no (startsName (getD s 0 0)) _ _ n
           ∙ pick-no (startsNumber (getD s 0 0) (getD s 1 0)) _ _ m
           ∙ pick-no (isQuote (getD s 0 0)) _ _ e
+
+-- a token that was judged legal
+pub judged-legal : (form limits : Bool) (t u : Token) (m n : ℕ) → judged form limits t m ≡ good u n → (form ≡ true) × (limits ≡ true) × (t ≡ u)
+judged-legal false limits t u m n e = let z : _≡_ {A = ℕ} 0 1 = cc in absurd (omega arith)
+judged-legal true false t u m n e = let z : _≡_ {A = ℕ} 0 1 = cc in absurd (omega arith)
+judged-legal true true t u m n e = (refl, refl, cc)
+
+-- the numbers by which a token is refused
+judged-bad : (form limits : Bool) (t : Token) (m k : ℕ) → judged form limits t m ≡ bad k → (k ≡ 1) ⊎ (k ≡ 3)
+judged-bad false limits t m k e = inl cc
+judged-bad true false t m k e = inr cc
+judged-bad true true t m k e = let z : _≡_ {A = ℕ} 0 1 = cc in absurd (omega arith)
 
 -- what the code answers of a form, limits and a token
 module _ (form limits : Bool) (t : Token) (n : ℕ) where
@@ -111,6 +124,32 @@ module _ (run : List ℕ) where
     where
       kind-of : (b : Bool) → b ≡ false → 1 ≡ kindOf (cond b (int64 (integerOf run)) (int32 (integerOf run)))
       kind-of b e = rw e
+
+-- What stands first is judged by its form and its limits, whatever its class; so it is refused by 1 or 3.
+abbrev Judged : List ℕ → Type 0
+Judged s = (form limits : Bool) × (t : Token) × (n : ℕ) × (scanOf s ≡ judged form limits t n)
+
+number-judged : (s : List ℕ) → scanOf s ≡ scanNumber s → Judged s
+number-judged s e = go (isReal (runOf 0 s)) refl
+  where
+    go : (b : Bool) → isReal (runOf 0 s) ≡ b → Judged s
+    go true f = (true, realFits (runOf 0 s), real (realOf (runOf 0 s)), length (runOf 0 s), e ∙ scan-real (runOf 0 s) f)
+    go false f = (isInteger (runOf 0 s), integerFits (runOf 0 s), integerToken (runOf 0 s), length (runOf 0 s), e ∙ scan-integer (runOf 0 s) f)
+
+scan-judged : (s : List ℕ) → Judged s
+scan-judged s = go (startsName (getD s 0 0)) refl (startsNumber (getD s 0 0) (getD s 1 0)) refl (isQuote (getD s 0 0)) refl
+  where
+    kind : ℕ
+    kind = symbolOf (getD s 0 0) (getD s 1 0) (getD s 2 0)
+
+    go : (x : Bool) → startsName (getD s 0 0) ≡ x → (y : Bool) → startsNumber (getD s 0 0) (getD s 1 0) ≡ y → (z : Bool) → isQuote (getD s 0 0) ≡ z → Judged s
+    go true e y f z g = (legalName false (runOf 0 s), nameFits (unescaped false (runOf 0 s)), name (unescaped false (runOf 0 s)) (hasEscape (runOf 0 s)), length (runOf 0 s), is-name s e)
+    go false e true f z g = number-judged s (is-number s e f)
+    go false e false f true g = (isClosed s, true, text (unescaped false (bodyOf s)), length (bodyOf s) + 2, is-string s e f g)
+    go false e false f false g = (not (eqb kind 0), true, symbol kind, symbolLength (getD s 0 0) (getD s 1 0) (getD s 2 0), is-symbol s e f g)
+
+pub bad-number : (s : List ℕ) (k : ℕ) → scanOf s ≡ bad k → (k ≡ 1) ⊎ (k ≡ 3)
+bad-number s k e = let j = scan-judged s in judged-bad (j .0) (j .1) (j .2) (j .3) k (sym (j .4) ∙ e)
 
 -- a string that closes, and one that does not
 module _ (s : List ℕ) where
@@ -217,14 +256,14 @@ is-there s i f = go (decLe (length s) i)
     go (yes h) = absurd (f (List·getD-eq-default s 0 h))
     go (no h) = omega arith
 
-two-none : (a : ℕ) → twoBytes a 0 ≡ 0
+pub two-none : (a : ℕ) → twoBytes a 0 ≡ 0
 two-none a = go (eqb a 0) refl
   where
     go : (e : Bool) → eqb a 0 ≡ e → twoBytes a 0 ≡ 0
     go true e = let z = eqb-true a 0 e in rw z
     go false e = rw e
 
-three-none : (a b : ℕ) → threeBytes a b 0 ≡ 0
+pub three-none : (a b : ℕ) → threeBytes a b 0 ≡ 0
 three-none a b = go (eqb a 62 && eqb b 62)
   where
     go : (e : Bool) → _≡_ {A = ℕ} (cond (e && false) 18 0) 0
