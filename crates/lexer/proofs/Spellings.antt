@@ -1,6 +1,6 @@
 -- The longest match: which spellings are a prefix of a text, and what its first three bytes give. Assumes nothing.
 use mathlib.Core.Path.{_≡_, refl, sym, ap, _∙_}
-use mathlib.Core.Logic.{_⊎_, inl, inr, _↔_}
+use mathlib.Core.Logic.{_⊎_, inl, inr}
 use mathlib.Core.Bool.{Bool, true, false, not, cond, _&&_, _||_}
 use mathlib.Core.List.{List, [], _∷_, _++_, IsPrefix}
 use Prim.Native.Nat.{ℕ, zero, suc, _≤_, _<_}
@@ -18,11 +18,11 @@ use Rattle.lexer.proofs.Symbols.{first-is, first-not}
 use Rattle.lexer.proofs.Scans.{two-none, three-none}
 
 -- what holds of each element, and of some
-pub each-map : {A : Type 0} {P Q : A → Type 0} (xs : List A) → ((x : A) → P x → Q x) → Each P xs → Each Q xs
+each-map : {A : Type 0} {P Q : A → Type 0} (xs : List A) → ((x : A) → P x → Q x) → Each P xs → Each Q xs
 each-map [] f e = tt
 each-map (x ∷ xs) f e = (f x (e .0), each-map xs f (e .1))
 
-some-map : {A : Type 0} {P Q : A → Type 0} (xs : List A) → ((x : A) → P x → Q x) → Some P xs → Some Q xs
+pub some-map : {A : Type 0} {P Q : A → Type 0} (xs : List A) → ((x : A) → P x → Q x) → Some P xs → Some Q xs
 some-map [] f e = e
 some-map (x ∷ xs) f (inl e) = inl (f x e)
 some-map (x ∷ xs) f (inr e) = inr (some-map xs f e)
@@ -158,15 +158,15 @@ by-prefix (a ∷ b ∷ c ∷ d ∷ p) k s e h = e
 pub prefix-kind : (s : List ℕ) (x : Spelling) → Right x → IsPrefix (x .bytes) s → (kindBy s (length (x .bytes)) ≡ x .kind) × (kindBy s (length (x .bytes)) ≡ 0 → ⊥)
 prefix-kind s x r h = let e = by-prefix (x .bytes) (x .kind) s (r .0) h in (e, λ z. omega (arith, r .1, e))
 
--- A kind that so many bytes give is that of a spelling that is a prefix.
-abbrev pub Of : List ℕ → ℕ → ℕ → Spelling → Type 0
-Of s k n x = (x .kind ≡ k) × (length (x .bytes) ≡ n) × IsPrefix (x .bytes) s
+-- A kind that so many bytes give is that of a spelling of so many, which is a prefix.
+abbrev pub Spells : List ℕ → ℕ → ℕ → Spelling → Type 0
+Spells s k n x = (x .kind ≡ k) × (length (x .bytes) ≡ n) × IsPrefix (x .bytes) s
 
-named-of : (p more : List ℕ) (k : ℕ) → Named p k → (k ≡ 0 → ⊥) → Some (Of (p ++ more) k (length p)) spellings
+named-of : (p more : List ℕ) (k : ℕ) → Named p k → (k ≡ 0 → ⊥) → Some (Spells (p ++ more) k (length p)) spellings
 named-of p more k (inl z) f = absurd (f z)
-named-of p more k (inr e) f = some-map {Q = Of (p ++ more) k (length p)} spellings (λ x q. (q .0, ap length (q .1), (more, ap (λ (r : List ℕ). r ++ more) (q .1)))) e
+named-of p more k (inr e) f = some-map {Q = Spells (p ++ more) k (length p)} spellings (λ x q. (q .0, ap length (q .1), (more, ap (λ (r : List ℕ). r ++ more) (q .1)))) e
 
-pub kind-prefix : (s : List ℕ) (n : ℕ) → (kindBy s n ≡ 0 → ⊥) → Some (Of s (kindBy s n) n) spellings
+pub kind-prefix : (s : List ℕ) (n : ℕ) → (kindBy s n ≡ 0 → ⊥) → Some (Spells s (kindBy s n) n) spellings
 kind-prefix s zero f = absurd (f refl)
 kind-prefix [] (suc zero) f = absurd (f refl)
 kind-prefix (a ∷ s) (suc zero) f = named-of (a ∷ []) s (oneByte a) (one-named a) f
@@ -203,8 +203,8 @@ above-none s p q r zero = refl
 above-none s p q r (suc m) = above s 0 (λ h. p) (λ h. q) (λ h. r) (suc m) (omega arith)
 
 -- What stands first is no symbol and no bytes give a kind; or it is the symbol of the most bytes that give one.
-abbrev pub Told : List ℕ → Type 0
-Told s =
+abbrev pub Best : List ℕ → Type 0
+Best s =
     ((scanSymbol s ≡ bad 1) × ((m : ℕ) → kindBy s m ≡ 0))
     ⊎ ((n : ℕ) × Most s n × (scanSymbol s ≡ good (symbol (kindBy s n)) n))
 
@@ -214,8 +214,8 @@ is-good kind long k n e l f = rw (← e, l, ne-eqb k 0 f)
 is-bad : (kind long : ℕ) → kind ≡ 0 → judged (not (eqb kind 0)) true (symbol kind) long ≡ bad 1
 is-bad kind long e = rw (eq-eqb kind 0 e)
 
-pub told : (s : List ℕ) → Told s
-told s = go (eqb three 0) refl (eqb two 0) refl (eqb one 0) refl
+pub best : (s : List ℕ) → Best s
+best s = go (eqb three 0) refl (eqb two 0) refl (eqb one 0) refl
   where
     one : ℕ
     one = kindBy s 1
@@ -235,7 +235,7 @@ told s = go (eqb three 0) refl (eqb two 0) refl (eqb one 0) refl
     first-two : three ≡ 0 → firstOf two one ≡ kind
     first-two e = first-not three (firstOf two one) three refl e
 
-    go : (x : Bool) → eqb three 0 ≡ x → (y : Bool) → eqb two 0 ≡ y → (z : Bool) → eqb one 0 ≡ z → Told s
+    go : (x : Bool) → eqb three 0 ≡ x → (y : Bool) → eqb two 0 ≡ y → (z : Bool) → eqb one 0 ≡ z → Best s
     go false e y f z g =
         let n = eqb-false three 0 e in
         let l : long ≡ 3 = rw e in

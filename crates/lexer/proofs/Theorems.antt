@@ -1,12 +1,12 @@
 -- The theorems that specs/Theorems.antt states. Assumes nothing.
 use mathlib.Core.Path.{_≡_, refl, sym, ap, subst, _∙_}
-use mathlib.Core.Logic.{_↔_, _⊎_, inl, inr}
-use mathlib.Core.Bool.{Bool, true, false, not, cond, _&&_}
+use mathlib.Core.Logic.{_⊎_, inl, inr}
+use mathlib.Core.Bool.{Bool, true, false, cond, _&&_}
 use mathlib.Core.List.{List, [], _∷_, IsPrefix}
 use Prim.Native.Nat.{ℕ, zero, suc, _+_, _-_, _^_, _≤_, _<_}
 use native.Mathlib.Decide.{decLe}
 use native.Mathlib.Omega.{arith}
-use lib.Dec.{eqb, leb, ltb, lit≤}
+use lib.Dec.{eqb, leb, ltb}
 use lib.ListN.{length, getD, drop}
 use lib.Seq.{sets-eq, take-append-seam}
 use lib.IntN.{ℤ, natAbs}
@@ -23,10 +23,10 @@ use Rattle.lexer.specs.Integer.{isLong, isInteger, integerFits, integerO
 use Rattle.lexer.specs.Real.{exponentPart, exponentDigits, realDigits, noZeros, scaleOf, isReal, realFits, realOf}
 use Rattle.lexer.specs.Token.{Token, name, int32, int64, real, text, symbol, Placed, good, bad, judged, scanName, integerToken, scanNumber, scanString, scanSymbol, scanOf, Lexed, tokens, refused, prepend, tokensFrom, tokensOf, found, integerAt, longAt, realAt}
 use Rattle.lexer.specs.Answer.{lexingOf, numberOf, placeOf}
-use Rattle.lexer.specs.Theorems.{Each, Some, Laid, Nothing, BadToken, Whole, FirstBad, HasNumber, Numbered, ValueAt, Values, StartsInside, Counted, Stored, spellings, StartsNoOther, LongestMatch, RealsHaveValues, Examples}
+use Rattle.lexer.specs.Theorems.{Each, Some, Laid, Nothing, BadToken, Whole, FirstBad, HasNumber, Numbered, ValueAt, Values, StartsInside, Counted, Stored, Spelling, spellings, StartsNoOther, LongestMatch, RealsHaveValues, Examples}
 use Rattle.lexer.proofs.Decimals.{fifteen, real-decimal}
-use Rattle.lexer.proofs.Scans.{judged-legal, bad-number, is-name, is-number, is-string, is-symbol, scan-real, scan-integer}
-use Rattle.lexer.proofs.Spellings.{each-map, each-some, Right, right, kindBy, prefix-kind, Of, kind-prefix, Most, most-once, Told, told}
+use Rattle.lexer.proofs.Scans.{judged-legal, isSymbol, scan-judged, bad-number, is-name, is-number, is-string, is-symbol, scan-real, scan-integer}
+use Rattle.lexer.proofs.Spellings.{some-map, each-some, right, kindBy, prefix-kind, Spells, kind-prefix, most-once, Best, best}
 use Rattle.lexer.proofs.Streams.{from, stream-whole, too-long, streams}
 use Rattle.lexer.proofs.Laying.{laid-tokens, laid-bad, tokens-laid, bad-laid}
 
@@ -140,9 +140,9 @@ module _ (s : List ℕ) (at : ℕ) where
 
 -- a symbol's kind is a spelling's
 symbol-value : (s : List ℕ) (at : ℕ) (t : Token) (n : ℕ) → scanSymbol (drop at s) ≡ good t n → ValueAt s at t
-symbol-value s at t n e = go (told (drop at s))
+symbol-value s at t n e = go (best (drop at s))
   where
-    go : Told (drop at s) → ValueAt s at t
+    go : Best (drop at s) → ValueAt s at t
     go (inl h) = let g : bad 1 ≡ good t n = sym (h .0) ∙ e in let z : _≡_ {A = ℕ} 0 1 = cc in absurd (omega arith)
     go (inr (m, h, f)) =
         let g : good (symbol (kindBy (drop at s) m)) m ≡ good t n = sym f ∙ e in
@@ -227,65 +227,33 @@ reals-have-values run e =
     both a b p q = rw (p, q)
 
 -- the longest match
-abbrev isSymbol : Token → Bool
-isSymbol (name bytes escaped) = false
-isSymbol (int32 z) = false
-isSymbol (int64 z) = false
-isSymbol (real x) = false
-isSymbol (text bytes) = false
-isSymbol (symbol k) = true
-
-no-symbol : {A : Type 0} (form limits : Bool) (t : Token) (m k n : ℕ) → isSymbol t ≡ false → judged form limits t m ≡ good (symbol k) n → A
-no-symbol form limits t m k n f e = true-false (ap isSymbol (sym (judged-legal form limits t (symbol k) m n e .2)) ∙ f)
-
 module _ (s : List ℕ) where
-  no-number : {A : Type 0} (k n : ℕ) → scanNumber s ≡ good (symbol k) n → A
-  no-number {A} k n e = go (isReal (runOf 0 s)) refl
-    where
-      run : List ℕ
-      run = runOf 0 s
-
-      typed : (long : Bool) → isSymbol (cond long (int64 (integerOf run)) (int32 (integerOf run))) ≡ false
-      typed true = refl
-      typed false = refl
-
-      go : (b : Bool) → isReal run ≡ b → A
-      go true f = no-symbol true (realFits run) (real (realOf run)) (length run) k n refl (sym (scan-real run f) ∙ e)
-      go false f = no-symbol (isInteger run) (integerFits run) (integerToken run) (length run) k n (typed (isLong run)) (sym (scan-integer run f) ∙ e)
-
-  no-name : {A : Type 0} (k n : ℕ) → scanName s ≡ good (symbol k) n → A
-  no-name k n e =
-      let run = runOf 0 s in
-      no-symbol (legalName false run) (nameFits (unescaped false run)) (name (unescaped false run) (hasEscape run)) (length run) k n refl e
-
-  no-string : {A : Type 0} (k n : ℕ) → scanString s ≡ good (symbol k) n → A
-  no-string k n e = no-symbol (isClosed s) true (text (unescaped false (bodyOf s))) (length (bodyOf s) + 2) k n refl e
-
   starts-no-other : (k n : ℕ) → scanOf s ≡ good (symbol k) n → StartsNoOther s
-  starts-no-other k n e = go (startsName (getD s 0 0)) refl (startsNumber (getD s 0 0) (getD s 1 0)) refl (isQuote (getD s 0 0)) refl
+  starts-no-other k n e = let j = scan-judged s in go (j .2) (judged-legal (j .0) (j .1) (j .2) (symbol k) (j .3) n (sym (j .4) ∙ e) .2) (j .5)
     where
-      go : (x : Bool) → startsName (getD s 0 0) ≡ x → (y : Bool) → startsNumber (getD s 0 0) (getD s 1 0) ≡ y → (z : Bool) → isQuote (getD s 0 0) ≡ z → StartsNoOther s
-      go true f y g z h = no-name k n (sym (is-name s f) ∙ e)
-      go false f true g z h = no-number k n (sym (is-number s f g) ∙ e)
-      go false f false g true h = no-string k n (sym (is-string s f g h) ∙ e)
-      go false f false g false h = (f, g, h)
+      go : (t : Token) → t ≡ symbol k → (isSymbol t ≡ false) ⊎ StartsNoOther s → StartsNoOther s
+      go t e (inl f) = true-false (ap isSymbol (sym e) ∙ f)
+      go t e (inr h) = h
 
-  -- if no spelling that is longer is a prefix, no longer bytes give a kind, and back
-  none-by : (n : ℕ) → Each (λ x. n < length (x .bytes) → IsPrefix (x .bytes) s → ⊥) spellings → (m : ℕ) → n < m → kindBy s m ≡ 0
-  none-by n e m h = go (eqb (kindBy s m) 0) refl
+  -- no spelling that is longer is a prefix, if no more bytes give a kind; and back
+  none-longer : (n : ℕ) → ((m : ℕ) → n < m → kindBy s m ≡ 0) → Some (λ x. (n < length (x .bytes)) × IsPrefix (x .bytes) s) spellings → ⊥
+  none-longer n f e = each-some spellings (λ x r q. prefix-kind s x r (q .1) .1 (f (length (x .bytes)) (q .0))) right e
+
+  none-by : (n : ℕ) → (Some (λ x. (n < length (x .bytes)) × IsPrefix (x .bytes) s) spellings → ⊥) → (m : ℕ) → n < m → kindBy s m ≡ 0
+  none-by n f m h = go (eqb (kindBy s m) 0) refl
     where
+      longer : (x : Spelling) → Spells s (kindBy s m) m x → (n < length (x .bytes)) × IsPrefix (x .bytes) s
+      longer x q = (omega (arith, q .1), q .2)
+
       go : (b : Bool) → eqb (kindBy s m) 0 ≡ b → kindBy s m ≡ 0
-      go true f = eqb-true (kindBy s m) 0 f
-      go false f = absurd (each-some spellings (λ x p q. p (omega (arith, q .1)) (q .2)) e (kind-prefix s m (eqb-false (kindBy s m) 0 f)))
+      go true e = eqb-true (kindBy s m) 0 e
+      go false e = absurd (f (some-map spellings longer (kind-prefix s m (eqb-false (kindBy s m) 0 e))))
 
-  none-longer : (n : ℕ) → ((m : ℕ) → n < m → kindBy s m ≡ 0) → Each (λ x. n < length (x .bytes) → IsPrefix (x .bytes) s → ⊥) spellings
-  none-longer n f = each-map spellings (λ x r h p. prefix-kind s x r p .1 (f (length (x .bytes)) h)) right
-
-  module _ (no : StartsNoOther s) where
+  module _ (other : StartsNoOther s) where
     here : scanOf s ≡ scanSymbol s
-    here = is-symbol s (no .0) (no .1) (no .2)
+    here = is-symbol s (other .0) (other .1) (other .2)
 
-    matched : (k n : ℕ) → Told s → scanOf s ≡ good (symbol k) n → Some (Of s k n) spellings × Each (λ x. n < length (x .bytes) → IsPrefix (x .bytes) s → ⊥) spellings
+    matched : (k n : ℕ) → Best s → scanOf s ≡ good (symbol k) n → Some (Spells s k n) spellings × (Some (λ x. (n < length (x .bytes)) × IsPrefix (x .bytes) s) spellings → ⊥)
     matched k n (inl h) e = let g : bad 1 ≡ good (symbol k) n = sym (h .0) ∙ sym here ∙ e in let z : _≡_ {A = ℕ} 0 1 = cc in absurd (omega arith)
     matched k n (inr (m, h, f)) e =
         let g : good (symbol (kindBy s m)) m ≡ good (symbol k) n = sym f ∙ sym here ∙ e in
@@ -293,34 +261,34 @@ module _ (s : List ℕ) where
         let q : m ≡ n = cc in
         (rw (p, q) at (kind-prefix s m (h .0)), rw q at (none-longer m (h .1)))
 
-    taken : (k n : ℕ) → Some (Of s k n) spellings → Each (λ x. n < length (x .bytes) → IsPrefix (x .bytes) s → ⊥) spellings → scanOf s ≡ good (symbol k) n
-    taken k n a e = go (told s)
+    taken : (k n : ℕ) → Some (Spells s k n) spellings → (Some (λ x. (n < length (x .bytes)) × IsPrefix (x .bytes) s) spellings → ⊥) → Best s → scanOf s ≡ good (symbol k) n
+    taken k n a none = go
       where
-        -- the kind that n bytes give
         by : (kindBy s n ≡ k) × (kindBy s n ≡ 0 → ⊥)
-        by = each-some {Q = Of s k n} spellings (λ x r q. rw (q .0, q .1) at (prefix-kind s x r (q .2))) right a
+        by = each-some {Q = Spells s k n} spellings (λ x r q. rw (q .0, q .1) at (prefix-kind s x r (q .2))) right a
 
-        go : Told s → scanOf s ≡ good (symbol k) n
+        go : Best s → scanOf s ≡ good (symbol k) n
         go (inl h) = absurd (by .1 (h .1 n))
-        go (inr (m, h, f)) =
-            let q : m ≡ n = most-once s m n h (by .1, none-by n e) in
-            here ∙ f ∙ rw (q, by .0)
+        go (inr (m, h, f)) = let q : m ≡ n = most-once s m n h (by .1, none-by n none) in here ∙ f ∙ rw (q, by .0)
 
-    no-match : Told s → scanOf s ≡ bad 1 → Each (λ x. IsPrefix (x .bytes) s → ⊥) spellings
-    no-match (inl h) e = each-map spellings (λ x r p. prefix-kind s x r p .1 (h .1 (length (x .bytes)))) right
-    no-match (inr (m, h, f)) e =
+    no-match : Best s → scanOf s ≡ bad 1 → Some (λ x. IsPrefix (x .bytes) s) spellings → ⊥
+    no-match (inl h) e a = each-some spellings (λ x r q. prefix-kind s x r q .1 (h .1 (length (x .bytes)))) right a
+    no-match (inr (m, h, f)) e a =
         let g : bad 1 ≡ good (symbol (kindBy s m)) m = sym e ∙ here ∙ f in
         let z : _≡_ {A = ℕ} 0 1 = cc in
         absurd (omega arith)
 
-    refused-by : Told s → Each (λ x. IsPrefix (x .bytes) s → ⊥) spellings → scanOf s ≡ bad 1
-    refused-by (inl h) e = here ∙ h .0
-    refused-by (inr (m, h, f)) e = absurd (each-some spellings (λ x p q. p (q .2)) e (kind-prefix s m (h .0)))
+    refused-by : Best s → (Some (λ x. IsPrefix (x .bytes) s) spellings → ⊥) → scanOf s ≡ bad 1
+    refused-by (inl h) none = here ∙ h .0
+    refused-by (inr (m, h, f)) none = absurd (none (some-map {P = Spells s (kindBy s m) m} spellings (λ x q. q .2) (kind-prefix s m (h .0))))
 
 pub longest-match : LongestMatch
 longest-match s = (
-  λ k n. (λ e. let no = starts-no-other s k n e in let m = matched s no k n (told s) e in (no, m .0, m .1), λ h. taken s (h .0) k n (h .1) (h .2)),
-  λ no. (no-match s no (told s), refused-by s no (told s)),
+  λ k n. (
+    λ e. let other = starts-no-other s k n e in let m = matched s other k n (best s) e in (other, m .0, m .1),
+    λ h. taken s (h .0) k n (h .1) (h .2) (best s),
+  ),
+  λ other. (no-match s other (best s), refused-by s other (best s)),
 )
 
 pub examples : Examples

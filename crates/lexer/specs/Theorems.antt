@@ -136,8 +136,8 @@ spellings =
 abbrev pub StartsNoOther : List ℕ → Type 0
 StartsNoOther s = (startsName (getD s 0 0) ≡ false) × (startsNumber (getD s 0 0) (getD s 1 0) ≡ false) × (isQuote (getD s 0 0) ≡ false)
 
--- "Operators take the longest match": a symbol of kind k and n bytes stands first in s exactly if s starts nothing else, a spelling of that kind and length
--- is a prefix of s, and no longer one is. What starts nothing else is refused by 1 exactly if no spelling is a prefix of it.
+-- "Operators take the longest match": a symbol of kind k and n bytes stands first in s exactly if s starts nothing else, some spelling of that kind and length
+-- is a prefix of s, and none that is longer is. What starts nothing else is refused by 1 exactly if no spelling is a prefix of it.
 abbrev pub LongestMatch : Type 0
 LongestMatch =
     (s : List ℕ)
@@ -145,8 +145,8 @@ LongestMatch =
     → (scanOf s ≡ good (symbol k) n)
     ↔ (StartsNoOther s
     × Some (λ x. (x .kind ≡ k) × (length (x .bytes) ≡ n) × IsPrefix (x .bytes) s) spellings
-    × Each (λ x. n < length (x .bytes) → IsPrefix (x .bytes) s → ⊥) spellings))
-    × (StartsNoOther s → (scanOf s ≡ bad 1) ↔ Each (λ x. IsPrefix (x .bytes) s → ⊥) spellings)
+    × (Some (λ x. (n < length (x .bytes)) × IsPrefix (x .bytes) s) spellings → ⊥)))
+    × (StartsNoOther s → (scanOf s ≡ bad 1) ↔ (Some (λ x. IsPrefix (x .bytes) s) spellings → ⊥))
 
 -- A real within its limits is one that f64 computes from two exact operands: no legal real is without a value.
 abbrev pub RealsHaveValues : Type 0
