@@ -7,6 +7,8 @@ use lib.Dec.{eqb, ltb}
 use lib.ListN.{length, getD}
 use lib.Seq.{sets}
 use Rattle.lexer.specs.Token.{Token, Placed, kindOf, pick, Lexed, tokens, refused, tokensOf}
+use Rattle.lexer.specs.Answer as lexing
+use Rattle.lexer.specs.declared.Lexing.the-variants.{Refused}
 use Rattle.grammar.specs.Tree.{Tree}
 use Rattle.grammar.specs.Parse.{Result, ok, bad, parseAll}
 use Rattle.grammar.specs.Nesting.{tooDeep}
@@ -50,7 +52,7 @@ ofTokens long kinds starts room ks = pick (tooDeep kinds) (λ _. refusal 6 0) (�
 -- "10, then 1 or 3 at the first bad token"
 unfoldable pub ofLexed : ℕ → ℕ → Lexed → Outcome
 ofLexed long room (tokens ps) = ofTokens long (map (λ p. kindOf (p .token)) ps) (map (λ p. p .start) ps) room (map (λ p. p .token) ps)
-ofLexed long room (refused number place ps) = refusal number place
+ofLexed long room (refused number place ps) = refusal (lexing.numberOf (Refused number place)) (lexing.placeOf (Refused number place))
 
 -- "Translation, first that applies in this order: 10, then 1 or 3 at the first bad token, 6, 2, 4, 5, 7, 8, 9."
 unfoldable pub translationOf : List ℕ → ℕ → Outcome
