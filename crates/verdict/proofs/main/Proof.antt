@@ -18,31 +18,24 @@ Inv-loop input₀ table₀ out₀ state₀ turns₀ input table out state turns 
 abbrev μ-loop : tie.MeasureT-loop
 μ-loop input₀ table₀ out₀ state₀ turns₀ input table out state turns = turns
 
--- src/main.rt:126:5
 loop-holds : tie.Need-loop-holds Inv-loop μ-loop
 loop-holds c = (record { order = omega arith; input = omega arith; table = omega arith }, inl refl)
 
--- src/main.rt:127:9
 turn-requires : tie.Need-turn-requires Inv-loop μ-loop
 turn-requires c κs = c .before .before .before .before .before .loop .inv
 
--- src/main.rt:128:9
 sub-turns : tie.Need-sub-turns Inv-loop μ-loop
 sub-turns c = search needs
 
--- src/main.rt:126:5
 loop-less : tie.Need-loop-less Inv-loop μ-loop
 loop-less c = omega arith
 
--- src/main.rt:126:5
 loop-again : tie.Need-loop-again Inv-loop μ-loop
 loop-again c = c .turn .ensures
 
--- src/main.rt:114:1
 returns : tie.Need-returns Inv-loop μ-loop
 returns c = search needs
 
--- src/main.rt:114:1
 returns-2 : tie.Need-returns-2 Inv-loop μ-loop
 returns-2 c = search needs
 
