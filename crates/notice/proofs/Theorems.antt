@@ -10,7 +10,7 @@ use lib.Dec.{leb, ltb}
 use lib.ListN.{length, getD, take, drop, take-append-drop}
 use lib.Seq.{take-at, length-take-le}
 use borrow.Author.Tests.{leb-true, lt-ltb}
-use Rattle.word.specs.Word.{leBytes, Bytes}
+use Rattle.word.specs.Word.{wordBytes, Bytes}
 use Rattle.octets.specs.Octets.{sameOf, beforeOf}
 use Rattle.octets.proofs.Theorems.{and-parts, true-false, same, before-transitive}
 use Rattle.notice.specs.declared.Layout.{Layout}
@@ -228,9 +228,9 @@ written-again s bytes well fs perm b e h =
     along p q u v x = rw (← p, ← q, ← u, ← v) x
 
 pub empty-notice : EmptyNotice
-unfolding leBytes
+unfolding wordBytes
 empty-notice = refl
 
 pub op42 : Op42
-unfolding leBytes
+unfolding wordBytes
 op42 = refl

@@ -7,7 +7,7 @@ use Prim.Native.Nat.{ℕ, zero, suc, _+_, _≤_, _<_}
 use native.Mathlib.Omega.{arith}
 use lib.Dec.{ltb, leb, eqb}
 use lib.ListN.{length, getD, length-append, List·getD-append}
-use Rattle.word.specs.Word.{le}
+use Rattle.word.specs.Word.{wordAt}
 use borrow.Author.Tests.{ltb-true, ltb-false, leb-true, leb-false, le-ltb, ne-eqb}
 use Rattle.record.specs.declared.Record.{Record}
 use Rattle.record.specs.declared.Record.the-variants.{End, Whole, Cut, Wrong}
@@ -16,12 +16,12 @@ use Rattle.record.specs.Theorems.{WholeLies, CutShort, WholeGrows, Wrong
 use Rattle.record.proofs.Laws.{found-whole}
 
 -- a word that lies in s stays where more comes after it
-le-grows : (k at : ℕ) (s t : List ℕ) → at + k ≤ length s → le k (s ++ t) at ≡ le k s at
-unfolding le
-le-grows zero at s t h = refl
-le-grows (suc k) at s t h =
+word-grows : (k at : ℕ) (s t : List ℕ) → at + k ≤ length s → wordAt k (s ++ t) at ≡ wordAt k s at
+unfolding wordAt
+word-grows zero at s t h = refl
+word-grows (suc k) at s t h =
     let g : getD (s ++ t) at 0 ≡ getD s at 0 = List·getD-append s t 0 at (omega arith) in
-    let ih = le-grows k (suc at) s t (omega arith) in
+    let ih = word-grows k (suc at) s t (omega arith) in
     rw (g, ih)
 
 -- the reader's four tests
@@ -82,8 +82,8 @@ whole-grows s t kind size e =
     let r = length-right n (w .0) in
     let h = leb-true (4 + n) (length s) (w .1) in
     let l = length-append s t in
-    let el : lengthOf (s ++ t) ≡ n = le-grows 4 0 s t (omega arith) in
-    let ek : kindOf (s ++ t) ≡ kindOf s = le-grows 2 4 s t (omega arith) in
+    let el : lengthOf (s ++ t) ≡ n = word-grows 4 0 s t (omega arith) in
+    let ek : kindOf (s ++ t) ≡ kindOf s = word-grows 2 4 s t (omega arith) in
     let h4 : 4 ≤ length (s ++ t) = omega arith in
     let hw : 4 + lengthOf (s ++ t) ≤ length (s ++ t) = omega arith in
     sym (found-whole (s ++ t) h4 (lengthOf (s ++ t)) refl (kindOf (s ++ t)) refl (omega (arith, r .0)) (omega (arith, r .1)) hw)
@@ -98,6 +98,6 @@ wrong-grows s t e =
     let h : 4 ≤ length s = ltb-false (length s) 4 (w .1) in
     let l = length-append s t in
     let g : 4 ≤ length (s ++ t) = omega arith in
-    let el : lengthOf (s ++ t) ≡ n = le-grows 4 0 s t (omega arith) in
+    let el : lengthOf (s ++ t) ≡ n = word-grows 4 0 s t (omega arith) in
     let f : lengthRight (lengthOf (s ++ t)) ≡ false = ap lengthRight el ∙ w .2 in
     rw (ne-eqb (length (s ++ t)) 0 (λ z. omega arith), le-ltb (length (s ++ t)) 4 g, f)

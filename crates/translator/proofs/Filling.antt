@@ -8,7 +8,7 @@ use lib.Dec.{eqb, ltb}
 use lib.ListN.{length, length-append}
 use lib.Seq.{sets}
 use borrow.Author.Tests.{eqb-true, lt-ltb, le-ltb, ltb-true, ltb-false, eq-eqb, ne-eqb}
-use Rattle.word.specs.Word.{leBytes}
+use Rattle.word.specs.Word.{wordBytes}
 use Rattle.word.proofs.Laws.{length-leBytes}
 use Rattle.table.specs.Table.{entriesBytes, bodyBytes, encode}
 use Rattle.table.proofs.Encoding.{length-body, length-encode}
@@ -33,13 +33,13 @@ use Rattle.translator.proofs.Brought.{brought-all}
 
 -- ---- the header
 
-pub header-written : (s s1 s2 s3 s4 : List ℕ) (v n p : ℕ) → v ≡ 6 + 12 * n + p → s1 ≡ sets s 0 (leBytes 4 v) → s2 ≡ sets s1 4 (leBytes 2 2) → s3 ≡ sets s2 6 (leBytes 2 n) → s4 ≡ sets s3 8 (leBytes 2 p)
+pub header-written : (s s1 s2 s3 s4 : List ℕ) (v n p : ℕ) → v ≡ 6 + 12 * n + p → s1 ≡ sets s 0 (wordBytes 4 v) → s2 ≡ sets s1 4 (wordBytes 2 2) → s3 ≡ sets s2 6 (wordBytes 2 n) → s4 ≡ sets s3 8 (wordBytes 2 p)
     → s4 ≡ sets s 0 (headerBytes n p)
-unfolding leBytes
+unfolding wordBytes
 header-written s s1 s2 s3 s4 v n p e a b c d =
     d
-    ∙ ap (λ (l : List ℕ). sets l 8 (leBytes 2 p))
-    (c ∙ ap (λ (l : List ℕ). sets l 6 (leBytes 2 n)) (b ∙ ap (λ (l : List ℕ). sets l 4 (leBytes 2 2)) (a ∙ ap (λ (w : ℕ). sets s 0 (leBytes 4 w)) e)))
+    ∙ ap (λ (l : List ℕ). sets l 8 (wordBytes 2 p))
+    (c ∙ ap (λ (l : List ℕ). sets l 6 (wordBytes 2 n)) (b ∙ ap (λ (l : List ℕ). sets l 4 (wordBytes 2 2)) (a ∙ ap (λ (w : ℕ). sets s 0 (wordBytes 4 w)) e)))
 
 length-header : (n p : ℕ) → length (headerBytes n p) ≡ 10
 length-header n p = simp (length-append, length-leBytes)

@@ -13,7 +13,7 @@ use lib.Seq.{sets, sets-eq}
 use borrow.Author.Tests.{eqb-true, le-leb, lt-leb, ne-eqb}
 use mir.Syntax.{w64}
 use mir.Val.{ofZ}
-use Rattle.word.specs.Word.{leBytes}
+use Rattle.word.specs.Word.{wordBytes}
 use Rattle.table.specs.declared.Entry.{Entry}
 use Rattle.table.specs.Table.{entryBytes, entriesBytes}
 use Rattle.lexer.specs.Token.{Token, nameAt, stringAt, integerAt, realAt}
@@ -25,10 +25,10 @@ use Rattle.translator.specs.Emit.{entryStart, skipCount}
 use Rattle.translator.proofs.Stores.{sets-all, length-entry, entries-one, entries-none}
 
 -- three words over the whole of a part
-pub entry-written : (s s1 s2 s3 : List ℕ) (e : Entry) → length s ≡ 12 → s1 ≡ sets s 0 (leBytes 2 (e .op)) → s2 ≡ sets s1 2 (leBytes 2 (e .a)) → s3 ≡ sets s2 4 (leBytes 8 (e .b)) → s3 ≡ entryBytes e
-unfolding leBytes
+pub entry-written : (s s1 s2 s3 : List ℕ) (e : Entry) → length s ≡ 12 → s1 ≡ sets s 0 (wordBytes 2 (e .op)) → s2 ≡ sets s1 2 (wordBytes 2 (e .a)) → s3 ≡ sets s2 4 (wordBytes 8 (e .b)) → s3 ≡ entryBytes e
+unfolding wordBytes
 entry-written s s1 s2 s3 e n p q r =
-    r ∙ ap (λ (l : List ℕ). sets l 4 (leBytes 8 (e .b))) (q ∙ ap (λ (l : List ℕ). sets l 2 (leBytes 2 (e .a))) p) ∙ sets-all (entryBytes e) s (length-entry e ∙ sym n)
+    r ∙ ap (λ (l : List ℕ). sets l 4 (wordBytes 8 (e .b))) (q ∙ ap (λ (l : List ℕ). sets l 2 (wordBytes 2 (e .a))) p) ∙ sets-all (entryBytes e) s (length-entry e ∙ sym n)
 
 -- the part goes back to its place
 pub part-back : (s : List ℕ) (at : ℕ) (e : Entry) → at + 12 ≤ length s → take at s ++ (entryBytes e ++ drop (at + 12) s) ≡ sets s at (entryBytes e)

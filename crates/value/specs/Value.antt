@@ -10,7 +10,7 @@ use lib.ListN.{length, take, drop}
 use lib.Ieee.{Float, binary64, isNan, ofBits}
 use mir.Syntax.{w32, w64}
 use mir.Val.{toZ}
-use Rattle.word.specs.Word.{le}
+use Rattle.word.specs.Word.{wordAt}
 use Rattle.truth.specs.declared.Truth.{Truth}
 use Rattle.truth.specs.declared.Truth.the-variants.{False, Bottom, True}
 use Rattle.truth.specs.Truth.{notOf, andOf, xorOf, orOf, ofBool}
@@ -255,9 +255,9 @@ tallyOf o x known (y ∷ ys) = tallyOf o x (moreOf o x known y) ys
 -- A field's value. "Kinds: 1 int32 (4 bytes), 2 int64 (8), 3 real64 (8, bits), 4 string, 5 opaque"; a byte that is not there counts as 0.
 abbrev pub fieldValue : ℕ → List ℕ → Value
 fieldValue kind bytes =
-    pick (eqb kind 1) (λ _. int32 (toZ w32 (le 4 bytes 0)))
-    (λ _. pick (eqb kind 2) (λ _. int64 (toZ w64 (le 8 bytes 0)))
-    (λ _. pick (eqb kind 3) (λ _. real (ofBits binary64 (le 8 bytes 0)))
+    pick (eqb kind 1) (λ _. int32 (toZ w32 (wordAt 4 bytes 0)))
+    (λ _. pick (eqb kind 2) (λ _. int64 (toZ w64 (wordAt 8 bytes 0)))
+    (λ _. pick (eqb kind 3) (λ _. real (ofBits binary64 (wordAt 8 bytes 0)))
     (λ _. pick (eqb kind 4) (λ _. text bytes)
     (λ _. pick (eqb kind 5) (λ _. opaque bytes) (λ _. bottom)))))
 
