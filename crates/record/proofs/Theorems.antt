@@ -8,11 +8,11 @@ use native.Mathlib.Omega.{arith}
 use lib.Dec.{ltb, leb, eqb}
 use lib.ListN.{length, getD, length-append, List·getD-append}
 use Rattle.word.specs.Word.{wordAt}
-use borrow.Author.Tests.{ltb-true, ltb-false, leb-true, leb-false, le-ltb, ne-eqb}
+use borrow.Author.Tests.{ltb-true, ltb-false, leb-true, leb-false, eqb-true, le-ltb, ne-eqb}
 use Rattle.record.specs.declared.Record.{Record}
 use Rattle.record.specs.declared.Record.the-variants.{End, Whole, Cut, Wrong}
 use Rattle.record.specs.Record.{lengthOf, kindOf, lengthRight, recordOf}
-use Rattle.record.specs.Theorems.{WholeLies, CutShort, WholeGrows, WrongGrows}
+use Rattle.record.specs.Theorems.{WholeLies, CutShort, EndEmpty, WholeGrows, WrongGrows}
 use Rattle.record.proofs.Laws.{found-whole}
 
 -- a word that lies in s stays where more comes after it
@@ -67,6 +67,18 @@ cut-short s e =
     ⊎-elim (λ h. let l = ltb-true (length s) 4 h in omega arith)
     (λ p. let r = length-right n (p .0) in let h = leb-false (4 + n) (length s) (p .1) in omega arith)
     (cut-tests (eqb (length s) 0) (ltb (length s) 4) (lengthRight n) (leb (4 + n) (length s)) (kindOf s) (4 + n) e)
+
+end-tests : (a b c d : Bool) (k n : ℕ) → by-tests a b c d (Whole k n) ≡ End → a ≡ true
+end-tests true b c d k n e = refl
+end-tests false true c d k n e = differ (cc)
+end-tests false false false d k n e = differ (cc)
+end-tests false false true true k n e = differ (cc)
+end-tests false false true false k n e = differ (cc)
+
+pub end-empty : EndEmpty
+end-empty s e =
+    let n = lengthOf s in
+    eqb-true (length s) 0 (end-tests (eqb (length s) 0) (ltb (length s) 4) (lengthRight n) (leb (4 + n) (length s)) (kindOf s) (4 + n) e)
 
 wrong-tests : (a b c d : Bool) (k n : ℕ) → by-tests a b c d (Whole k n) ≡ Wrong → (a ≡ false) × (b ≡ false) × (c ≡ false)
 wrong-tests true b c d k n e = differ (cc)
