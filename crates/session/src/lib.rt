@@ -16,8 +16,8 @@ use truth::Truth;
 
 // What a record leaves: the length of the table, 0 where there is none, and the place after the line.
 struct Answered {
-    pub held: usize,
-    pub next: usize,
+    held: usize,
+    next: usize,
 }
 
 // Kind 3. It asks for the kind, which the record reader found, and for room for a line.
@@ -107,7 +107,7 @@ fn answer(
 }
 
 // Why no more records were answered.
-pub enum Stop {
+enum Stop {
     // There is no room for another line.
     Full,
     // The next record has not come whole.
@@ -117,16 +117,16 @@ pub enum Stop {
 }
 
 // What a stretch of the input leaves: the bytes of it that were answered, the length of the table, the bytes of the lines, and why no more were.
-pub struct Served {
-    pub taken: usize,
-    pub held: usize,
-    pub written: usize,
-    pub stop: Stop,
+struct Served {
+    taken: usize,
+    held: usize,
+    written: usize,
+    stop: Stop,
 }
 
 // Answers the records of a stretch of the input, as many as `out` has room for lines of 80 bytes. `last`: the input ends with the stretch.
 // It asks that the table lies in its buffer and is sound, as one that it left is, and as none is.
-pub fn serve(input: &[u8], last: bool, table: &mut [u8], held: usize, out: &mut [u8]) -> Served
+fn serve(input: &[u8], last: bool, table: &mut [u8], held: usize, out: &mut [u8]) -> Served
     requires { ⌜ (held ≤ length (now table)) × Sound (take held (now table)) ⌝ }
     ensures { λ r. ⌜ Serves (servingOf (length (now (out .entry)) / 80) last (take held (now (table .entry))) (now (table .entry)) (now (input .entry))) (now (input .entry)) (now (out .entry)) (now (table .exit)) (now (out .exit)) r ⌝ }
 {
