@@ -5,18 +5,16 @@ use mathlib.Core.List.{List, [], _∷_, _++_, append-nil}
 use Prim.Native.Nat.{ℕ, zero, suc, _+_, _-_, _≤_, _<_}
 use native.Mathlib.Omega.{arith}
 use borrow.Author.Tests.{lt-ltb, le-ltb}
-use lib.Dec.{ltb}
 use lib.ListN.{length, take, drop, length-drop}
 use lib.Seq.{sets, length-sets, length-take-le, take-nil, take-add, drop-drop}
 use Rattle.record.specs.declared.Record.{Record}
 use Rattle.record.specs.declared.Record.the-variants.{End, Whole, Cut, Wrong}
 use Rattle.record.specs.Record.{recordOf, waitsOf}
-use Rattle.record.specs.Line.{Put}
 use Rattle.record.proofs.Theorems.{cut-short, end-empty}
 use Rattle.session.specs.declared.Stop.{Stop}
 use Rattle.session.specs.declared.Stop.the-variants.{Full, Waiting, Ended}
 use Rattle.session.specs.declared.Next.{Next}
-use Rattle.session.specs.declared.Next.the-variants.{Answer, Read, Done}
+use Rattle.session.specs.declared.Next.the-variants.{Read}
 use Rattle.session.specs.declared.Brought.{Brought}
 use Rattle.session.specs.declared.Brought.the-variants.{UpTo, Again}
 use Rattle.session.specs.declared.Served.{Served}

@@ -1,29 +1,29 @@
 -- The theorems that specs/Theorems.antt states. Assumes nothing.
 use mathlib.Core.Path.{_≡_, refl, sym, ap, ap₂, _∙_}
-use mathlib.Core.Bool.{Bool, true, false, not, cond}
-use mathlib.Core.List.{List, [], _∷_, _++_, append-assoc, append-nil}
+use mathlib.Core.Bool.{Bool, true, false, not}
+use mathlib.Core.List.{List, [], _++_, append-assoc, append-nil}
 use mathlib.Core.Logic.{inl}
-use Prim.Native.Nat.{ℕ, zero, suc, _+_, _*_, _-_, _≤_, _<_}
+use Prim.Native.Nat.{ℕ, zero, suc, _+_, _-_, _≤_}
 use native.Mathlib.Omega.{arith}
-use borrow.Author.Tests.{lt-ltb, le-ltb, le-leb, lt-leb, eq-eqb, ne-eqb}
-use lib.ListN.{length, take, drop, getD, length-append, length-drop, List·getD-append}
-use lib.Seq.{sets, length-sets, take-append-le, drop-append-le, drop-drop}
+use borrow.Author.Tests.{eq-eqb}
+use lib.ListN.{length, take, drop, length-append, length-drop}
+use lib.Seq.{length-sets, take-append-le, drop-append-le, drop-drop}
 use Rattle.table.specs.Table.{layoutOf}
 use Rattle.table.specs.Check.{checkOf}
 use Rattle.record.specs.declared.Record.{Record}
 use Rattle.record.specs.declared.Record.the-variants.{End, Whole, Cut, Wrong}
-use Rattle.record.specs.Record.{lengthOf, kindOf, lengthRight, recordOf, waitsOf}
+use Rattle.record.specs.Record.{recordOf, waitsOf}
 use Rattle.record.specs.Line.{errorLine}
 use Rattle.record.proofs.Theorems.{whole-lies, whole-grows, wrong-grows}
 use Rattle.session.specs.declared.Stop.{Stop}
 use Rattle.session.specs.declared.Stop.the-variants.{Full, Waiting, Ended}
 use Rattle.session.specs.declared.Next.{Next}
-use Rattle.session.specs.declared.Next.the-variants.{Answer, Read, Done}
+use Rattle.session.specs.declared.Next.the-variants.{Read}
 use Rattle.session.specs.declared.Brought.{Brought}
 use Rattle.session.specs.declared.Brought.the-variants.{UpTo, Again}
 use Rattle.session.specs.declared.State.{State}
 use Rattle.session.specs.Session.{lineOf, tableAfter, onRecord, outputFrom, mostTable, outputAfter, outputOf}
-use Rattle.session.specs.Serving.{bufferAfter, Serving, stopped, prepend, servingOf}
+use Rattle.session.specs.Serving.{bufferAfter, Serving, servingOf}
 use Rattle.session.specs.State.{pending, nextOf, servingNow, crowded, arrived, receivedOf}
 use Rattle.session.specs.History.{Session, begins, answers, moves, reads, toCome}
 use Rattle.session.specs.Theorems.{restOf, InPieces, AlwaysReady, Printed, WholeOutput, NoTable}

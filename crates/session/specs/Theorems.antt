@@ -8,8 +8,7 @@ use Rattle.truth.specs.declared.Truth.the-variants.{Bottom}
 use Rattle.record.specs.Line.{noticeLine}
 use Rattle.session.specs.declared.Stop.{Stop}
 use Rattle.session.specs.declared.Stop.the-variants.{Full, Waiting, Ended}
-use Rattle.session.specs.declared.Next.{Next}
-use Rattle.session.specs.declared.Next.the-variants.{Answer, Read, Done}
+use Rattle.session.specs.declared.Next.the-variants.{Done}
 use Rattle.session.specs.declared.State.{State}
 use Rattle.session.specs.Session.{lineOf, outputFrom, outputAfter, outputOf}
 use Rattle.session.specs.Serving.{servingOf}

@@ -1,9 +1,8 @@
-// What each record of standard input means, as functions on slices. Document 01, "Examples", the program `verdict`.
+// What each record of standard input means, and the session that answers them over lent buffers, as functions on slices. Document 01, "Examples", the program `verdict`.
 ghost use mathlib.Core.Path.{_≡_};
 ghost use mathlib.Core.List.{List};
 ghost use Prim.Native.Nat.{ℕ, _+_, _-_, _/_, _≤_};
-ghost use lib.ListN.{length, take, drop};
-ghost use lib.Seq.{sets};
+ghost use lib.ListN.{length, take};
 ghost use Rattle.record.specs.Line.{Put};
 ghost use Rattle.interpreter.specs.Running.{refused as refusedWith, runningOf};
 ghost use Rattle.session.specs.Session.{ranLine, Sound};
@@ -242,7 +241,7 @@ pub fn lines(out: &[u8], s: State) -> &[u8]
     &out[0..n]
 }
 
-// Sees to room for a longest record behind what is not answered yet, which is moved to the buffer's start where there is none. In the program three quarters of the buffer have been answered then, so each byte is moved seldom.
+// Sees to room for a longest record behind what is not answered yet, which is moved to the buffer's start where there is none. In the program at least half of the buffer has been answered then, so each byte is moved seldom.
 // It asks for a state that lies in its buffer and is to read.
 pub fn make_room(input: &mut [u8], s: State) -> State
     requires { ⌜ Stands (now input) s × (s .next ≡ Next.Read) ⌝ }

@@ -62,10 +62,11 @@ module _ (z : ℤ) (f : SFits w64 z) where
   pub counted : (s : List ℕ) (end k : ℕ) → Moved (length s - end) z → k ≡ clamped (toZ w64 (ofZ w64 z)) (length (take (length s - end) (drop end s))) → BroughtBy z end (UpTo (end + k))
   counted s end k m e = counted-at z end (length s - end) k m (e ∙ ap₂ clamped (toZ-ofZ w64 z f) (part-length s end))
 
-  -- a part behind `end` was lent, and came back as ys
+  -- what a read of the part behind `end` answered, where s′ is the whole after it
   pub moved-there : (s s′ : List ℕ) (end : ℕ) → length s′ ≡ length s → Moved (length (take (length s - end) (drop end s))) z → Moved (length s′ - end) (toZ w64 (ofZ w64 z))
   moved-there s s′ end e m = rw (toZ-ofZ w64 z f) (subst (λ (k : ℕ). Moved k z) (part-length s end ∙ ap (λ (k : ℕ). k - end) (sym e)) m)
 
+  -- the part came back as ys
   pub read-behind : (s ys : List ℕ) (end : ℕ) (b : Brought) → end < length s → length (putMid end (length s - end) s ys) ≡ length s
       → Moved (length (take (length s - end) (drop end s))) z → BroughtBy (toZ w64 (ofZ w64 z)) end b → Reads s end (putMid end (length s - end) s ys) b
   read-behind s ys end b h size m e =

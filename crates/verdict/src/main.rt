@@ -16,7 +16,7 @@ use session::Brought;
 use session::Next;
 use session::State;
 
-// Whether a read is repeated: it failed since a signal came first, or since nothing had come and standard input does not wait. Nothing else than the next read waits then.
+// Whether a read is repeated: it failed since a signal came first, or since nothing had come and standard input does not wait. Then it is asked again at once, since nothing here can wait for more.
 fn is_repeated(got: isize) -> bool
     ensures { λ r. ⌜ ((n : ℕ) → got ≡ pos n → r ≡ false) ⌝ }
 {

@@ -1,7 +1,7 @@
 // Prints for each standard input among the framed cases what `verdict` prints on it, in hex. The session gets it in small pieces, through a buffer that a long one fills many times.
 ghost use mathlib.Core.Path.{_≡_};
 ghost use Prim.Native.Nat.{_+_, _≤_, _<_};
-ghost use lib.ListN.{length, take};
+ghost use lib.ListN.{length};
 ghost use Rattle.session.specs.State.{Ready};
 ghost use Rattle.verdict_test.specs.Feeding.{Feeds};
 use libc::STDOUT_FILENO;

@@ -4,10 +4,9 @@ use mathlib.Core.Bool.{true, false}
 use mathlib.Core.List.{List}
 use Prim.Native.Nat.{ℕ, _-_, _≤_}
 use native.Mathlib.Omega.{arith}
-use lib.ListN.{length, take, drop}
+use lib.ListN.{length}
 use lib.Seq.{length-take-le}
 use borrow.Rule.Slice.PartMut.{putMid, midOf, drop-put}
-use Rattle.cases.specs.declared.Part.{Part}
 use Rattle.cases.specs.Parts.{Holds}
 use borrow.Author.Needs.{needs}
 use Rattle.cases.proofs.next_part.Statement.{statement}

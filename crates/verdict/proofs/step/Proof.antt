@@ -1,6 +1,5 @@
 -- `verdict::step` meets its contract: the history goes on by what the state asks for. Assumes nothing.
 use mathlib.Core.List.{[]}
-use lib.ListN.{take}
 use Rattle.verdict.proofs.Laws.{nothing-read, nothing-written}
 use borrow.Author.Needs.{needs}
 use Rattle.verdict.proofs.step.Statement.{statement}
