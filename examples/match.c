@@ -45,7 +45,7 @@ static void show(const struct notice *n)
 
 static void match(const uint8_t *table, size_t table_len, const struct notice *n)
 {
-    static const char *const names[] = {"false", "bottom", "true"};
+    static const char *const names[] = {"false", "true", "bottom"};
     size_t place, steps;
     uint8_t verdict;
     uint8_t number = virentolex_run(table, table_len, n->bytes, n->length, &place, &verdict, &steps);

@@ -46,8 +46,8 @@ extern "C" {
 
 /* Verdicts. Only a true one is delivered. */
 #define VIRENTOLEX_FALSE 0
-#define VIRENTOLEX_BOTTOM 1
-#define VIRENTOLEX_TRUE 2
+#define VIRENTOLEX_TRUE 1
+#define VIRENTOLEX_BOTTOM 2
 
 /* The kinds of fields, with the size of their values. */
 #define VIRENTOLEX_INT32 1  /* 4 bytes, little-endian, two's complement */
@@ -91,7 +91,7 @@ uint8_t virentolex_check_notice(const uint8_t *notice, size_t notice_len, size_t
  *
  * Answers 0, or 12 if the table fails its check, else 11 if the notice fails its layout.
  * *place    after 11 as virentolex_check_notice says; else 0.
- * *verdict  VIRENTOLEX_FALSE, VIRENTOLEX_BOTTOM or VIRENTOLEX_TRUE; bottom if refused.
+ * *verdict  VIRENTOLEX_FALSE, VIRENTOLEX_TRUE or VIRENTOLEX_BOTTOM; bottom if refused.
  * *steps    the entries that the run visited; 0 if refused.
  */
 uint8_t virentolex_run(const uint8_t *table, size_t table_len,

@@ -1,5 +1,5 @@
 #!/usr/bin/env python3
-"""grammar_vectors.py VECTORS: writes crates/grammar_test/stdin and stdout from VECTORS/translate.txt and document 01's examples.
+"""grammar_vectors.py [VECTORS]: writes crates/grammar_test/stdin and stdout from VECTORS/translate.txt and document 01's examples.
 
 A text that is refused 1, 3, 10, 6, 2, 4 or 5 answers number and place; an accepted one, or one refused 9, answers 0 and its table's entries, pool length and
 slots, which are read off the table's bytes (a text refused 7, 8 or 9 has no table and is left out)."""
@@ -27,13 +27,13 @@ EXAMPLES = [(b"pipe=>20", 5, 0), (b"Op", 5, 0), (b"! Op == 42", 5, 0), (b"a -5",
             (b"0x80000000 == 0", 3, 0), (b"f(a,)", 2, 4), (b"()", 2, 1), (b"(a,b)", 2, 2), (b"f(,", 2, 2), (b'"a"b', 2, 3), (b"(a)-5", 2, 3)]
 
 
-def main():
+def main(vectors=Path(__file__).resolve().with_name("vectors")):
     here = Path(__file__).resolve().parent.parent / "crates" / "grammar_test"
     stdin, rows = b"", []
     for text, number, place in EXAMPLES:
         stdin += struct.pack("<I", len(text)) + text
         rows.append(f"{number} {place} ")
-    for line in (Path(sys.argv[1]) / "translate.txt").read_text().splitlines():
+    for line in (Path(vectors) / "translate.txt").read_text().splitlines():
         text, _, number, place, table = line.split()
         if number in ("7", "8", "9"):
             continue
@@ -44,4 +44,4 @@ def main():
     (here / "stdout").write_text("\n".join(rows) + "\n")
 
 
-main()
+main(*sys.argv[1:])

@@ -1,5 +1,5 @@
 #!/usr/bin/env python3
-"""lexer_vectors.py VECTORS: writes crates/lexer_test/stdin and stdout from the texts of VECTORS/translate.txt, document 01's lexical examples, and texts at the limits that it names.
+"""lexer_vectors.py [VECTORS]: writes crates/lexer_test/stdin and stdout from the texts of VECTORS/translate.txt, document 01's lexical examples, and texts at the limits that it names.
 
 Number and place of a refusal 1, 3 or 10 are the vectors'. The tokens are found here by regular expressions, written from document 01; what the vectors' tables hold is compared with them."""
 import re
@@ -208,7 +208,7 @@ def vectors(path):
             yield bytes.fromhex(text) if text != "-" else b"", int(number), int(place), table
 
 
-def main(folder):
+def main(folder=Path(__file__).resolve().with_name("vectors")):
     here = Path(__file__).resolve().parent.parent / "crates" / "lexer_test"
     cases = {}
     for text, number, place in own():
@@ -228,4 +228,4 @@ def main(folder):
     (here / "stdout").write_text("".join(f"{n} {p}" + "".join(printed(*t) for t in tokens) + "\n" for n, p, tokens in cases.values()))
 
 
-main(sys.argv[1])
+main(*sys.argv[1:])

@@ -1,5 +1,5 @@
 #!/usr/bin/env python3
-"""notice_vectors.py FOLDER: writes crates/notice_test/stdin and stdout from the cases and answers of FOLDER/read.txt and FOLDER/write.txt, after document 01's Op42 and E and cases at the limits.
+"""notice_vectors.py [VECTORS]: writes crates/notice_test/stdin and stdout from the cases and answers of VECTORS/read.txt and VECTORS/write.txt, after document 01's Op42 and E and cases at the limits.
 
 One case a line, byte strings in hex, `-` for none. read.txt: notice, k, number, place, kind, name, value. write.txt: buffer, named length, name, kind, value, number, place, new length, buffer afterwards.
 """
@@ -74,8 +74,8 @@ def show(s):
     return s.hex() if s else "-"
 
 
-def main():
-    folder = Path(sys.argv[1])
+def main(vectors=Path(__file__).resolve().with_name("vectors")):
+    folder = Path(vectors)
     here = Path(__file__).resolve().parent.parent / "crates" / "notice_test"
     reads, writes = limits()
     e, op42 = bytes.fromhex(E), bytes.fromhex(OP42)
@@ -103,4 +103,4 @@ def main():
     (here / "stdout").write_text("\n".join(rows) + "\n")
 
 
-main()
+main(*sys.argv[1:])

@@ -1,5 +1,5 @@
 #!/usr/bin/env python3
-"""run_vectors.py VECTORS: writes crates/interpreter_test/stdin and stdout from VECTORS/run.txt, document 01's own runs, and runs at the limits that document 01 names.
+"""run_vectors.py [VECTORS]: writes crates/interpreter_test/stdin and stdout from VECTORS/run.txt, document 01's own runs, and runs at the limits that document 01 names.
 
 A vector's answer is its own. Those of the other cases follow from document 01's sentences, which are named beside them."""
 import struct
@@ -46,7 +46,7 @@ def cases():
         yield table([NAME] + [two] * 7 + [(1, 0, last), (59, 8, 0)]), OP42, "0 0 %s 10" % verdict
 
 
-def main(vectors):
+def main(vectors=Path(__file__).resolve().with_name("vectors")):
     here = Path(__file__).resolve().parent.parent / "crates" / "interpreter_test"
     rows = list(cases())
     for line in (Path(vectors) / "run.txt").read_text().split("\n"):
@@ -57,4 +57,4 @@ def main(vectors):
     (here / "stdout").write_text("".join(row[2] + "\n" for row in rows))
 
 
-main(sys.argv[1])
+main(*sys.argv[1:])

@@ -1,5 +1,5 @@
 #!/usr/bin/env python3
-"""table_vectors.py VECTORS: writes crates/table_test/stdin and stdout from the tables of VECTORS/run.txt, document 01's 48-byte table, and tables at the limits that document 01 names.
+"""table_vectors.py [VECTORS]: writes crates/table_test/stdin and stdout from the tables of VECTORS/run.txt, document 01's 48-byte table, and tables at the limits that document 01 names.
 
 A vector says whether its table is refused by 12. What a table holds is read by struct."""
 import struct
@@ -100,7 +100,7 @@ def reading(t):
     return "0 " + fields + (t[10 + 12 * n:].hex() or "-")
 
 
-def main(vectors):
+def main(vectors=Path(__file__).resolve().with_name("vectors")):
     here = Path(__file__).resolve().parent.parent / "crates" / "table_test"
     cases = list(limits())
     for line in (Path(vectors) / "run.txt").read_text().split("\n"):
@@ -112,4 +112,4 @@ def main(vectors):
     (here / "stdout").write_text("".join((reading(t) if right else "12") + "\n" for t, right in cases))
 
 
-main(sys.argv[1])
+main(*sys.argv[1:])

@@ -1,5 +1,5 @@
 #!/usr/bin/env python3
-"""translator_vectors.py VECTORS: writes crates/translator_test/stdin and stdout from translate.txt (VECTORS, or in the folder VECTORS), document 01's own examples, and texts at the limits that it names.
+"""translator_vectors.py [VECTORS]: writes crates/translator_test/stdin and stdout from translate.txt (VECTORS, or in the folder VECTORS), document 01's own examples, and texts at the limits that it names.
 
 A vector's answer is its own. A vector with a buffer of 65,536 bytes is asked again with none, and one with a table also with a buffer of the table's length and with one byte less: "9 | lent buffer shorter than the table", the
 last of the refusals. The answers of the other cases follow from document 01's sentences, which are named beside them."""
@@ -109,7 +109,7 @@ def asked(path):
             yield text, 0, number, place, b""
 
 
-def main(vectors):
+def main(vectors=Path(__file__).resolve().with_name("vectors")):
     here = Path(__file__).resolve().parent.parent / "crates" / "translator_test"
     path = Path(vectors)
     rows = [*examples(), *names(), *limits(), *asked(path / "translate.txt" if path.is_dir() else path)]
@@ -118,4 +118,4 @@ def main(vectors):
     (here / "stdout").write_text("".join("%d %d %d %s kept\n" % (number, place, len(t), t.hex() or "-") for _, _, number, place, t in rows))
 
 
-main(sys.argv[1])
+main(*sys.argv[1:])

@@ -1,5 +1,6 @@
 #!/usr/bin/env python3
-"""verdict_vectors.py VECTORS: writes stdin and stdout of crates/verdict_test from VECTORS/program.txt and from inputs at the limits that document 01 names, and those of crates/verdict, document 01's example."""
+"""verdict_vectors.py [VECTORS]: writes stdin and stdout of crates/verdict_test from VECTORS/program.txt, from inputs at the limits that document 01 names and from one that is longer than the program's buffer, and those of crates/verdict,
+document 01's example."""
 import struct
 import sys
 from pathlib import Path
@@ -45,7 +46,17 @@ def limits():
     yield text(b"Op == 42") + record(1, b""), "S 0 0 48\nN 11 bottom 0 0\n"
 
 
-def main(vectors):
+def long(cases):
+    """A standard input longer than the program's buffer of 65,536 bytes, from cases with known answers: each begins with a text, which replaces what came before, and none ends the run. Its last record is cut."""
+    whole = [(i, o) for i, o in cases if i[4:6] == b"\3\0" and not o.endswith(b"E\n")]
+    data, answers = b"", b""
+    while len(data) <= 65536:
+        for i, o in whole:
+            data, answers = data + i, answers + o
+    return data + OP42[:-1], answers + b"E\n"
+
+
+def main(vectors=Path(__file__).resolve().with_name("vectors")):
     crates = Path(__file__).resolve().parent.parent / "crates"
     cases = [(i, o.encode()) for i, o in limits()]
     (crates / "verdict" / "stdin").write_bytes(cases[0][0])
@@ -54,8 +65,9 @@ def main(vectors):
     for line in (Path(vectors) / "program.txt").read_text().split("\n"):
         if line:
             cases.append(tuple(map(plain, line.split())))
+    cases.append(long(cases))
     (crates / "verdict_test" / "stdin").write_bytes(b"".join(struct.pack("<I", len(i)) + i for i, _ in cases))
-    (crates / "verdict_test" / "stdout").write_text("".join((o.hex() or "-") + "\n" for _, o in cases))
+    (crates / "verdict_test" / "stdout").write_text("".join(o.hex() + "\n" for _, o in cases))
 
 
-main(sys.argv[1])
+main(*sys.argv[1:])

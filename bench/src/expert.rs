@@ -939,15 +939,20 @@ unsafe fn fit(pool: &[u8], notice: &[u8], how: u8, x: Slot, later: &[Slot]) -> u
     t
 }
 
-/// The guarded run over bytes: number, place, verdict, steps.
+/// A verdict's number in the interface: false 0, true 1, bottom 2.
+fn number_of(verdict: u8) -> u8 {
+    [0, 2, 1][verdict as usize]
+}
+
+/// The guarded run over bytes: number, place, the verdict's number, steps.
 pub fn guarded(table: &[u8], notice: &[u8]) -> (u8, usize, u8, usize) {
     let mut code = no_code();
     let Some(p) = decode(table, &mut code) else {
-        return (12, 0, BOTTOM, 0);
+        return (12, 0, number_of(BOTTOM), 0);
     };
     if let Some(place) = check_notice(notice) {
-        return (11, place, BOTTOM, 0);
+        return (11, place, number_of(BOTTOM), 0);
     }
     let (verdict, steps) = unsafe { run(&p, notice) };
-    (0, 0, verdict, steps)
+    (0, 0, number_of(verdict), steps)
 }

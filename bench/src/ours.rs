@@ -67,7 +67,7 @@ pub fn check_notice(notice: &[u8]) -> Option<usize> {
     }
 }
 
-/// The guarded run over bytes: number, place, verdict, steps.
+/// The guarded run over bytes: number, place, the verdict's number, steps.
 pub fn guarded(table: &[u8], notice: &[u8]) -> (u8, usize, u8, usize) {
     let (mut place, mut verdict, mut steps) = (0, 0, 0);
     // SAFETY: as above

@@ -1,9 +1,13 @@
 //! The kinds of cases: inputs from the generator, given to the static library and to the second
 //! implementation, and every answer and lent byte compared.
 
+use crate::about::About;
+use crate::corners::Watch;
 use crate::random::Random;
 use crate::tally::Tally;
-use crate::{edges, inputs, notices, program, tables, texts, words};
+use crate::{edges, inputs, notices, operations, program, spellings, tables, texts, words};
+use reference::compile::Entry;
+use reference::value::Slot;
 use reference::Truth;
 use std::collections::BTreeSet;
 use std::fmt::{Debug, Formatter};
@@ -100,28 +104,34 @@ impl Case<'_> {
         }
     }
 
-    /// A well-formed notice, most often one with the names that texts use.
-    fn well_formed(&mut self) -> Vec<u8> {
-        match self.random.below(4) {
-            0 => notices::valid(&mut self.random),
-            _ => notices::rich(&mut self.random),
+    /// The notice's fields, or none now and then, for a text or a table about it.
+    fn about(&mut self, notice: &[u8]) -> About {
+        match self.random.below(3) {
+            0 => About::nothing(),
+            _ => About::of(notice),
         }
     }
 
-    /// A text with buffers of each size, and demand 3 if it is accepted.
+    /// A text with buffers of each size, and demand 3 if it is accepted, on a notice that it is about
+    /// and on another.
     fn text(&mut self) -> Outcome {
-        let text = texts::text(&mut self.random);
-        self.count_edges(edges::of_text(&text));
+        let notice = notices::well_formed(&mut self.random);
+        let about = self.about(&notice);
+        let text = texts::text(&mut self.random, &about);
+        self.count("edge", edges::of_text(&text));
         let table = reference::compile::table_of(&text);
         let length = table.as_ref().map_or(64, Vec::len);
         let larger = length + self.random.between(1, 300);
         for room in [length, length - 1, 0, larger] {
             self.translation(&text, room)?;
         }
-        match table {
-            Ok(table) => (0..2).try_for_each(|_| self.demand_3(&text, &table)),
-            Err(_) => Ok(()),
-        }
+        self.count("spelling", spellings::of_text(&text));
+        let Ok(table) = table else {
+            return Ok(());
+        };
+        self.demand_3(&text, &table, &notice)?;
+        let other = notices::well_formed(&mut self.random);
+        self.demand_3(&text, &table, &other)
     }
 
     /// One translation; the whole buffer and its guards are compared.
@@ -141,24 +151,23 @@ impl Case<'_> {
 
     /// The letter, number 3, of an accepted text and a well-formed notice. The table is the library's
     /// own, since the translations have agreed.
-    fn demand_3(&mut self, text: &[u8], table: &[u8]) -> Outcome {
-        let notice = self.well_formed();
-        let inputs = [("text", text), ("table", table), ("notice", &notice)];
+    fn demand_3(&mut self, text: &[u8], table: &[u8], notice: &[u8]) -> Outcome {
+        let inputs = [("text", text), ("table", table), ("notice", notice)];
         same(
             "check of the text's table",
             &inputs,
             virentolex::check(table),
             0,
         )?;
-        let library = virentolex::run(table, &notice);
-        let meaning = reference::meaning(text, &notice);
+        let library = virentolex::run(table, notice);
+        let meaning = reference::meaning(text, notice);
         same(
             "demand 3: number, place, verdict; the reference is the meaning with nothing skipped",
             &inputs,
             (library.number, library.place, Some(truth(library.verdict))),
             (0, 0, meaning),
         )?;
-        let steps = self.running(table, &notice)?;
+        let steps = self.running(table, notice)?;
         self.tally
             .count("demand 3", format!("{:?}", truth(library.verdict)));
         self.count_skips("text runs", table, steps);
@@ -167,8 +176,10 @@ impl Case<'_> {
 
     /// One run; the steps answered.
     fn running(&mut self, table: &[u8], notice: &[u8]) -> Result<usize, String> {
+        let mut watch = Watch::of(table, notice);
+        let mut show = |entry: &Entry, stack: &[Slot]| watch.see(entry, stack);
         let library = virentolex::run(table, notice);
-        let reference = reference::run(table, notice);
+        let reference = reference::run::run_shown(table, notice, &mut show);
         self.tally.count("run", reference.number);
         same(
             "run: number, place, verdict, steps",
@@ -191,6 +202,7 @@ impl Case<'_> {
                 .count("verdict", format!("{:?}", reference.verdict));
             self.count_ops(table);
         }
+        self.count("corner", watch.met);
         Ok(reference.steps)
     }
 
@@ -213,8 +225,11 @@ impl Case<'_> {
 
     /// A table, its check, and its run on notices of each sort.
     fn table(&mut self) -> Outcome {
-        let table = tables::table(&mut self.random);
-        self.count_edges(edges::of_table(&table));
+        let notice = notices::well_formed(&mut self.random);
+        let about = self.about(&notice);
+        let table = tables::table(&mut self.random, &about);
+        self.count("edge", edges::of_table(&table));
+        self.count("edge", edges::of_entries(&table));
         let reference = reference::check(&table);
         self.tally.count("check", reference);
         same(
@@ -223,7 +238,6 @@ impl Case<'_> {
             virentolex::check(&table),
             reference,
         )?;
-        let notice = self.well_formed();
         let steps = self.running(&table, &notice)?;
         if reference == 0 {
             self.count_skips("table runs", &table, steps);
@@ -232,17 +246,21 @@ impl Case<'_> {
         self.running(&table, &notice).map(|_| ())
     }
 
-    /// One operator on numbers near the limits.
+    /// One operator on numbers near the limits, or on strings.
     fn operator(&mut self) -> Outcome {
-        let table = tables::operation(&mut self.random);
+        let table = match self.random.below(4) {
+            0 => operations::on_strings(&mut self.random),
+            _ => operations::on_numbers(&mut self.random),
+        };
+        self.count("edge", edges::of_entries(&table));
         self.running(&table, &virentolex::EMPTY_NOTICE).map(|_| ())
     }
 
     /// A notice, its check, all its fields and two more, and a run on it.
     fn notice(&mut self) -> Outcome {
         let notice = notices::notice(&mut self.random);
-        self.count_edges(edges::of_notice(&notice));
         let (number, place) = reference::check_notice(&notice);
+        self.count("edge", edges::of_notice(&notice, number, place));
         self.tally.count("check_notice", number);
         let library = virentolex::check_notice(&notice);
         let answers = ((library.number, library.place), (number, place));
@@ -256,7 +274,8 @@ impl Case<'_> {
         for k in (0..=count + 1).chain([usize::MAX]) {
             self.reading(&notice, k)?;
         }
-        let table = tables::translated(&mut self.random);
+        let about = self.about(&notice);
+        let table = tables::translated(&mut self.random, &about);
         self.running(&table, &notice).map(|_| ())
     }
 
@@ -288,10 +307,8 @@ impl Case<'_> {
         )
     }
 
-    fn count_edges(&mut self, edges: Vec<String>) {
-        edges
-            .into_iter()
-            .for_each(|edge| self.tally.count("edge", edge));
+    fn count(&mut self, of: &'static str, met: impl IntoIterator<Item = String>) {
+        met.into_iter().for_each(|one| self.tally.count(of, one));
     }
 
     /// Fields written, one after another, to a notice in a buffer.
@@ -359,13 +376,8 @@ impl Case<'_> {
         let reference = reference::write(&mut meant[GUARD..end], length, name, kind, value);
         self.tally.count("write", reference.number);
         let notice = before[GUARD..end].get(..length).unwrap_or_default();
-        self.count_edges(edges::of_write(
-            end - GUARD,
-            notice,
-            name.len(),
-            value.len(),
-            reference.number,
-        ));
+        let met = edges::of_write(end - GUARD, notice, field, reference.number);
+        self.count("edge", met);
         same(
             &format!("write, named length {length}, kind {kind}: number, place, length, bytes after with guards"),
             &[("buffer", &before[GUARD..end]), ("name", name), ("value", value)],
@@ -410,13 +422,15 @@ impl Case<'_> {
         )
     }
 
-    /// A whole input of the program, given to it in pieces.
+    /// A whole input of the program, given to it in pieces, of a long one at most 2,000.
     fn program(&mut self) -> Outcome {
         let input = inputs::input(&mut self.random);
         let piece = self.random.pick(&[1000, 7, 65536, 1 << 20]);
+        let piece = piece.max(input.len() / 2000);
         let printed = program::output(self.program, &input, piece)?;
         let meant = reference::verdict(&input);
         self.count_lines(&meant);
+        self.count("edge", edges::of_input(&input, &meant));
         let lines = |bytes: Vec<u8>| String::from_utf8_lossy(&bytes).into_owned();
         same(
             "program verdict",

@@ -1,29 +1,33 @@
 //! Expressions by the grammar, as tokens: operators, operands and calls of the right kinds, with names
 //! that notices have.
 
+use crate::about::About;
 use crate::random::Random;
 use crate::words;
 
 pub const LOGIC: [&str; 3] = ["&&", "^^", "||"];
 pub const COMPARISONS: [&str; 6] = ["==", "!=", "<", "<=", ">", ">="];
 pub const ARITHMETIC: [&str; 11] = ["<<", ">>", ">>>", "&", "^", "|", "*", "/", "%", "+", "-"];
-const TESTS: [&str; 7] = [
+pub const TESTS: [&str; 7] = [
     "int32", "int64", "real64", "string", "opaque", "nan", "require",
 ];
-const MATCHES: [&str; 3] = ["begins-with", "contains", "ends-with"];
+pub const MATCHES: [&str; 3] = ["begins-with", "contains", "ends-with"];
 
 pub type Tokens = Vec<Vec<u8>>;
 
 /// Makes the tokens of a text by the grammar.
-struct Maker<'a> {
-    random: &'a mut Random,
-    tokens: Tokens,
+pub struct Maker<'a> {
+    pub random: &'a mut Random,
+    /// The notice that the text is to be run on.
+    pub about: &'a About,
+    pub tokens: Tokens,
 }
 
 /// The tokens of a logic expression with about `size` operands and at most `deep` parentheses.
-pub fn tokens(random: &mut Random, size: usize, deep: usize) -> Tokens {
+pub fn tokens(random: &mut Random, about: &About, size: usize, deep: usize) -> Tokens {
     let mut maker = Maker {
         random,
+        about,
         tokens: Vec::new(),
     };
     maker.logic(size, deep);
@@ -31,11 +35,11 @@ pub fn tokens(random: &mut Random, size: usize, deep: usize) -> Tokens {
 }
 
 impl Maker<'_> {
-    fn put(&mut self, token: impl AsRef<[u8]>) {
+    pub fn put(&mut self, token: impl AsRef<[u8]>) {
         self.tokens.push(token.as_ref().to_vec());
     }
 
-    fn put_any(&mut self, of: &[&str]) {
+    pub fn put_any(&mut self, of: &[&str]) {
         let token = self.random.pick(of);
         self.put(token);
     }
@@ -57,6 +61,9 @@ impl Maker<'_> {
     }
 
     fn term(&mut self, size: usize, deep: usize) {
+        if self.random.once_in(3) && self.pointed() {
+            return;
+        }
         match self.random.below(8) {
             0..=2 if deep > 0 => {
                 self.row("!");
@@ -93,7 +100,7 @@ impl Maker<'_> {
                 self.put(")");
             }
             1 | 2 => self.string(),
-            _ => self.name_of(&words::STRINGS),
+            _ => self.name_of(&words::STRINGS, &[4]),
         }
     }
 
@@ -117,8 +124,8 @@ impl Maker<'_> {
             }
             2 => self.one_name("size"),
             3 => self.folded(),
-            4 | 5 => self.name_of(&words::NAMES),
-            6 | 7 => self.name_of(&words::NUMBERS),
+            4 | 5 => self.name_of(&words::NAMES, &[1, 2, 3, 4, 5]),
+            6 | 7 => self.name_of(&words::NUMBERS, &[1, 2, 3]),
             _ => {
                 let number = number(self.random);
                 self.put(number);
@@ -129,7 +136,7 @@ impl Maker<'_> {
     fn one_name(&mut self, function: &str) {
         self.put(function);
         self.put("(");
-        self.name_of(&words::NAMES);
+        self.name_of(&words::NAMES, &[1, 2, 3, 4, 5]);
         self.put(")");
     }
 
@@ -154,8 +161,8 @@ impl Maker<'_> {
                 self.folded();
                 self.put(")");
             }
-            1 => self.name_of(&words::NAMES),
-            _ => self.name_of(&words::STRINGS),
+            1 => self.name_of(&words::NAMES, &[1, 2, 3, 4, 5]),
+            _ => self.name_of(&words::STRINGS, &[4]),
         }
         for _ in 0..self.random.pick(&[1, 1, 1, 2, 2, 3, 7, 8]) {
             self.put(",");
@@ -167,7 +174,7 @@ impl Maker<'_> {
     fn equals(&mut self, size: usize, deep: usize) {
         self.put("equals");
         self.put("(");
-        self.name_of(&words::NAMES);
+        self.name_of(&words::NAMES, &[1, 2, 3, 4, 5]);
         for _ in 0..self.random.pick(&[1, 1, 1, 2, 2, 3, 8]) {
             self.put(",");
             match self.random.below(3) {
@@ -178,9 +185,11 @@ impl Maker<'_> {
         self.put(")");
     }
 
-    fn name_of(&mut self, names: &[&'static [u8]]) {
-        let name = self.random.pick(names);
-        let name = spelled(self.random, name);
+    /// A field of one of the kinds, or one of the names.
+    fn name_of(&mut self, names: &[&'static [u8]], kinds: &[u16]) {
+        let named = self.about.name(self.random, kinds);
+        let name = named.unwrap_or_else(|| self.random.pick(names).to_vec());
+        let name = spelled(self.random, &name);
         self.put(name);
     }
 
@@ -192,7 +201,7 @@ impl Maker<'_> {
 }
 
 /// A name with the escapes that it needs, and now and then others.
-fn spelled(random: &mut Random, name: &[u8]) -> Vec<u8> {
+pub fn spelled(random: &mut Random, name: &[u8]) -> Vec<u8> {
     let mut spelled = Vec::new();
     for (at, byte) in name.iter().enumerate() {
         let first = at == 0 && !byte.is_ascii_alphabetic() && *byte != b'_';
@@ -205,7 +214,7 @@ fn spelled(random: &mut Random, name: &[u8]) -> Vec<u8> {
 }
 
 /// A string in either quotes, with the escapes that it needs, and now and then others.
-fn quoted(random: &mut Random, text: &[u8]) -> Vec<u8> {
+pub fn quoted(random: &mut Random, text: &[u8]) -> Vec<u8> {
     let quote = random.pick(b"\"'");
     let mut quoted = vec![quote];
     for byte in text {
@@ -231,7 +240,7 @@ pub fn number(random: &mut Random) -> String {
 }
 
 /// An integer in decimal, octal or hex.
-fn integer(random: &mut Random, value: i128) -> String {
+pub fn integer(random: &mut Random, value: i128) -> String {
     let sign = if value < 0 { "-" } else { "" };
     let size = value.unsigned_abs();
     match random.below(6) {
@@ -242,8 +251,31 @@ fn integer(random: &mut Random, value: i128) -> String {
     }
 }
 
+/// A real whose digits and scale (document 01's E) are at their limits or one over.
+fn real_at_limits(random: &mut Random) -> String {
+    let count = random.pick(&[1, 14, 15, 15, 16]);
+    let fraction = random.between(1, count);
+    let scale = random.pick(&[-23, -22, -22, -21, 0, 21, 22, 22, 23]);
+    let mut digits = vec![b'0'; 1 + random.below(2)];
+    digits.push(b'1' + random.below(9) as u8);
+    digits.extend((1..count).map(|_| b'0' + random.below(10) as u8));
+    digits.insert(digits.len() - fraction, b'.');
+    let digits = String::from_utf8(digits).expect("digits");
+    let exponent = scale + fraction as i32;
+    let sign = if exponent < 0 {
+        "-"
+    } else {
+        random.pick(&["", "+"])
+    };
+    let zeros = random.pick(&["", "", "0", "00"]);
+    format!("{digits}e{sign}{zeros}{}", exponent.abs())
+}
+
 /// A real of random digits, near the limits of digits and exponent now and then.
 fn real(random: &mut Random) -> String {
+    if random.once_in(4) {
+        return real_at_limits(random);
+    }
     let mut digits = |most: usize| -> String {
         let count = random.between(1, most);
         (0..count)

@@ -1,29 +1,52 @@
 //! Standard inputs of the program `verdict`.
 
+use crate::about::About;
 use crate::notices;
 use crate::random::Random;
 use crate::texts;
 
 /// Any input: records, and now and then a bad or cut one at the end.
 pub fn input(random: &mut Random) -> Vec<u8> {
-    let count = if random.once_in(12) {
-        random.between(20, 60)
-    } else {
-        random.below(9)
+    let mut input = match random.below(24) {
+        0 | 1 => of_length(random),
+        2 => of_short_records(random),
+        3 | 4 => of_records(random, 20, 60),
+        _ => of_records(random, 0, 8),
     };
-    let mut input = Vec::new();
-    for _ in 0..count {
-        input.extend(record(random));
-    }
-    match random.below(5) {
+    match random.below(4) {
         0 => input.extend(bad_record(random)),
         1 => {
-            let kept = random.below(input.len() + 1);
-            input.truncate(kept);
+            let cut = random.below(input.len().min(9000) + 1);
+            input.truncate(input.len() - cut);
         }
         _ => (),
     }
     input
+}
+
+/// A count of records from `least` to `most`.
+fn of_records(random: &mut Random, least: usize, most: usize) -> Vec<u8> {
+    let count = random.between(least, most);
+    (0..count).flat_map(|_| record(random)).collect()
+}
+
+/// Records, many of them long, that do not fit into the program's buffer of 65,536 bytes.
+fn of_length(random: &mut Random) -> Vec<u8> {
+    let length = random.between(70_000, 300_000);
+    let mut input = Vec::new();
+    while input.len() < length {
+        input.extend(match random.below(4) {
+            0 => of_kind(9, &vec![3; random.pick(&[5000, 16377, 16378])]),
+            1 => of_kind(1, notices::heavy(random).get(6..).unwrap_or_default()),
+            _ => record(random),
+        });
+    }
+    input
+}
+
+/// Records without a body, whose lines do not fit into the program's buffer of 65,536 bytes.
+fn of_short_records(random: &mut Random) -> Vec<u8> {
+    of_kind(65535, b"").repeat(random.between(8_000, 13_000))
 }
 
 fn record(random: &mut Random) -> Vec<u8> {
@@ -33,8 +56,13 @@ fn record(random: &mut Random) -> Vec<u8> {
             let length = random.pick(&[0, 1, 7, 16378]);
             of_kind(kind, &random.bytes(length))
         }
-        1..=3 => of_kind(3, &texts::text(random)),
-        4 | 5 => of_kind(3, &texts::valid(random)),
+        1 | 2 => of_kind(3, &texts::text(random, &About::nothing())),
+        3 => of_kind(3, &texts::valid(random, &About::nothing())),
+        4 | 5 => {
+            let notice = notices::well_formed(random);
+            let text = texts::valid(random, &About::of(&notice));
+            [of_kind(3, &text), notice].concat()
+        }
         6 => {
             let notice = notices::notice(random);
             of_kind(1, notice.get(6..).unwrap_or_default())

@@ -3,13 +3,19 @@
 //!
 //! Each case has its own generator, made of the seed and the case's number, so it can be run alone.
 
+mod about;
 mod cases;
+mod corners;
 mod edges;
 mod expressions;
 mod inputs;
 mod notices;
+mod operands;
+mod operations;
+mod pointed;
 mod program;
 mod random;
+mod spellings;
 mod tables;
 mod tally;
 mod texts;
@@ -26,7 +32,7 @@ const USAGE: &str =
 compare [--seed S] --case K [--program PATH]                 one case
 Without words: seed 1, from 0, 100000 cases, the program target/bin/verdict.";
 
-/// A run of so many cases must have met every number, op and verdict.
+/// A run of so many cases must have met every number, op, verdict, limit and corner.
 const MANY: u64 = 50_000;
 
 struct Options {

@@ -31,10 +31,7 @@ pub fn value(random: &mut Random, kind: u16) -> Vec<u8> {
         1 => words::short_whole(random).to_le_bytes().to_vec(),
         2 => words::whole(random).to_le_bytes().to_vec(),
         3 => words::real(random).to_le_bytes().to_vec(),
-        _ if random.once_in(30) => {
-            let length = random.pick(&[1024, 1023, 600]);
-            vec![random.byte(); length]
-        }
+        _ if random.once_in(30) => words::long(random),
         _ => words::text(random),
     }
 }
@@ -45,12 +42,7 @@ pub fn field(random: &mut Random) -> Field {
         0 => words::other_name(random),
         _ => words::name(random).to_vec(),
     };
-    let kind = kind_for(random, &name);
-    Field {
-        value: value(random, kind),
-        name,
-        kind,
-    }
+    suited(random, name)
 }
 
 /// The fields of a well-formed notice: names that keep the rules, rising.
@@ -75,16 +67,101 @@ pub fn rich(random: &mut Random) -> Vec<u8> {
     let mut names: Vec<&[u8]> = words::NAMES.to_vec();
     names.retain(|_| !random.once_in(10));
     names.sort();
+    let fields = names.into_iter().map(|name| suited(random, name.to_vec()));
+    rendered(&within_size(fields.collect()))
+}
+
+/// A well-formed notice of 60 to 64 fields of all kinds, most often 64. Any name may be the last.
+pub fn wide(random: &mut Random) -> Vec<u8> {
+    let count = random.pick(&[60, 61, 62, 63, 64, 64, 64, 64]);
+    let mut names: Vec<Vec<u8>> = words::NAMES.map(<[u8]>::to_vec).into();
+    names.retain(|_| random.once_in(3));
+    while names.len() < count {
+        let name = wide_name(random, &names);
+        if !names.contains(&name) {
+            names.push(name);
+        }
+    }
+    names.sort();
+    let fields = names.into_iter().map(|name| suited(random, name));
+    rendered(&within_size(fields.collect()))
+}
+
+/// A name for a notice with those names: one that goes on after another, or one whose first byte tells
+/// its kind.
+fn wide_name(random: &mut Random, names: &[Vec<u8>]) -> Vec<u8> {
+    let more = format!(
+        "{}{}",
+        random.pick(&["a", "i", "n", "o", "r", "s", "x"]),
+        random.below(99)
+    );
+    match names.get(random.below(4 * names.len() + 1)) {
+        Some(name) if name.len() + more.len() <= 64 => [name, more.as_bytes()].concat(),
+        _ if random.once_in(40) => vec![b'n'; 64],
+        _ => more.into_bytes(),
+    }
+}
+
+/// A field of the name, of a kind that suits it.
+fn suited(random: &mut Random, name: Vec<u8>) -> Field {
+    let kind = kind_for(random, &name);
+    Field {
+        value: value(random, kind),
+        name,
+        kind,
+    }
+}
+
+/// Fields with strings and opaque values of about 1,024 bytes, among a few others.
+fn long_fields(random: &mut Random) -> Vec<Field> {
     let mut fields = Vec::new();
-    for name in names {
-        let kind = kind_for(random, name);
+    for name in [&b"o1"[..], b"o2", b"s1", b"s2", b"s3", b"x y"] {
+        let kind = if random.once_in(8) {
+            random.pick(&[4, 5])
+        } else {
+            kind_for(random, name)
+        };
+        let value = if kind < 4 {
+            value(random, kind)
+        } else {
+            words::long(random)
+        };
         fields.push(Field {
             name: name.to_vec(),
             kind,
-            value: value(random, kind),
+            value,
         });
     }
-    rendered(&within_size(fields))
+    fields
+}
+
+/// A well-formed notice with values of about 1,024 bytes.
+pub fn long(random: &mut Random) -> Vec<u8> {
+    rendered(&long_fields(random))
+}
+
+/// A notice in which one value has 1,025 bytes, or one name 65.
+fn too_long(random: &mut Random) -> Vec<u8> {
+    let mut fields = long_fields(random);
+    let at = random.below(fields.len());
+    match random.below(3) {
+        0 => fields[at].name.resize(65, b'~'),
+        _ => {
+            fields[at].kind = random.pick(&[4, 5]);
+            fields[at].value.resize(1025, b'v');
+        }
+    }
+    rendered(&fields)
+}
+
+/// A well-formed notice of any sort, most often one with names that texts use.
+pub fn well_formed(random: &mut Random) -> Vec<u8> {
+    match random.below(12) {
+        0 | 1 => valid(random),
+        2..=4 => wide(random),
+        5 => long(random),
+        _ => rich(random),
+    }
 }
 
 /// One of many fields with short values.
@@ -165,9 +242,12 @@ pub fn valid(random: &mut Random) -> Vec<u8> {
 
 /// Any notice, about one of three damaged.
 pub fn notice(random: &mut Random) -> Vec<u8> {
-    match random.below(14) {
+    match random.below(18) {
         12 => full(random),
         13 => heavy(random),
+        14 | 15 => wide(random),
+        16 => long(random),
+        17 => too_long(random),
         0 | 1 => with_bad_field(random),
         2 => with_bad_header(random),
         3 => {

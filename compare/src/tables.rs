@@ -1,47 +1,48 @@
 //! Tables: those of texts, made by hand of random entries, and damaged ones.
 
+use crate::about::{self, About};
 use crate::random::Random;
 use crate::texts;
 use crate::words;
 use reference::op::{Op, OPS};
-use reference::value::{binary, unary, Slot, Value};
 
 /// A table before it is laid out; ops need not be known ones.
-struct Draft {
-    entries: Vec<(u16, u16, u64)>,
-    pool: Vec<u8>,
+#[derive(Default)]
+pub struct Draft {
+    pub entries: Vec<(u16, u16, u64)>,
+    pub pool: Vec<u8>,
 }
 
-/// Any table.
-pub fn table(random: &mut Random) -> Vec<u8> {
+/// Any table, to be run on the notice.
+pub fn table(random: &mut Random, about: &About) -> Vec<u8> {
     match random.below(10) {
         0 => {
             let length = random.below(60);
             random.bytes(length)
         }
         1 | 2 => {
-            let mut table = translated(random);
+            let mut table = translated(random, about);
             damage_bytes(random, &mut table);
             table
         }
         3..=5 => {
-            let mut draft = made(random);
+            let mut draft = made(random, about);
             damage(random, &mut draft);
             laid_out(&draft)
         }
-        6 => translated(random),
-        _ => laid_out(&made(random)),
+        6 => translated(random, about),
+        _ => laid_out(&made(random, about)),
     }
 }
 
 /// A table that passes the check: of a text.
-pub fn translated(random: &mut Random) -> Vec<u8> {
-    let text = texts::valid(random);
-    reference::compile::table_of(&text).unwrap_or_else(|_| laid_out(&made(random)))
+pub fn translated(random: &mut Random, about: &About) -> Vec<u8> {
+    let text = texts::valid(random, about);
+    reference::compile::table_of(&text).unwrap_or_else(|_| laid_out(&made(random, about)))
 }
 
 /// The draft's bytes.
-fn laid_out(draft: &Draft) -> Vec<u8> {
+pub fn laid_out(draft: &Draft) -> Vec<u8> {
     let length = 6 + 12 * draft.entries.len() + draft.pool.len();
     let mut table = (length as u32).to_le_bytes().to_vec();
     table.extend(2u16.to_le_bytes());
@@ -56,59 +57,11 @@ fn laid_out(draft: &Draft) -> Vec<u8> {
     table
 }
 
-/// One operator on numbers near the limits, and what its result is told by: that it is there, its type,
-/// or its value by the reference.
-pub fn operation(random: &mut Random) -> Vec<u8> {
-    let op = random.pick(&OPS[5..25]);
-    let left = number(random);
-    let right = number(random);
-    let mut entries = vec![pushed(&left)];
-    let result = if op.code() <= Op::Complement.code() {
-        unary(op, Some(left))
-    } else {
-        entries.push(pushed(&right));
-        binary(op, Some(left), Some(right))
-    };
-    entries.push((op.code(), 0, 0));
-    match result {
-        Slot::Value(Some(value)) if !random.once_in(4) => {
-            entries.push(pushed(&value));
-            entries.push((random.pick(&OPS[19..25]).code(), 0, 0));
-        }
-        Slot::Value(_) => entries.push((random.pick(&OPS[31..38]).code(), 0, 0)),
-        Slot::Truth(_) => (),
-    }
-    let pool = Vec::new();
-    laid_out(&Draft { entries, pool })
-}
-
-/// A number of any type, near the limits.
-fn number(random: &mut Random) -> Value {
-    match random.below(3) {
-        0 => Value::Int32(words::short_whole(random)),
-        1 => Value::Int64(words::whole(random)),
-        _ => Value::Real64(f64::from_bits(words::real(random))),
-    }
-}
-
-/// The entry that pushes a number; a string goes without its bytes.
-fn pushed(value: &Value) -> (u16, u16, u64) {
-    match value {
-        Value::Int32(value) => (Op::Int32.code(), 0, i64::from(*value) as u64),
-        Value::Int64(value) => (Op::Int64.code(), 0, *value as u64),
-        Value::Real64(value) => (Op::Real64.code(), 0, value.to_bits()),
-        Value::Text(_) | Value::Opaque(_) => (Op::Text.code(), 0, 0),
-    }
-}
-
 /// A pool in which names and strings lie over one another.
-fn pool(random: &mut Random) -> Vec<u8> {
-    let mut pool = Vec::new();
-    for _ in 0..random.between(1, 12) {
-        match random.below(3) {
-            0 => pool.extend(words::text(random)),
-            _ => pool.extend(words::name(random)),
-        }
+fn pool(random: &mut Random, names: &[Vec<u8>]) -> Vec<u8> {
+    let mut pool = names.concat();
+    for _ in 0..random.between(1, 6) {
+        pool.extend(words::text(random));
     }
     if random.once_in(30) {
         pool.resize(random.pick(&[4095, 4096, 4097]), b'p');
@@ -121,6 +74,8 @@ fn pool(random: &mut Random) -> Vec<u8> {
 struct Maker<'a> {
     random: &'a mut Random,
     draft: Draft,
+    /// Names that lie in the pool.
+    names: Vec<Vec<u8>>,
     logic: usize,
     values: usize,
     /// Skips that have no landing yet, each with the slots it was met with.
@@ -128,19 +83,21 @@ struct Maker<'a> {
 }
 
 /// A table by hand, most often one that passes the check.
-fn made(random: &mut Random) -> Draft {
+fn made(random: &mut Random, about: &About) -> Draft {
     let (length, padded) = match random.below(12) {
         0 => (random.between(300, 460), random.between(510, 514)),
         1 | 2 => (random.between(60, 200), 0),
         _ => (random.between(1, 24), 0),
     };
+    let names: Vec<Vec<u8>> = (0..8).map(|_| about::name(random, about)).collect();
     let draft = Draft {
         entries: Vec::new(),
-        pool: pool(random),
+        pool: pool(random, &names),
     };
     let mut maker = Maker {
         random,
         draft,
+        names,
         logic: 0,
         values: 0,
         open: Vec::new(),
@@ -222,24 +179,17 @@ impl Maker<'_> {
         (self.random.between(0, most) as u16, start as u64)
     }
 
-    /// A name that lies in the pool, if one that texts use does; else a string.
+    /// One of the names in the pool; now and then a string or any part as a name.
     fn named(&mut self) {
-        let name = words::name(self.random);
-        let found = self
-            .draft
-            .pool
-            .windows(name.len())
-            .position(|part| part == name);
-        match found {
-            Some(start) => self.put(Op::Name, name.len() as u16, start as u64),
-            None => {
-                let (a, b) = self.part();
-                let op = if self.random.once_in(12) {
-                    Op::Name
-                } else {
-                    Op::Text
-                };
-                self.put(op, a, b);
+        let (a, b) = self.part();
+        match self.random.below(24) {
+            0 => self.put(Op::Name, a, b),
+            1..=5 => self.put(Op::Text, a, b),
+            _ => {
+                let at = self.random.below(self.names.len());
+                let start = self.names[..at].concat().len();
+                let length = self.names[at].len();
+                self.put(Op::Name, length as u16, start as u64);
             }
         }
     }

@@ -1,6 +1,7 @@
-//! What occurred: how many cases of each kind, and each answer, op and verdict.
+//! What occurred: how many cases of each kind, and each answer, op, verdict, limit and corner.
 
 use crate::edges::EDGES;
+use crate::{corners, spellings};
 use reference::op::OPS;
 use std::collections::BTreeMap;
 
@@ -8,6 +9,10 @@ use std::collections::BTreeMap;
 pub struct Tally {
     counts: BTreeMap<(&'static str, String), u64>,
 }
+
+/// A line with more answers than these names only the rarest.
+const MOST_NAMED: usize = 64;
+const RAREST: usize = 8;
 
 /// What must occur in a run of many cases.
 const NUMBERS: [(&str, &[u8]); 6] = [
@@ -58,7 +63,13 @@ impl Tally {
             .iter()
             .flat_map(|(of, all)| all.iter().map(|one| (*of, one.to_string())));
         let ops = OPS.iter().map(|op| ("op", op.code().to_string()));
-        let all = numbers.chain(words).chain(ops);
+        let corners = corners::names().into_iter().map(|one| ("corner", one));
+        let spellings = spellings::names().into_iter().map(|one| ("spelling", one));
+        let all = numbers
+            .chain(words)
+            .chain(ops)
+            .chain(corners)
+            .chain(spellings);
         all.filter(|key| !self.counts.contains_key(key))
             .map(|(of, one)| format!("{of} {one}"))
             .collect()
@@ -71,20 +82,28 @@ impl Tally {
             lines.entry(of).or_default().push((what, count));
         }
         lines
-            .iter_mut()
-            .for_each(|(_, row)| row.sort_by_key(|(what, _)| (what.len(), what.as_str())));
-        let row = |row: &[(&String, &u64)]| {
-            let words: Vec<String> = row
-                .iter()
-                .map(|(what, count)| format!("{what}: {count}"))
-                .collect();
-            words.join(", ")
-        };
-        lines
-            .iter()
+            .into_iter()
             .map(|(of, all)| format!("{of:<13} {}", row(all)))
             .collect()
     }
+}
+
+/// The answers with their counts, or how many there are and the rarest.
+fn row(mut all: Vec<(&String, &u64)>) -> String {
+    let many = all.len();
+    let before = if many > MOST_NAMED {
+        all.sort_by_key(|(_, count)| **count);
+        all.truncate(RAREST);
+        format!("{many} of them, the rarest ")
+    } else {
+        all.sort_by_key(|(what, _)| (what.len(), what.as_str()));
+        String::new()
+    };
+    let words: Vec<String> = all
+        .iter()
+        .map(|(what, count)| format!("{what}: {count}"))
+        .collect();
+    before + &words.join(", ")
 }
 
 #[cfg(test)]
@@ -98,5 +117,17 @@ mod tests {
         tally.count("translate", 7);
         assert!(!tally.missing().contains(&"translate 7".to_string()));
         assert_eq!(tally.lines(), ["translate     7: 1"]);
+        assert!(tally.missing().contains(&"corner Plus: NaN".to_string()));
+    }
+
+    #[test]
+    fn a_long_line_names_the_rarest() {
+        let mut tally = Tally::default();
+        for _ in 0..2 {
+            (0..70).for_each(|one| tally.count("corner", one));
+        }
+        tally.count("corner", 70);
+        let line = &tally.lines()[0];
+        assert!(line.starts_with("corner        71 of them, the rarest 70: 1, 0: 2"));
     }
 }

@@ -1,10 +1,11 @@
 //! Texts: valid ones by the grammar, short, long and near each limit; damaged ones; bytes of no shape.
 
-use crate::expressions::{number, tokens, Tokens, ARITHMETIC, COMPARISONS, LOGIC};
+use crate::about::About;
+use crate::expressions::{number, quoted, tokens, Tokens, ARITHMETIC, COMPARISONS, LOGIC, MATCHES};
 use crate::random::Random;
 
-/// Any text.
-pub fn text(random: &mut Random) -> Vec<u8> {
+/// Any text, to be run on the notice.
+pub fn text(random: &mut Random, about: &About) -> Vec<u8> {
     match random.below(24) {
         0 => {
             let length = random.below(40);
@@ -13,30 +14,30 @@ pub fn text(random: &mut Random) -> Vec<u8> {
         1 => soup(random),
         2 | 3 => near_limits(random),
         4 => nested(random),
-        5 => with_odd_call(random),
+        5 => with_odd_call(random, about),
         6..=10 => {
-            let text = valid(random);
+            let text = valid(random, about);
             damaged(random, text)
         }
-        11..=13 => damaged_tokens(random),
-        _ => valid(random),
+        11..=13 => damaged_tokens(random, about),
+        _ => valid(random, about),
     }
 }
 
 /// A text that keeps grammar, forms and kinds, and most often the sizes too.
-pub fn valid(random: &mut Random) -> Vec<u8> {
+pub fn valid(random: &mut Random, about: &About) -> Vec<u8> {
     match random.below(16) {
         0 => many_entries(random),
         1 => high_stack(random),
-        2 => long(random),
-        3..=8 => tokens_joined(random, 3, 2),
-        9..=13 => tokens_joined(random, 9, 4),
-        _ => tokens_joined(random, 30, 9),
+        2 => long(random, about),
+        3..=8 => tokens_joined(random, about, 3, 2),
+        9..=13 => tokens_joined(random, about, 9, 4),
+        _ => tokens_joined(random, about, 30, 9),
     }
 }
 
-fn tokens_joined(random: &mut Random, size: usize, deep: usize) -> Vec<u8> {
-    let tokens = tokens(random, size, deep);
+fn tokens_joined(random: &mut Random, about: &About, size: usize, deep: usize) -> Vec<u8> {
+    let tokens = tokens(random, about, size, deep);
     join(random, &tokens)
 }
 
@@ -110,9 +111,9 @@ fn high_stack(random: &mut Random) -> Vec<u8> {
 }
 
 /// A text of about 4,096 bytes: a valid one with a long string or whitespace.
-fn long(random: &mut Random) -> Vec<u8> {
+fn long(random: &mut Random, about: &About) -> Vec<u8> {
     let target = random.pick(&[4094, 4095, 4096, 4096, 4096, 4097, 3000]);
-    let text = tokens_joined(random, 9, 4);
+    let text = tokens_joined(random, about, 9, 4);
     let room = target - text.len().min(target);
     let mut long = match random.below(3) {
         0 => {
@@ -200,14 +201,32 @@ fn word_of<'a>(random: &mut Random, list: &'a str) -> &'a str {
     random.pick(&words)
 }
 
+/// A call with 8 literals or values, which is right, or with 9.
+fn full_call(random: &mut Random) -> Vec<u8> {
+    let function = random.pick(&[&MATCHES[..], &["equals"]].concat());
+    let mut call = format!("{function}(s1").into_bytes();
+    for at in 0..random.pick(&[8, 9]) {
+        call.push(b',');
+        match function {
+            "equals" => call.extend(at.to_string().bytes()),
+            _ => call.extend(quoted(random, &b"abc"[..at % 4])),
+        }
+    }
+    call.push(b')');
+    call
+}
+
 /// One of the odd calls, alone or beside a valid text.
-fn with_odd_call(random: &mut Random) -> Vec<u8> {
-    let odd = word_of(random, ODD);
-    let text = tokens_joined(random, 3, 2);
+fn with_odd_call(random: &mut Random, about: &About) -> Vec<u8> {
+    if random.once_in(3) {
+        return full_call(random);
+    }
+    let odd = word_of(random, ODD).as_bytes().to_vec();
+    let text = tokens_joined(random, about, 3, 2);
     let (left, right) = match random.below(3) {
-        0 => (odd.as_bytes().to_vec(), text),
-        1 => (text, odd.as_bytes().to_vec()),
-        _ => return odd.as_bytes().to_vec(),
+        0 => (odd, text),
+        1 => (text, odd),
+        _ => return odd,
     };
     [
         &left[..],
@@ -235,8 +254,8 @@ fn soup(random: &mut Random) -> Vec<u8> {
 }
 
 /// A valid text with tokens left out, doubled, swapped or changed for others.
-fn damaged_tokens(random: &mut Random) -> Vec<u8> {
-    let mut tokens = tokens(random, 6, 3);
+fn damaged_tokens(random: &mut Random, about: &About) -> Vec<u8> {
+    let mut tokens = tokens(random, about, 6, 3);
     for _ in 0..random.between(1, 2) {
         let at = random.below(tokens.len());
         match random.below(5) {

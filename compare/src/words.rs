@@ -150,6 +150,31 @@ const TEXTS: [&[u8]; 14] = [
     b"it's \"x\" \\",
 ];
 
+/// A string of about 1,024 bytes, often one of few that are alike but for case or the last byte.
+pub fn long(random: &mut Random) -> Vec<u8> {
+    let length = random.pick(&[600, 1022, 1023, 1023, 1024, 1024, 1024, 1024]);
+    let mut text = b"Az".repeat(length / 2 + 1);
+    text.truncate(length);
+    match random.below(4) {
+        0 => text.make_ascii_lowercase(),
+        1 => text[length - 1] ^= 1,
+        _ => (),
+    }
+    text
+}
+
+/// A part of the string: its start, its end, one from its middle, or the whole.
+pub fn part(random: &mut Random, text: &[u8]) -> Vec<u8> {
+    let start = random.below(text.len() + 1);
+    let part = match random.below(4) {
+        0 => &text[..start],
+        1 => &text[start..],
+        2 => &text[start..random.between(start, text.len())],
+        _ => text,
+    };
+    part.to_vec()
+}
+
 /// A string, often one that others begin with, end with or hold.
 pub fn text(random: &mut Random) -> Vec<u8> {
     let whole = random.pick(&TEXTS);

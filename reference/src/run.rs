@@ -17,6 +17,11 @@ pub struct Running {
 
 /// "Running: 12 before 11."
 pub fn run(table: &[u8], notice: &[u8]) -> Running {
+    run_shown(table, notice, &mut |_, _| ())
+}
+
+/// As `run`; each entry is shown before its visit, with the stack, its operands on top.
+pub fn run_shown(table: &[u8], notice: &[u8], show: &mut dyn FnMut(&Entry, &[Slot])) -> Running {
     let refused = |number, place| Running {
         number,
         place,
@@ -36,7 +41,7 @@ pub fn run(table: &[u8], notice: &[u8]) -> Running {
         fields,
         stack: Vec::new(),
     }
-    .run();
+    .run(show);
     Running {
         number: 0,
         place: 0,
@@ -55,9 +60,10 @@ struct Machine<'a> {
 impl Machine<'_> {
     /// "The run starts at entry 0 with an empty stack. An entry reached is visited: one step. .. At N
     /// it ends and the one slot is the verdict."
-    fn run(mut self) -> (Truth, usize) {
+    fn run(mut self, show: &mut dyn FnMut(&Entry, &[Slot])) -> (Truth, usize) {
         let (mut at, mut steps) = (0, 0);
         while at < self.table.entries.len() {
+            show(&self.table.entries[at], &self.stack);
             at = self.visit(at);
             steps += 1;
         }

@@ -91,12 +91,12 @@ pub enum Verdict {
 }
 
 impl Verdict {
-    /// The verdict of a number of the library: false 0, bottom 1, true 2, and no other is promised.
+    /// The verdict of a number of the library: false 0, true 1, bottom 2, and no other is promised.
     fn of_number(number: u8) -> Verdict {
         match number {
             0 => Verdict::False,
-            1 => Verdict::Bottom,
-            2 => Verdict::True,
+            1 => Verdict::True,
+            2 => Verdict::Bottom,
             _ => unreachable!("a verdict is 0, 1 or 2"),
         }
     }

@@ -2,7 +2,7 @@
 -- Each part of a tree has its numbers from those of its own parts: `Parts` of specs/Theorems.antt.
 use Prim.Native.Nat.{ℕ, _+_, max}
 use mathlib.Core.Bool.{Bool, true, false, cond, not, _&&_}
-use lib.Dec.{eqb}
+use lib.Dec.{eqb, ltb}
 use Rattle.lexer.specs.Token.{Token}
 use Rattle.grammar.specs.Tree.{Tree, Trees}
 use Rattle.grammar.specs.Parse.{Result, ok, bad}
@@ -43,6 +43,22 @@ argsOf ts =
 abbrev pub answerOf : Result → Parsed
 answerOf (ok t n) = Whole n (foundOf t)
 answerOf (bad p) = Broken p
+
+-- Document 01's number of an answer, "first that applies in this order: .. 2, 4, 5, 7, 8", and 0 if none does; and its place as a token, since the parser knows tokens and not bytes.
+abbrev pub foundNumber : Found → ℕ
+foundNumber f =
+    cond (not (f .forms)) 4
+    (cond (not (f .kinds && f .logic)) 5
+    (cond (ltb 512 (f .entries)) 7
+    (cond (ltb 32 (f .depth)) 8 0)))
+
+abbrev pub numberOf : Parsed → ℕ
+numberOf (Whole n f) = foundNumber f
+numberOf (Broken p) = 2
+
+abbrev pub placeOf : Parsed → ℕ
+placeOf (Whole n f) = 0
+placeOf (Broken p) = p
 
 -- a leaf of the kind k with n bytes in the pool
 abbrev pub leafFound : ℕ → ℕ → Found

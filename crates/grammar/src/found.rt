@@ -71,14 +71,16 @@ pub fn leaf(k: u8, n: usize) -> Found
     }
 }
 
+// "names and literals asked for take no own parentheses"
 pub fn group(f: Found) -> Found
     ensures { λ r. ⌜ r ≡ groupFound f ⌝ }
 {
+    let form = Form::Other;
     Found {
         entries: f.entries,
         pool: f.pool,
         depth: f.depth,
-        form: Form::Other,
+        form: form,
         logic: f.logic,
         forms: f.forms,
         kinds: f.kinds,

@@ -23,7 +23,7 @@ pub enum Parsed {
     Broken(usize),
 }
 
-pub fn level(text: &[u8], kinds: &[u8], starts: &[u16], at: usize, l: u8) -> Parsed
+fn level(text: &[u8], kinds: &[u8], starts: &[u16], at: usize, l: u8) -> Parsed
     requires { ⌜ (length (now text) ≤ 4096) × (length (now kinds) ≤ 4096) × (at ≤ length (now kinds)) × (l ≤ 11) ⌝ }
     ensures { λ r. ⌜ r ≡ answerOf (levelOf (tokensIn (now (text .entry)) (now (kinds .entry)) (now (starts .entry))) at l) ⌝ }
 {

@@ -193,7 +193,7 @@ fn matching(text: &[u8], at: usize) -> u8
 }
 
 // What is open after a token of the kind k, and how many prefix operators stand in a row.
-pub fn open_after(k: u8, opened: usize) -> usize
+pub(crate) fn open_after(k: u8, opened: usize) -> usize
     requires { ⌜ opened ≤ 24 ⌝ }
     ensures { λ r. ⌜ r ≡ openAfter k opened ⌝ }
 {
@@ -209,7 +209,7 @@ pub fn open_after(k: u8, opened: usize) -> usize
     opened
 }
 
-pub fn row_after(k: u8, row: usize) -> usize
+pub(crate) fn row_after(k: u8, row: usize) -> usize
     requires { ⌜ row ≤ 24 ⌝ }
     ensures { λ r. ⌜ r ≡ rowAfter k row ⌝ }
 {

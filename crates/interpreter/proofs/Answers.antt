@@ -6,9 +6,9 @@ use Prim.Native.Nat.{ℕ}
 use lib.ListN.{length, getD}
 use Rattle.truth.specs.declared.Truth.{Truth}
 use Rattle.notice.specs.declared.Layout.{Layout}
-use Rattle.notice.specs.Layout.{checkOf as noticeCheck}
+use Rattle.notice.specs.Layout.{checkOf as noticeCheck, numberOf}
 use Rattle.table.specs.Table.{countOf, poolOf, decode}
-use Rattle.table.specs.Check.{checkOf as tableCheck}
+use Rattle.table.specs.Check.{checkOf as tableCheck, refusalOf}
 use Rattle.table.proofs.Reading.{length-entries}
 use Rattle.value.specs.Value.{truthIn}
 use Rattle.value.specs.Held.{itemOf}
@@ -17,14 +17,14 @@ use Rattle.interpreter.specs.declared.Ran.{Ran}
 use Rattle.interpreter.specs.Run.{State, slotAt, after, runOf, verdictOf}
 use Rattle.interpreter.specs.Machine.{blank, stackOf, stateOf}
 use Rattle.interpreter.specs.Running.{refused, answerOf, runningOf}
-use Rattle.interpreter.proofs.Stack.{stack-length}
+use Rattle.interpreter.proofs.Visits.{as-many}
 use Rattle.interpreter.proofs.Theorems.{run-ends}
 
 module _ (table notice : List ℕ) where
-  pub table-refused : tableCheck table ≡ false → refused 12 0 ≡ runningOf table notice
+  pub table-refused : tableCheck table ≡ false → refused (refusalOf false) 0 ≡ runningOf table notice
   table-refused e = rw e
 
-  pub notice-refused : (place : ℕ) → tableCheck table ≡ true → noticeCheck notice ≡ Layout.Fault place → refused 11 place ≡ runningOf table notice
+  pub notice-refused : (place : ℕ) → tableCheck table ≡ true → noticeCheck notice ≡ Layout.Fault place → refused (numberOf (Layout.Fault place)) place ≡ runningOf table notice
   notice-refused place e f = rw (e, f)
 
   pub neither-refused : tableCheck table ≡ true → noticeCheck notice ≡ Layout.WellFormed → answerOf (runOf (decode table) notice) ≡ runningOf table notice
@@ -36,10 +36,7 @@ module _ (table notice : List ℕ) where
     last = ran ∙ ap (after (decode table) notice) (count ∙ sym (length-entries table))
 
     one : m .depth ≡ 1
-    one =
-        sym (stack-length (itemOf (poolOf table) notice) (m .stack) (m .depth))
-        ∙ ap (λ (s : State). length (s .stack)) last
-        ∙ ap length (run-ends table notice checked .1)
+    one = as-many table notice (length (decode table .entries)) m last ∙ ap length (run-ends table notice checked .1)
 
     verdict-is : truthIn (itemOf (poolOf table) notice (getD (m .stack) 0 blank .held)) ≡ verdictOf (runOf (decode table) notice)
     verdict-is =

@@ -5,14 +5,13 @@ use mathlib.Core.List.{List, [], _∷_, _++_, map}
 use mathlib.Core.Option.{some}
 use Prim.Native.Nat.{ℕ, zero, suc, _+_, _-_, _<_, _≤_}
 use native.Mathlib.Decide.{decLt}
-use native.Mathlib.Numerals.{sub-one}
 use native.Mathlib.Omega.{arith}
 use borrow.Author.Tests.{lt-ltb, le-ltb}
 use lib.ListN.{length, drop, replicate}
 use Rattle.opcode.specs.Opcode.{opOf, Kind, takesOf, givesOf}
 use Rattle.opcode.specs.declared.Skip.{Skip}
 use Rattle.opcode.specs.declared.Op.{Op}
-use Rattle.table.specs.Table.{countOf, entryAt, entriesOf, poolOf, decode}
+use Rattle.table.specs.Table.{Program, countOf, entryAt, entriesOf, poolOf, decode}
 use Rattle.table.specs.declared.Entry.{Entry}
 use Rattle.table.specs.Check.{skipOp, shapeAt, checkOf}
 use Rattle.table.specs.Theorems.{Known}
@@ -21,7 +20,7 @@ use Rattle.table.proofs.Reading.{length-entries, entry-of}
 use Rattle.table.proofs.Reached.{depth}
 use Rattle.value.specs.Value.{Item, truthIn, kindOf}
 use Rattle.value.proofs.Theorems.{unary-kind, binary-kind, load-kind}
-use Rattle.interpreter.specs.Run.{State, start, slotAt, skips, stackBy, strideBy, visit, rule, afterFrom}
+use Rattle.interpreter.specs.Run.{State, start, slotAt, skips, stackBy, strideBy, visit, rule, afterFrom, after}
 
 -- a state of the run of a checked table: the kinds are those before the next entry
 pub record Sound (s : List ℕ) (t : State) : Type 0 where
@@ -110,6 +109,23 @@ module _ {s : List ℕ} (notice : List ℕ) {t : State} (checked : checkOf s ≡
   pub visit-sound : Sound s (visit (poolOf s) notice (entryAt s (t .next)) t)
   visit-sound = by (opOf (entryAt s (t .next) .op)) refl
 
+module _ (p : Program) (notice : List ℕ) where
+  -- visits after visits, and one more
+  pub more-visits : (j k : ℕ) (t : State) → afterFrom p notice (j + k) t ≡ afterFrom p notice k (afterFrom p notice j t)
+  unfolding afterFrom
+  more-visits zero k t = let e : 0 + k ≡ k = omega arith in rw e
+  more-visits (suc j) k t = let e : suc j + k ≡ suc (j + k) = omega arith in rw e (more-visits j k (rule p notice t))
+
+  pub after-next : (k : ℕ) → after p notice (k + 1) ≡ rule p notice (after p notice k)
+  unfolding afterFrom
+  after-next k = more-visits k 1 start
+
+  -- at the end nothing changes
+  pub stays : (k : ℕ) (t : State) → length (p .entries) ≤ t .next → afterFrom p notice k t ≡ t
+  unfolding afterFrom
+  stays zero t h = refl
+  stays (suc k) t h = rw (le-ltb (t .next) (length (p .entries)) h) (stays k t h)
+
 module _ (s notice : List ℕ) where
   -- the rule, before the end and at it
   pub rule-more : (t : State) → t .next < countOf s → rule (decode s) notice t ≡ visit (poolOf s) notice (entryAt s (t .next)) t
@@ -118,16 +134,14 @@ module _ (s notice : List ℕ) where
   pub rule-ended : (t : State) → countOf s ≤ t .next → rule (decode s) notice t ≡ t
   rule-ended t h = rw (length-entries s, le-ltb (t .next) (countOf s) h)
 
-  pub after-ended : (k : ℕ) (t : State) → countOf s ≤ t .next → afterFrom (decode s) notice k t ≡ t
-  unfolding afterFrom
-  after-ended zero t h = refl
-  after-ended (suc k) t h = ap (afterFrom (decode s) notice k) (rule-ended t h) ∙ after-ended k t h
+  after-ended : (k : ℕ) (t : State) → countOf s ≤ t .next → afterFrom (decode s) notice k t ≡ t
+  after-ended k t h = stays (decode s) notice k t (omega (arith, length-entries s))
 
-  pub after-more : (k : ℕ) (t : State) → (k ≡ 0 → ⊥) → t .next < countOf s
-      → afterFrom (decode s) notice k t ≡ afterFrom (decode s) notice (k - 1) (visit (poolOf s) notice (entryAt s (t .next)) t)
-  unfolding afterFrom
-  after-more zero t z h = absurd (z refl)
-  after-more (suc k) t z h = rw sub-one (ap (afterFrom (decode s) notice k) (rule-more t h))
+  -- where the run has ended, more visits change nothing
+  pub after-past : (j k : ℕ) → j ≤ k → countOf s ≤ after (decode s) notice j .next → after (decode s) notice k ≡ after (decode s) notice j
+  after-past j k h e =
+      let split : k ≡ j + (k - j) = omega arith in
+      ap (after (decode s) notice) split ∙ more-visits (decode s) notice j (k - j) start ∙ after-ended (k - j) (after (decode s) notice j) e
 
   module _ (checked : checkOf s ≡ true) where
     pub start-sound : Sound s start
@@ -140,10 +154,13 @@ module _ (s notice : List ℕ) where
         go (yes h) = rw (rule-more t h) (visit-sound notice checked sound h)
         go (no h) = rw (rule-ended t (omega arith)) sound
 
-    pub after-sound : (k : ℕ) (t : State) → Sound s t → Sound s (afterFrom (decode s) notice k t)
+    after-sound : (k : ℕ) (t : State) → Sound s t → Sound s (afterFrom (decode s) notice k t)
     unfolding afterFrom
     after-sound zero t sound = sound
     after-sound (suc k) t sound = after-sound k (rule (decode s) notice t) (rule-sound t sound)
+
+    pub always : (k : ℕ) → Sound s (after (decode s) notice k)
+    always k = after-sound k start start-sound
 
     further : (t : State) → t .next < countOf s → t .next < rule (decode s) notice t .next
     further t h =

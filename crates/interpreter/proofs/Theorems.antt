@@ -13,10 +13,7 @@ use Rattle.table.proofs.Reading.{length-entries}
 use Rattle.value.specs.Value.{Item, logic, value, truthIn, kindOf}
 use Rattle.interpreter.specs.Run.{start, slotAt, after, runOf}
 use Rattle.interpreter.specs.Theorems.{StackKinds, StackSmall, OperandKinds, RunEnds, RunSteps, RunWhole}
-use Rattle.interpreter.proofs.Safe.{Sound, some-same, known, operands, start-sound, after-sound, ends, whole, shallow}
-
-always : (s notice : List ℕ) → checkOf s ≡ true → (k : ℕ) → Sound s (after (decode s) notice k)
-always s notice c k = after-sound s notice c k start (start-sound s notice c)
+use Rattle.interpreter.proofs.Safe.{some-same, known, operands, start-sound, always, ends, whole, shallow}
 
 pub stack-kinds : StackKinds
 stack-kinds s notice c k = let a = always s notice c k in (a .inside, a .kinds)

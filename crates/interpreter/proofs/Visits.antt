@@ -1,5 +1,5 @@
 -- One visit of the machine, by the group of the entry's operator: what there is room for, and that the machine after it is the rule's. Assumes nothing.
-use mathlib.Core.Path.{_≡_, refl, sym, ap, _∙_}
+use mathlib.Core.Path.{_≡_, refl, sym, ap, _∙_, subst}
 use mathlib.Core.Bool.{true, cond}
 use mathlib.Core.List.{List, _∷_, _++_, map, reverse}
 use Prim.Native.Nat.{ℕ, suc, _+_, _-_, _*_, _<_, _≤_}
@@ -24,19 +24,19 @@ use Rattle.value.specs.Held.{itemOf}
 use Rattle.value.specs.declared.Held.{Held}
 use Rattle.value.proofs.Theorems.{tally}
 use Rattle.interpreter.specs.declared.Machine.{Machine}
-use Rattle.interpreter.specs.Run.{State, slotAt, skips, stackBy, strideBy, visit, afterFrom}
-use Rattle.interpreter.specs.Machine.{blank, stackOf, stateOf, fresh}
+use Rattle.interpreter.specs.Run.{State, slotAt, skips, stackBy, strideBy, visit, rule, afterFrom, after}
+use Rattle.interpreter.specs.Machine.{blank, stackOf, stateOf, fresh, Visited, Follows}
 use Rattle.interpreter.proofs.Stack.{stack-put, stack-length, stack-drop, stack-get}
-use Rattle.interpreter.proofs.Safe.{Sound, known, operands, never-unknown, visit-sound, start-sound, after-ended, after-more, shallow}
+use Rattle.interpreter.proofs.Safe.{Sound, known, operands, never-unknown, rule-more, after-next, after-past, always}
+use Rattle.interpreter.proofs.Theorems.{stack-small}
 
--- what is left of the visits, from a machine on, gives w
-pub record Left (s pool notice : List ℕ) (n : ℕ) (w : State) (m : Machine) (left : ℕ) : Type 0 where
+-- the machine at a turn of the loop: it follows the rule; n and pool are those of the table, which passes the check
+pub record Going (s pool notice : List ℕ) (n : ℕ) (m : Machine) : Type 0 where
   pub checked : checkOf s ≡ true
   pub count : n ≡ countOf s
   pub strings : pool ≡ poolOf s
-  pub sound : Sound s (stateOf pool notice m)
   pub long : length (m .stack) ≡ 32
-  pub goes : afterFrom (decode s) notice left (stateOf pool notice m) ≡ w
+  pub follows : Follows s notice m
 
 -- the stack as items, and what is held j slots from its end
 abbrev pub items : List ℕ → List ℕ → Machine → List Item
@@ -56,23 +56,36 @@ state-eq : {i j u : ℕ} {st tt : List Item} → i ≡ j → st ≡ tt
     → _≡_ {A = State} (record { next = i; stack = st; steps = u }) (record { next = j; stack = tt; steps = u })
 state-eq p q = rw (p, q)
 
-module _ {s pool notice : List ℕ} {n left : ℕ} {w : State} {m : Machine} (l : Left s pool notice n w m left) where
-  -- the last machine: no visit is left, or no entry
-  pub spent : left ≡ 0 → stateOf (poolOf s) notice m ≡ w
-  unfolding afterFrom
-  spent z = ap (λ (p : List ℕ). stateOf p notice m) (sym (l .strings)) ∙ rw z at (l .goes)
+-- a machine holds as many values as the rule after as many visits
+pub as-many : (s notice : List ℕ) (k : ℕ) (m : Machine) → stateOf (poolOf s) notice m ≡ after (decode s) notice k → m .depth ≡ length (after (decode s) notice k .stack)
+as-many s notice k m e = sym (stack-length (itemOf (poolOf s) notice) (m .stack) (m .depth)) ∙ ap (λ (t : State). length (t .stack)) e
 
-  pub ended : n ≤ m .next → stateOf (poolOf s) notice m ≡ w
-  ended p =
-      ap (λ (q : List ℕ). stateOf q notice m) (sym (l .strings))
-      ∙ sym (after-ended s notice left (stateOf pool notice m) (rw (l .count) at p))
-      ∙ l .goes
+-- a machine whose state is the rule's has room for it
+visited : {s notice : List ℕ} {k : ℕ} {m : Machine} → checkOf s ≡ true → stateOf (poolOf s) notice m ≡ after (decode s) notice k → Visited s notice k m
+visited {s} {notice} {k} {m} c e = record { state = e; inside = omega (arith, as-many s notice k m e, stack-small s notice c k) }
+
+module _ {s pool notice : List ℕ} {n : ℕ} {m : Machine} (l : Going s pool notice n m) where
+  -- the state over the loop's own pool, and its soundness, which every state of the rule has
+  state : stateOf pool notice m ≡ after (decode s) notice (m .steps)
+  state = ap (λ (p : List ℕ). stateOf p notice m) (l .strings) ∙ l .follows .state
+
+  sound : Sound s (stateOf pool notice m)
+  sound = subst (Sound s) (sym state) (always s notice (l .checked) (m .steps))
+
+  -- the last machine: all visits are made, or no entry is left
+  pub spent : {budget : ℕ} → m .steps ≡ budget → Visited s notice budget m
+  spent e = subst (λ (k : ℕ). Visited s notice k m) e (l .follows)
+
+  pub ended : {budget : ℕ} → m .steps ≤ budget → n ≤ m .next → Visited s notice budget m
+  ended {budget} h p =
+      let past : countOf s ≤ after (decode s) notice (m .steps) .next = omega (arith, l .count, ap (λ (t : State). t .next) state) in
+      visited (l .checked) (l .follows .state ∙ sym (after-past s notice (m .steps) budget h past))
 
   deep : length (map kindOf (items pool notice m)) ≡ m .depth
   deep = length-map (items pool notice m) kindOf ∙ stack-length (itemOf pool notice) (m .stack) (m .depth)
 
   pub low : m .depth ≤ 32
-  low = omega (arith, deep, shallow s notice (stateOf pool notice m) (l .sound))
+  low = l .follows .inside
 
   pub few : n ≤ 512
   few = omega (arith, l .count, laid s (checked-layout s (l .checked)) .few)
@@ -82,17 +95,17 @@ module _ {s pool notice : List ℕ} {n left : ℕ} {w : State} {m : Machine} (l 
     here = rw (l .count) at more
 
     pub entry-fits : 22 + 12 * m .next ≤ length s
-    entry-fits = known notice (l .checked) (l .sound) here .inside
+    entry-fits = known notice (l .checked) sound here .inside
 
     pub counted : m .steps < 512
-    counted = omega (arith, l .sound .counted, few)
+    counted = omega (arith, sound .counted, few)
 
     -- the operands are there, and there is room for the result
     pub room : (o : Op) → opOf (entryAt s (m .next) .op) ≡ o
         → (length (takesOf o (entryAt s (m .next) .a)) ≤ m .depth) × (m .depth - length (takesOf o (entryAt s (m .next) .a)) < 32)
     room o e =
-        let k = known notice (l .checked) (l .sound) here in
-        let p : length (map kindOf (items pool notice m)) ≡ length (takesOf o (entryAt s (m .next) .a) ++ k .rest) = ap length (rw e at (operands notice (l .checked) (l .sound) here)) in
+        let k = known notice (l .checked) sound here in
+        let p : length (map kindOf (items pool notice m)) ≡ length (takesOf o (entryAt s (m .next) .a) ++ k .rest) = ap length (rw e at (operands notice (l .checked) sound here)) in
         let q = length-append (takesOf o (entryAt s (m .next) .a)) (k .rest) in
         omega (arith, p, q, deep, k .room)
 
@@ -103,108 +116,98 @@ module _ {s pool notice : List ℕ} {n left : ℕ} {w : State} {m : Machine} (l 
     pub skip-room : {k : Skip} → opOf (entryAt s (m .next) .op) ≡ Op.Skip k → m .next + entryAt s (m .next) .a + 1 ≤ 512
     skip-room e = omega (arith, checked-skip s (l .checked) (m .next) here (ap skipOp e) .0, few, l .count)
 
-    module _ (some-left : left ≡ 0 → ⊥) where
-      -- a machine that is the rule's next
-      again : (r : Machine) → stateOf pool notice r ≡ visit pool notice (entryAt s (m .next)) (stateOf pool notice m) → length (r .stack) ≡ 32
-          → Left s pool notice n w r (left - 1)
-      again r e long =
-          let v : stateOf pool notice r ≡ visit (poolOf s) notice (entryAt s (m .next)) (stateOf pool notice m) =
-          e ∙ ap (λ (p : List ℕ). visit p notice (entryAt s (m .next)) (stateOf pool notice m)) (l .strings) in
-          record {
-            checked = l .checked;
-            count = l .count;
-            strings = l .strings;
-            sound = rw v (visit-sound notice (l .checked) (l .sound) here);
-            long = long;
-            goes = ap (afterFrom (decode s) notice (left - 1)) v ∙ sym (after-more s notice left (stateOf pool notice m) some-left here) ∙ l .goes;
-          }
+    -- a machine that is the rule's next
+    again : (r : Machine) → stateOf pool notice r ≡ visit pool notice (entryAt s (m .next)) (stateOf pool notice m) → length (r .stack) ≡ 32
+        → Going s pool notice n r
+    again r e long =
+        record {
+          checked = l .checked;
+          count = l .count;
+          strings = l .strings;
+          long = long;
+          follows = visited (l .checked)
+              (ap (λ (p : List ℕ). stateOf p notice r) (sym (l .strings))
+              ∙ e
+              ∙ ap (λ (p : List ℕ). visit p notice (entryAt s (m .next)) (stateOf pool notice m)) (l .strings)
+              ∙ sym (rule-more s notice (stateOf pool notice m) here)
+              ∙ ap (rule (decode s) notice) state
+              ∙ sym (after-next (decode s) notice (m .steps))
+              ∙ ap (λ (t : State). after (decode s) notice (t .steps)) (sym e));
+        }
 
-      -- an operator's result in its operands' place
-      answered : (o : Op) → opOf (entryAt s (m .next) .op) ≡ o → (j : ℕ) (h : Held) → m .depth - j < 32
-          → stackBy pool notice o (entryAt s (m .next)) (items pool notice m) ≡ itemOf pool notice h ∷ drop j (items pool notice m)
-          → strideBy o (entryAt s (m .next)) (items pool notice m) ≡ 1
-          → Left s pool notice n w (putOn m j h) (left - 1)
-      answered o e j h fits q p =
-          let i : m .depth - j < length (m .stack) = omega (arith, l .long) in
-          let t : items pool notice (putOn m j h) ≡ itemOf pool notice h ∷ drop j (items pool notice m) =
-          stack-put (itemOf pool notice) (m .stack) (record { held = h }) (m .depth - j) i
-          ∙ ap (λ (st : List Item). itemOf pool notice h ∷ st) (sym (stack-drop (itemOf pool notice) (m .stack) j (m .depth))) in
-          again (putOn m j h) (rw e (state-eq (ap (λ (d : ℕ). m .next + d) (sym p)) (t ∙ sym q)))
-          (length-set (m .stack) (m .depth - j) (record { held = h }) ∙ l .long)
+    -- an operator's result in its operands' place
+    answered : (o : Op) → opOf (entryAt s (m .next) .op) ≡ o → (j : ℕ) (h : Held) → m .depth - j < 32
+        → stackBy pool notice o (entryAt s (m .next)) (items pool notice m) ≡ itemOf pool notice h ∷ drop j (items pool notice m)
+        → strideBy o (entryAt s (m .next)) (items pool notice m) ≡ 1
+        → Going s pool notice n (putOn m j h)
+    answered o e j h fits q p =
+        let i : m .depth - j < length (m .stack) = omega (arith, l .long) in
+        let t : items pool notice (putOn m j h) ≡ itemOf pool notice h ∷ drop j (items pool notice m) =
+        stack-put (itemOf pool notice) (m .stack) (record { held = h }) (m .depth - j) i
+        ∙ ap (λ (st : List Item). itemOf pool notice h ∷ st) (sym (stack-drop (itemOf pool notice) (m .stack) j (m .depth))) in
+        again (putOn m j h) (rw e (state-eq (ap (λ (d : ℕ). m .next + d) (sym p)) (t ∙ sym q)))
+        (length-set (m .stack) (m .depth - j) (record { held = h }) ∙ l .long)
 
-      -- a slot of the stack by its place in the array
-      slot : (j : ℕ) → j < m .depth → slotAt (items pool notice m) j ≡ heldAt pool notice m (m .depth - (j + 1))
-      slot j h = stack-get (itemOf pool notice) (m .stack) j (m .depth) (logic Bottom) h
+    -- a slot of the stack by its place in the array
+    slot : (j : ℕ) → j < m .depth → slotAt (items pool notice m) j ≡ heldAt pool notice m (m .depth - (j + 1))
+    slot j h = stack-get (itemOf pool notice) (m .stack) j (m .depth) (logic Bottom) h
 
-      pub load-law : {k : Load} (h : Held) → opOf (entryAt s (m .next) .op) ≡ Op.Load k
-          → itemOf pool notice h ≡ loadOf pool notice k (entryAt s (m .next) .a) (entryAt s (m .next) .b)
-          → Left s pool notice n w (putOn m 0 h) (left - 1)
-      load-law {k} h e q = answered (Op.Load k) e 0 h (room (Op.Load k) e .1) (ap (λ (x : Item). x ∷ items pool notice m) (sym q)) refl
+    pub load-law : {k : Load} (h : Held) → opOf (entryAt s (m .next) .op) ≡ Op.Load k
+        → itemOf pool notice h ≡ loadOf pool notice k (entryAt s (m .next) .a) (entryAt s (m .next) .b)
+        → Going s pool notice n (putOn m 0 h)
+    load-law {k} h e q = answered (Op.Load k) e 0 h (room (Op.Load k) e .1) (ap (λ (x : Item). x ∷ items pool notice m) (sym q)) refl
 
-      pub unary-law : {k : Unary} (h : Held) → opOf (entryAt s (m .next) .op) ≡ Op.Unary k
-          → itemOf pool notice h ≡ unaryOf k (heldAt pool notice m (m .depth - 1))
-          → Left s pool notice n w (putOn m 1 h) (left - 1)
-      unary-law {k} h e q =
-          let r = room (Op.Unary k) e in
-          answered (Op.Unary k) e 1 h (r .1) (ap (λ (x : Item). x ∷ drop 1 (items pool notice m)) (ap (unaryOf k) (slot 0 (omega (arith, r))) ∙ sym q)) refl
+    pub unary-law : {k : Unary} (h : Held) → opOf (entryAt s (m .next) .op) ≡ Op.Unary k
+        → itemOf pool notice h ≡ unaryOf k (heldAt pool notice m (m .depth - 1))
+        → Going s pool notice n (putOn m 1 h)
+    unary-law {k} h e q =
+        let r = room (Op.Unary k) e in
+        answered (Op.Unary k) e 1 h (r .1) (ap (λ (x : Item). x ∷ drop 1 (items pool notice m)) (ap (unaryOf k) (slot 0 (omega (arith, r))) ∙ sym q)) refl
 
-      pub binary-law : {k : Binary} (h : Held) → opOf (entryAt s (m .next) .op) ≡ Op.Binary k
-          → itemOf pool notice h ≡ binaryOf k (heldAt pool notice m (m .depth - 2)) (heldAt pool notice m (m .depth - 1))
-          → Left s pool notice n w (putOn m 2 h) (left - 1)
-      binary-law {k} h e q =
-          let r = room (Op.Binary k) e in
-          answered (Op.Binary k) e 2 h (r .1)
-          (ap (λ (x : Item). x ∷ drop 2 (items pool notice m)) (rw (slot 0 (omega (arith, r)), slot 1 (omega (arith, r))) (sym q))) refl
+    pub binary-law : {k : Binary} (h : Held) → opOf (entryAt s (m .next) .op) ≡ Op.Binary k
+        → itemOf pool notice h ≡ binaryOf k (heldAt pool notice m (m .depth - 2)) (heldAt pool notice m (m .depth - 1))
+        → Going s pool notice n (putOn m 2 h)
+    binary-law {k} h e q =
+        let r = room (Op.Binary k) e in
+        answered (Op.Binary k) e 2 h (r .1)
+        (ap (λ (x : Item). x ∷ drop 2 (items pool notice m)) (rw (slot 0 (omega (arith, r)), slot 1 (omega (arith, r))) (sym q))) refl
 
-      -- what is known with all later operands
-      pub many-law : {k : Many} {known : Truth} (a : ℕ) → a ≡ entryAt s (m .next) .a → opOf (entryAt s (m .next) .op) ≡ Op.Many k
-          → known
-          ≡ tallyOf k (heldAt pool notice m (m .depth - (a + 1))) (startOf k (heldAt pool notice m (m .depth - (a + 1)))) (reverse (take a (items pool notice m)))
-          → Left s pool notice n w (putOn m (a + 1) (Held.Logic known)) (left - 1)
-      many-law {k} {known} a is e q =
-          let r = many-room a is e in
-          let x = heldAt pool notice m (m .depth - (a + 1)) in
-          answered (Op.Many k) e (a + 1) (Held.Logic known) (r .1)
-          (ap (λ (b : ℕ). manyItems k (slotAt (items pool notice m) b) (reverse (take b (items pool notice m))) ∷ drop (suc b) (items pool notice m)) (sym is)
-          ∙ ap (λ (y : Item). manyItems k y (reverse (take a (items pool notice m))) ∷ drop (suc a) (items pool notice m)) (slot a (omega (arith, r)))
-          ∙ ap (λ (y : Item). y ∷ drop (suc a) (items pool notice m)) (sym (ap logic q ∙ tally k x (reverse (take a (items pool notice m)))))
-          ∙ ap (λ (d : ℕ). logic known ∷ drop d (items pool notice m)) (sym (add-one a)))
-          refl
+    -- what is known with all later operands
+    pub many-law : {k : Many} {known : Truth} (a : ℕ) → a ≡ entryAt s (m .next) .a → opOf (entryAt s (m .next) .op) ≡ Op.Many k
+        → known
+        ≡ tallyOf k (heldAt pool notice m (m .depth - (a + 1))) (startOf k (heldAt pool notice m (m .depth - (a + 1)))) (reverse (take a (items pool notice m)))
+        → Going s pool notice n (putOn m (a + 1) (Held.Logic known))
+    many-law {k} {known} a is e q =
+        let r = many-room a is e in
+        let x = heldAt pool notice m (m .depth - (a + 1)) in
+        answered (Op.Many k) e (a + 1) (Held.Logic known) (r .1)
+        (ap (λ (b : ℕ). manyItems k (slotAt (items pool notice m) b) (reverse (take b (items pool notice m))) ∷ drop (suc b) (items pool notice m)) (sym is)
+        ∙ ap (λ (y : Item). manyItems k y (reverse (take a (items pool notice m))) ∷ drop (suc a) (items pool notice m)) (slot a (omega (arith, r)))
+        ∙ ap (λ (y : Item). y ∷ drop (suc a) (items pool notice m)) (sym (ap logic q ∙ tally k x (reverse (take a (items pool notice m)))))
+        ∙ ap (λ (d : ℕ). logic known ∷ drop d (items pool notice m)) (sym (add-one a)))
+        refl
 
-      pub skip-law : {k : Skip} → opOf (entryAt s (m .next) .op) ≡ Op.Skip k
-          → Left s pool notice n w (goOn m (cond (skips k (truthIn (heldAt pool notice m (m .depth - 1)))) (entryAt s (m .next) .a + 1) 1)) (left - 1)
-      skip-law {k} e =
-          let r = room (Op.Skip k) e in
-          let x = heldAt pool notice m (m .depth - 1) in
-          again (goOn m (cond (skips k (truthIn x)) (entryAt s (m .next) .a + 1) 1))
-          (rw e (state-eq (ap (λ (y : Item). m .next + cond (skips k (truthIn y)) (entryAt s (m .next) .a + 1) 1) (sym (slot 0 (omega (arith, r))))) refl))
-          (l .long)
+    pub skip-law : {k : Skip} → opOf (entryAt s (m .next) .op) ≡ Op.Skip k
+        → Going s pool notice n (goOn m (cond (skips k (truthIn (heldAt pool notice m (m .depth - 1)))) (entryAt s (m .next) .a + 1) 1))
+    skip-law {k} e =
+        let r = room (Op.Skip k) e in
+        let x = heldAt pool notice m (m .depth - 1) in
+        again (goOn m (cond (skips k (truthIn x)) (entryAt s (m .next) .a + 1) 1))
+        (rw e (state-eq (ap (λ (y : Item). m .next + cond (skips k (truthIn y)) (entryAt s (m .next) .a + 1) 1) (sym (slot 0 (omega (arith, r))))) refl))
+        (l .long)
 
     pub no-unknown : opOf (entryAt s (m .next) .op) ≡ Op.Unknown → ⊥
-    no-unknown e = never-unknown notice (l .checked) (l .sound) here e
+    no-unknown e = never-unknown notice (l .checked) sound here e
 
 -- where a run starts
-pub begin : {s pool : List ℕ} (notice : List ℕ) (n budget : ℕ) → checkOf s ≡ true → n ≡ countOf s → pool ≡ poolOf s
-    → Left s pool notice n (afterFrom (decode s) notice budget (stateOf pool notice fresh)) fresh budget
-begin {s} notice n budget c e p = record {
-  checked = c;
-  count = e;
-  strings = p;
-  sound = start-sound s notice c;
-  long = length-replicate 32 blank;
-  goes = refl;
-}
+pub begin : {s pool : List ℕ} (notice : List ℕ) (n : ℕ) → checkOf s ≡ true → n ≡ countOf s → pool ≡ poolOf s → Going s pool notice n fresh
+unfolding afterFrom
+begin {s} notice n c e p = record { checked = c; count = e; strings = p; long = length-replicate 32 blank; follows = visited c refl }
 
--- what is left where the steps are held to a budget: the budget less the steps
-abbrev pub Within : List ℕ → List ℕ → List ℕ → ℕ → State → ℕ → Machine → Type 0
-Within s pool notice n w budget m = Left s pool notice n w m (budget - m .steps) × (m .steps ≤ budget)
+-- the loop's invariant: the machine follows the rule, and makes no more visits than the budget
+abbrev pub Within : List ℕ → List ℕ → List ℕ → ℕ → ℕ → Machine → Type 0
+Within s pool notice n budget m = Going s pool notice n m × (m .steps ≤ budget)
 
-module _ {budget steps : ℕ} (low : steps ≤ budget) (more : steps ≡ budget → ⊥) where
-  pub some-left : budget - steps ≡ 0 → ⊥
-  some-left z = more (omega arith)
-
-  pub within : {s pool notice : List ℕ} {n : ℕ} {w : State} {r : Machine} → Left s pool notice n w r (budget - steps - 1) → r .steps ≡ steps + 1 → Within s pool notice n w budget r
-  within {r = r} l e =
-      let p : steps ≡ budget → ⊥ = more in
-      let q : budget - steps - 1 ≡ budget - r .steps = omega arith in
-      (rw q at l, omega arith)
+-- one visit more, where the budget is not spent
+pub within : {s pool notice : List ℕ} {n budget steps : ℕ} {r : Machine} → steps ≤ budget → (steps ≡ budget → ⊥) → Going s pool notice n r → r .steps ≡ steps + 1 → Within s pool notice n budget r
+within {budget = budget} {steps = steps} low more l e = let p : steps ≡ budget → ⊥ = more in (l, omega arith)

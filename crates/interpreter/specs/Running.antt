@@ -1,11 +1,12 @@
 -- The guarded run. Document 01, "Refusals by number": "Running: 12 before 11."; "Running answers number, place, verdict (bottom if refused) and steps (0 if refused)."
 use Prim.Native.Nat.{ℕ}
+use mathlib.Core.Bool.{false}
 use mathlib.Core.List.{List}
 use Rattle.truth.specs.declared.Truth.the-variants.{Bottom}
-use Rattle.notice.specs.Layout.{pick, checkOf as noticeCheck}
+use Rattle.notice.specs.Layout.{pick, checkOf as noticeCheck, numberOf, placeOf}
 use Rattle.notice.specs.declared.Layout.{Layout}
 use Rattle.table.specs.Table.{decode}
-use Rattle.table.specs.Check.{checkOf as tableCheck}
+use Rattle.table.specs.Check.{checkOf as tableCheck, refusalOf}
 use Rattle.interpreter.specs.declared.Ran.{Ran}
 use Rattle.interpreter.specs.Run.{State, runOf, verdictOf}
 
@@ -15,12 +16,12 @@ refused number place = record { number = number; place = place; verdict = Bottom
 abbrev pub answerOf : State → Ran
 answerOf s = record { number = 0; place = 0; verdict = verdictOf s; steps = s .steps }
 
--- "11: notice fails layout", with its place
+-- a notice that fails its layout is refused by `numberOf`'s 11, with its place
 abbrev pub onLayout : Layout → (Unit {0} → Ran) → Ran
 onLayout Layout.WellFormed answer = answer tt
-onLayout (Layout.Fault place) answer = refused 11 place
+onLayout (Layout.Fault place) answer = refused (numberOf (Layout.Fault place)) (placeOf (Layout.Fault place))
 
--- "12: table fails layout or check"; then 11; then verdict and steps of the whole run
+-- a table that fails its check is refused by `refusalOf`'s 12; then the notice is judged; then verdict and steps of the whole run are answered
 abbrev pub runningOf : List ℕ → List ℕ → Ran
 runningOf table notice =
-    pick (tableCheck table) (λ _. onLayout (noticeCheck notice) (λ _. answerOf (runOf (decode table) notice))) (λ _. refused 12 0)
+    pick (tableCheck table) (λ _. onLayout (noticeCheck notice) (λ _. answerOf (runOf (decode table) notice))) (λ _. refused (refusalOf false) 0)

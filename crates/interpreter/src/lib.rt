@@ -3,12 +3,12 @@ ghost use mathlib.Core.Path.{_≡_};
 ghost use mathlib.Core.Bool.{true, cond};
 ghost use mathlib.Core.List.{List};
 ghost use Prim.Native.Nat.{ℕ, _+_, _≤_};
-ghost use Rattle.table.specs.Table.{poolOf, decode};
+ghost use Rattle.table.specs.Table.{decode};
 ghost use Rattle.table.specs.Check.{checkOf};
 ghost use Rattle.value.specs.Value.{truthIn};
 ghost use Rattle.value.specs.Held.{itemOf};
-ghost use Rattle.interpreter.specs.Run.{skips, after, runOf};
-ghost use Rattle.interpreter.specs.Machine.{stateOf};
+ghost use Rattle.interpreter.specs.Run.{skips, runOf};
+ghost use Rattle.interpreter.specs.Machine.{Visited};
 ghost use Rattle.interpreter.specs.Running.{refused as refusedWith, answerOf, runningOf};
 use notice::Layout;
 use opcode::Binary;
@@ -50,11 +50,13 @@ fn stride(skip: Skip, a: u16, top: Held) -> usize
 }
 
 // The inner run: at most `budget` visits, or as many as there are. It asks for a table that passes the check, so that a caller checks a table once and runs it often; the notice may be any bytes.
+// "After each visit the runner's own next entry and whole stack are those of this rule": `Visited`. Two things are left free. The slots above the depth hold whatever earlier visits left in them; the array has 32 slots, and the depth is
+// at most 32. Where a string lies is not told: its slot names some stretch of the pool or of the notice, with a mark or without, that gives the string's bytes.
 // The stack is updated in place, and the numbers stand beside it, so that they stay in registers. Each group of operators stores its own answer and goes on: where the groups meet, a slot would be put together from its parts.
 // Of two operands the second is read first: the slot that is written is then the one that was read last, and the compiler copies nothing between the two.
 pub fn run_checked<'a>(table: &'a [u8], notice: &'a [u8], budget: usize) -> Machine
     requires { ⌜ checkOf (now table) ≡ true ⌝ }
-    ensures { λ r. ⌜ (stateOf (poolOf (now (table .entry))) (now (notice .entry)) r ≡ after (decode (now (table .entry))) (now (notice .entry)) budget) × (r .depth ≤ 32) ⌝ }
+    ensures { λ r. ⌜ Visited (now (table .entry)) (now (notice .entry)) budget r ⌝ }
 {
     let n = table::count(table);
     let pool = table::pool(table);

@@ -1,11 +1,13 @@
 -- What stands first in a text: its class, what the code answers of it, and that a token takes at least one byte and not more than there are. Assumes nothing.
 use mathlib.Core.Path.{_≡_, refl, sym, ap, _∙_}
+use mathlib.Core.Logic.{_⊎_, inl, inr}
 use mathlib.Core.Bool.{Bool, true, false, not, cond, _&&_, _||_}
 use mathlib.Core.List.{List, [], _∷_}
 use Prim.Native.Nat.{ℕ, _+_, _≤_, _<_}
 use native.Mathlib.Decide.{decLe}
 use native.Mathlib.Omega.{arith}
 use lib.Dec.{eqb, leb}
+use lib.IntN.{ℤ}
 use lib.ListN.{length, getD, drop, length-drop, List·getD-eq-default}
 use borrow.Author.Tests.{leb-true, eqb-true, eqb-false, ne-eqb, eq-eqb}
 use Rattle.octets.proofs.Theorems.{and-parts, true-false}
@@ -16,6 +18,7 @@ use Rattle.lexer.specs.Integer.{baseOf, prefixLength, integerDigits, suf
 use Rattle.lexer.specs.Real.{wholeDigits, fromPoint, fractionDigits, exponentPart, isExponent, isReal, realFits, realOf}
 use Rattle.lexer.specs.Symbol.{threeBytes, twoBytes, symbolOf, symbolLength}
 use Rattle.lexer.specs.Token.{Token, name, int32, int64, real, text, symbol, kindOf, Scan, good, bad, judged, pick, scanName, integerToken, scanInteger, scanRun, scanNumber, scanString, scanBytes, scanSymbol, scanOf}
+use Rattle.lexer.specs.Theorems.{StartsNoOther}
 use Rattle.lexer.specs.Answer.{scannedOf}
 use Rattle.lexer.specs.declared.Scanned.the-variants.{Good, Bad}
 use Rattle.lexer.proofs.Runs.{first-fits, run-first}
@@ -52,6 +55,17 @@ module _ (s : List ℕ) where
           pick-no (startsName (getD s 0 0)) _ _ n
           ∙ pick-no (startsNumber (getD s 0 0) (getD s 1 0)) _ _ m
           ∙ pick-no (isQuote (getD s 0 0)) _ _ e
+
+-- a token that was judged legal, and one that was not
+pub judged-legal : (form limits : Bool) (t u : Token) (m n : ℕ) → judged form limits t m ≡ good u n → (form ≡ true) × (limits ≡ true) × (t ≡ u)
+judged-legal false limits t u m n e = let z : _≡_ {A = ℕ} 0 1 = cc in absurd (omega arith)
+judged-legal true false t u m n e = let z : _≡_ {A = ℕ} 0 1 = cc in absurd (omega arith)
+judged-legal true true t u m n e = (refl, refl, cc)
+
+judged-bad : (form limits : Bool) (t : Token) (m k : ℕ) → judged form limits t m ≡ bad k → (k ≡ 1) ⊎ (k ≡ 3)
+judged-bad false limits t m k e = inl cc
+judged-bad true false t m k e = inr cc
+judged-bad true true t m k e = let z : _≡_ {A = ℕ} 0 1 = cc in absurd (omega arith)
 
 -- what the code answers of a form, limits and a token
 module _ (form limits : Bool) (t : Token) (n : ℕ) where
@@ -111,6 +125,53 @@ module _ (run : List ℕ) where
     where
       kind-of : (b : Bool) → b ≡ false → 1 ≡ kindOf (cond b (int64 (integerOf run)) (int32 (integerOf run)))
       kind-of b e = rw e
+
+-- What stands first is judged by its form and its limits, whatever its class; it is no symbol, or the text starts nothing else.
+abbrev pub isSymbol : Token → Bool
+isSymbol (name bytes escaped) = false
+isSymbol (int32 z) = false
+isSymbol (int64 z) = false
+isSymbol (real x) = false
+isSymbol (text bytes) = false
+isSymbol (symbol k) = true
+
+abbrev Judged : List ℕ → Type 0
+Judged s = (form limits : Bool) × (t : Token) × (n : ℕ) × (scanOf s ≡ judged form limits t n) × ((isSymbol t ≡ false) ⊎ StartsNoOther s)
+
+number-judged : (s : List ℕ) → scanOf s ≡ scanNumber s → Judged s
+number-judged s e = go (isReal (runOf 0 s)) refl
+  where
+    typed : (long : Bool) (z : ℤ) → isSymbol (cond long (int64 z) (int32 z)) ≡ false
+    typed true z = refl
+    typed false z = refl
+
+    go : (b : Bool) → isReal (runOf 0 s) ≡ b → Judged s
+    go true f = let run = runOf 0 s in (true, realFits run, real (realOf run), length run, e ∙ scan-real run f, inl refl)
+    go false f = let run = runOf 0 s in (isInteger run, integerFits run, integerToken run, length run, e ∙ scan-integer run f, inl (typed (isLong run) (integerOf run)))
+
+pub scan-judged : (s : List ℕ) → Judged s
+scan-judged s = go (startsName a) refl (startsNumber a b) refl (isQuote a) refl
+  where
+    a : ℕ
+    a = getD s 0 0
+
+    b : ℕ
+    b = getD s 1 0
+
+    c : ℕ
+    c = getD s 2 0
+
+    go : (x : Bool) → startsName a ≡ x → (y : Bool) → startsNumber a b ≡ y → (z : Bool) → isQuote a ≡ z → Judged s
+    go true e y f z g =
+        let run = runOf 0 s in
+        (legalName false run, nameFits (unescaped false run), name (unescaped false run) (hasEscape run), length run, is-name s e, inl refl)
+    go false e true f z g = number-judged s (is-number s e f)
+    go false e false f true g = (isClosed s, true, text (unescaped false (bodyOf s)), length (bodyOf s) + 2, is-string s e f g, inl refl)
+    go false e false f false g = (not (eqb (symbolOf a b c) 0), true, symbol (symbolOf a b c), symbolLength a b c, is-symbol s e f g, inr (e, f, g))
+
+-- the numbers by which it is refused
+pub bad-number : (s : List ℕ) (k : ℕ) → scanOf s ≡ bad k → (k ≡ 1) ⊎ (k ≡ 3)
+bad-number s k e = let j = scan-judged s in judged-bad (j .0) (j .1) (j .2) (j .3) k (sym (j .4) ∙ e)
 
 -- a string that closes, and one that does not
 module _ (s : List ℕ) where
@@ -217,14 +278,14 @@ is-there s i f = go (decLe (length s) i)
     go (yes h) = absurd (f (List·getD-eq-default s 0 h))
     go (no h) = omega arith
 
-two-none : (a : ℕ) → twoBytes a 0 ≡ 0
+pub two-none : (a : ℕ) → twoBytes a 0 ≡ 0
 two-none a = go (eqb a 0) refl
   where
     go : (e : Bool) → eqb a 0 ≡ e → twoBytes a 0 ≡ 0
     go true e = let z = eqb-true a 0 e in rw z
     go false e = rw e
 
-three-none : (a b : ℕ) → threeBytes a b 0 ≡ 0
+pub three-none : (a b : ℕ) → threeBytes a b 0 ≡ 0
 three-none a b = go (eqb a 62 && eqb b 62)
   where
     go : (e : Bool) → _≡_ {A = ℕ} (cond (e && false) 18 0) 0

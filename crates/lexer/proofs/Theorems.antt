@@ -1,19 +1,19 @@
 -- The theorems that specs/Theorems.antt states. Assumes nothing.
-use mathlib.Core.Path.{_≡_, refl, sym, subst, _∙_}
+use mathlib.Core.Path.{_≡_, refl, sym, ap, subst, _∙_}
 use mathlib.Core.Logic.{_⊎_, inl, inr}
-use mathlib.Core.Bool.{Bool, true, false, not, cond, _&&_}
-use mathlib.Core.List.{List, [], _∷_}
+use mathlib.Core.Bool.{Bool, true, false, cond, _&&_}
+use mathlib.Core.List.{List, [], _∷_, IsPrefix}
 use Prim.Native.Nat.{ℕ, zero, suc, _+_, _-_, _^_, _≤_, _<_}
 use native.Mathlib.Decide.{decLe}
 use native.Mathlib.Omega.{arith}
-use lib.Dec.{eqb, leb, ltb, lit≤}
+use lib.Dec.{eqb, leb, ltb}
 use lib.ListN.{length, getD, drop}
 use lib.Seq.{sets-eq, take-append-seam}
 use lib.IntN.{ℤ, natAbs}
 use lib.Signed.{mag}
 use lib.Ieee.{Float, nan}
 use mir.Syntax.{w32, w64}
-use borrow.Author.Tests.{eqb-false, ltb-true, lt-ltb, not-true, ne-eqb}
+use borrow.Author.Tests.{eqb-true, eqb-false, ltb-true, lt-ltb}
 use Rattle.octets.proofs.Theorems.{and-parts, true-false}
 use Rattle.number.specs.Integer.{fitsIn}
 use Rattle.lexer.specs.Byte.{startsName, startsNumber, isQuote}
@@ -21,11 +21,12 @@ use Rattle.lexer.specs.Run.{runOf, unescaped, hasEscape, legalName, name
 use Rattle.lexer.specs.Digits.{wholeOf}
 use Rattle.lexer.specs.Integer.{isLong, isInteger, integerFits, integerOf, held}
 use Rattle.lexer.specs.Real.{exponentPart, exponentDigits, realDigits, noZeros, scaleOf, isReal, realFits, realOf}
-use Rattle.lexer.specs.Symbol.{threeBytes, withEqual, doubled, twoBytes, oneByte, firstOf, symbolOf, symbolLength}
-use Rattle.lexer.specs.Token.{Token, name, int32, int64, real, text, symbol, Placed, good, judged, scanName, integerToken, scanNumber, scanString, scanSymbol, scanOf, Lexed, tokens, refused, prepend, tokensFrom, tokensOf, found, integerAt, longAt, realAt}
-use Rattle.lexer.specs.Theorems.{Each, Laid, Nothing, BadToken, Whole, FirstBad, ValueAt, Values, StartsInside, Counted, Stored, Spelled, Longest, RealsHaveValues, Examples}
+use Rattle.lexer.specs.Token.{Token, name, int32, int64, real, text, symbol, Placed, good, bad, judged, scanName, integerToken, scanNumber, scanString, scanSymbol, scanOf, Lexed, tokens, refused, prepend, tokensFrom, tokensOf, found, integerAt, longAt, realAt}
+use Rattle.lexer.specs.Answer.{lexingOf, numberOf, placeOf}
+use Rattle.lexer.specs.Theorems.{Each, Some, Laid, Nothing, BadToken, Whole, FirstBad, HasNumber, Numbered, ValueAt, Values, StartsInside, Counted, Stored, Spelling, spellings, StartsNoOther, LongestMatch, RealsHaveValues, Examples}
 use Rattle.lexer.proofs.Decimals.{fifteen, real-decimal}
-use Rattle.lexer.proofs.Scans.{is-name, is-number, is-string, is-symbol, scan-real, scan-integer}
+use Rattle.lexer.proofs.Scans.{judged-legal, isSymbol, scan-judged, bad-number, is-name, is-number, is-string, is-symbol, scan-real, scan-integer}
+use Rattle.lexer.proofs.Spellings.{some-map, each-some, right, kindBy, prefix-kind, Spells, kind-prefix, most-once, Best, best}
 use Rattle.lexer.proofs.Streams.{from, stream-whole, too-long, streams}
 use Rattle.lexer.proofs.Laying.{laid-tokens, laid-bad, tokens-laid, bad-laid}
 
@@ -59,11 +60,38 @@ first-bad s k place ps = (there, back)
     back (inl h) = stream-whole s (h .0) ∙ bad-laid s 0 k place ps (h .1)
     back (inr h) = too-long s (h .0) ∙ sym (rw (h .1, h .2, h .3) refl)
 
--- a token that was judged legal
-judged-legal : (form limits : Bool) (t u : Token) (m n : ℕ) → judged form limits t m ≡ good u n → (form ≡ true) × (limits ≡ true) × (t ≡ u)
-judged-legal false limits t u m n e = let z : _≡_ {A = ℕ} 0 1 = cc in absurd (omega arith)
-judged-legal true false t u m n e = let z : _≡_ {A = ℕ} 0 1 = cc in absurd (omega arith)
-judged-legal true true t u m n e = (refl, refl, cc)
+-- number and place: what is laid over a text ends with what comes last
+laid-last : (E : ℕ → List ℕ → Type 0) (ps : List Placed) (at : ℕ) (s : List ℕ) → Laid E at ps s → (place : ℕ) × (last : List ℕ) × E place last
+laid-last E [] at s l = (at + length (l .0), l .1, l .4)
+laid-last E (p ∷ ps) at s l = laid-last E ps (p .start + length (l .1)) (l .2) (l .8)
+
+first-refused : (s : List ℕ) (k place : ℕ) (ps : List Placed) → tokensOf s ≡ refused k place ps → HasNumber s k place
+first-refused s k place ps e = go (first-bad s k place ps .0 e)
+  where
+    go : ((length s ≤ 4096) × Laid (BadToken k place) 0 ps s) ⊎ ((4096 < length s) × (k ≡ 10) × (place ≡ 0) × (ps ≡ [])) → HasNumber s k place
+    go (inl h) = let b = laid-last (BadToken k place) ps 0 s (h .1) in inr (inl (h .0, bad-number (b .1) k (b .2 .3), ps, h .1))
+    go (inr h) = inl (h .0, h .1, h .2)
+
+pub numbered : Numbered
+numbered s k place = (λ e. there (tokensOf s) refl e, back)
+  where
+    there : (l : Lexed) → tokensOf s ≡ l → (numberOf (lexingOf (tokensOf s)) ≡ k) × (placeOf (lexingOf (tokensOf s)) ≡ place) → HasNumber s k place
+    there (tokens ps) f e =
+        let n = rw f at e in
+        let w = whole s ps .0 f in
+        inr (inr (w .0, sym (n .0), sym (n .1), ps, w .1))
+    there (refused j at ps) f e =
+        let n = rw f at e in
+        rw (n .0, n .1) at (first-refused s j at ps f)
+
+    back : HasNumber s k place → (numberOf (lexingOf (tokensOf s)) ≡ k) × (placeOf (lexingOf (tokensOf s)) ≡ place)
+    back (inl h) = let e = too-long s (h .0) in (ap (λ (l : Lexed). numberOf (lexingOf l)) e ∙ sym (h .1), ap (λ (l : Lexed). placeOf (lexingOf l)) e ∙ sym (h .2))
+    back (inr (inl h)) =
+        let e = first-bad s k place (h .2) .1 (inl (h .0, h .3)) in
+        (ap (λ (l : Lexed). numberOf (lexingOf l)) e, ap (λ (l : Lexed). placeOf (lexingOf l)) e)
+    back (inr (inr h)) =
+        let e = whole s (h .3) .1 (h .0, h .4) in
+        (ap (λ (l : Lexed). numberOf (lexingOf l)) e ∙ sym (h .1), ap (λ (l : Lexed). placeOf (lexingOf l)) e ∙ sym (h .2))
 
 -- an integer that fits its type, as 64 bits hold it
 wide-fits : (z : ℤ) → fitsIn w32 z ≡ true → fitsIn w64 z ≡ true
@@ -110,57 +138,16 @@ module _ (s : List ℕ) (at : ℕ) where
       let body = bodyOf (drop at s) in
       value (isClosed (drop at s)) true (text (unescaped false body)) t (length body + 2) n e (λ _ _. refl)
 
--- the kind numbers of symbols
-abbrev Kind : ℕ → Type 0
-Kind k = (k ≡ 0) ⊎ ((7 < k) × (k < 44))
-
-pick-kind : (b : Bool) (j k : ℕ) → Kind j → Kind k → Kind (cond b j k)
-pick-kind true j k p q = p
-pick-kind false j k p q = q
-
-first-kind : (j k : ℕ) → Kind j → Kind k → Kind (firstOf j k)
-first-kind zero k p q = q
-first-kind (suc n) k p q = p
-
-is : (k : ℕ) → ltb 7 k ≡ true → ltb k 44 ≡ true → Kind k
-is k p q = inr (ltb-true 7 k p, ltb-true k 44 q)
-
-one-kind : (a : ℕ) → Kind (oneByte a)
-one-kind a = pick-kind (eqb a 126) 8 _ (is 8 refl refl) (pick-kind (eqb a 40) 9 _ (is 9 refl refl) (pick-kind (eqb a 41) 10 _ (is 10 refl refl) (pick-kind (eqb a 44) 11 _ (is 11 refl refl) (pick-kind (eqb a 38) 19 _ (is 19 refl refl) (pick-kind (eqb a 94) 20 _ (is 20 refl refl) (pick-kind (eqb a 124) 21 _ (is 21 refl refl) (pick-kind (eqb a 42) 22 _ (is 22 refl refl) (pick-kind (eqb a 47) 23 _ (is 23 refl refl) (pick-kind (eqb a 37) 24 _ (is 24 refl refl) (pick-kind (eqb a 43) 25 _ (is 25 refl refl) (pick-kind (eqb a 45) 26 _ (is 26 refl refl) (pick-kind (eqb a 60) 34 _ (is 34 refl refl) (pick-kind (eqb a 62) 36 _ (is 36 refl refl) (pick-kind (eqb a 33) 40 _ (is 40 refl refl) (inl refl)))))))))))))))
-
-two-kind : (a b : ℕ) → Kind (twoBytes a b)
-two-kind a b = pick-kind (eqb b 61) (withEqual a) _ with-equal (pick-kind (eqb a b) (doubled a) 0 twice (inl refl))
-  where
-    with-equal : Kind (withEqual a)
-    with-equal = pick-kind (eqb a 61) 32 _ (is 32 refl refl) (pick-kind (eqb a 33) 33 _ (is 33 refl refl) (pick-kind (eqb a 60) 35 _ (is 35 refl refl) (pick-kind (eqb a 62) 37 _ (is 37 refl refl) (inl refl))))
-
-    twice : Kind (doubled a)
-    twice = pick-kind (eqb a 60) 16 _ (is 16 refl refl) (pick-kind (eqb a 62) 17 _ (is 17 refl refl) (pick-kind (eqb a 38) 41 _ (is 41 refl refl) (pick-kind (eqb a 94) 42 _ (is 42 refl refl) (pick-kind (eqb a 124) 43 _ (is 43 refl refl) (inl refl)))))
-
-symbol-kind : (a b c : ℕ) → Kind (symbolOf a b c)
-symbol-kind a b c =
-    first-kind (threeBytes a b c) _
-    (pick-kind (eqb a 62 && eqb b 62 && eqb c 62) 18 0 (is 18 refl refl) (inl refl))
-    (first-kind (twoBytes a b) (oneByte a) (two-kind a b) (one-kind a))
-
+-- a symbol's kind is a spelling's
 symbol-value : (s : List ℕ) (at : ℕ) (t : Token) (n : ℕ) → scanSymbol (drop at s) ≡ good t n → ValueAt s at t
-symbol-value s at t n e = value s at (not (eqb k 0)) true (symbol k) t (symbolLength a b c) n e (λ f _. told (symbol-kind a b c) f)
+symbol-value s at t n e = go (best (drop at s))
   where
-    a : ℕ
-    a = getD (drop at s) 0 0
-
-    b : ℕ
-    b = getD (drop at s) 1 0
-
-    c : ℕ
-    c = getD (drop at s) 2 0
-
-    k : ℕ
-    k = symbolOf a b c
-
-    told : Kind k → not (eqb k 0) ≡ true → (7 < k) × (k < 44)
-    told (inl z) f = absurd (eqb-false k 0 (not-true (eqb k 0) f) z)
-    told (inr h) f = h
+    go : Best (drop at s) → ValueAt s at t
+    go (inl h) = let g : bad 1 ≡ good t n = sym (h .0) ∙ e in let z : _≡_ {A = ℕ} 0 1 = cc in absurd (omega arith)
+    go (inr (m, h, f)) =
+        let g : good (symbol (kindBy (drop at s) m)) m ≡ good t n = sym f ∙ e in
+        let u : symbol (kindBy (drop at s) m) ≡ t = cc in
+        subst (ValueAt s at) u (each-some spellings (λ x r q. (omega (arith, r .1, q .0), omega (arith, r .2, q .0))) right (kind-prefix (drop at s) m (h .0)))
 
 value-here : (s : List ℕ) (at : ℕ) (t : Token) (n : ℕ) → scanOf (drop at s) ≡ good t n → ValueAt s at t
 value-here s at t n f = go (startsName (getD r 0 0)) refl (startsNumber (getD r 0 0) (getD r 1 0)) refl (isQuote (getD r 0 0)) refl
@@ -239,28 +226,70 @@ reals-have-values run e =
     both : (a b : Bool) → a ≡ true → b ≡ true → (a && b) ≡ true
     both a b p q = rw (p, q)
 
-pub spelled : Spelled
-unfolding scanOf
-spelled = ((refl, refl), ((refl, refl), ((refl, refl), ((refl, refl), ((refl, refl), ((refl, refl), ((refl, refl), ((refl, refl), ((refl, refl), ((refl, refl), ((refl, refl), ((refl, refl), ((refl, refl), ((refl, refl), ((refl, refl), ((refl, refl), ((refl, refl), ((refl, refl), ((refl, refl), ((refl, refl), ((refl, refl), ((refl, refl), ((refl, refl), ((refl, refl), ((refl, refl), tt)))))))))))))))))))))))))
+-- the longest match
+module _ (s : List ℕ) where
+  starts-no-other : (k n : ℕ) → scanOf s ≡ good (symbol k) n → StartsNoOther s
+  starts-no-other k n e = let j = scan-judged s in go (j .2) (judged-legal (j .0) (j .1) (j .2) (symbol k) (j .3) n (sym (j .4) ∙ e) .2) (j .5)
+    where
+      go : (t : Token) → t ≡ symbol k → (isSymbol t ≡ false) ⊎ StartsNoOther s → StartsNoOther s
+      go t e (inl f) = true-false (ap isSymbol (sym e) ∙ f)
+      go t e (inr h) = h
 
-one-least : (a b c : ℕ) → 1 ≤ symbolLength a b c
-one-least a b c = go (eqb (threeBytes a b c) 0) (eqb (twoBytes a b) 0)
-  where
-    go : (x y : Bool) → 1 ≤ cond x (cond y 1 2) 3
-    go true true = lit≤ tt
-    go true false = lit≤ tt
-    go false y = lit≤ tt
+  -- no spelling that is longer is a prefix, if no more bytes give a kind; and back
+  none-longer : (n : ℕ) → ((m : ℕ) → n < m → kindBy s m ≡ 0) → Some (λ x. (n < length (x .bytes)) × IsPrefix (x .bytes) s) spellings → ⊥
+  none-longer n f e = each-some spellings (λ x r q. prefix-kind s x r (q .1) .1 (f (length (x .bytes)) (q .0))) right e
 
-two-least : (a b c : ℕ) → (twoBytes a b ≡ 0 → ⊥) → 2 ≤ symbolLength a b c
-two-least a b c f = go (eqb (threeBytes a b c) 0) (eqb (twoBytes a b) 0) (ne-eqb (twoBytes a b) 0 f)
-  where
-    go : (x y : Bool) → y ≡ false → 2 ≤ cond x (cond y 1 2) 3
-    go x true e = true-false e
-    go true false e = lit≤ tt
-    go false false e = lit≤ tt
+  none-by : (n : ℕ) → (Some (λ x. (n < length (x .bytes)) × IsPrefix (x .bytes) s) spellings → ⊥) → (m : ℕ) → n < m → kindBy s m ≡ 0
+  none-by n f m h = go (eqb (kindBy s m) 0) refl
+    where
+      longer : (x : Spelling) → Spells s (kindBy s m) m x → (n < length (x .bytes)) × IsPrefix (x .bytes) s
+      longer x q = (omega (arith, q .1), q .2)
 
-pub longest : Longest
-longest = (λ s. one-least 33 (getD s 0 0) (getD s 1 0), (λ s. two-least 33 61 (getD s 0 0) (eqb-false (twoBytes 33 61) 0 refl), (λ s. two-least 38 38 (getD s 0 0) (eqb-false (twoBytes 38 38) 0 refl), (λ s. two-least 94 94 (getD s 0 0) (eqb-false (twoBytes 94 94) 0 refl), (λ s. two-least 124 124 (getD s 0 0) (eqb-false (twoBytes 124 124) 0 refl), (λ s. two-least 61 61 (getD s 0 0) (eqb-false (twoBytes 61 61) 0 refl), (λ s. one-least 60 (getD s 0 0) (getD s 1 0), (λ s. two-least 60 61 (getD s 0 0) (eqb-false (twoBytes 60 61) 0 refl), (λ s. one-least 62 (getD s 0 0) (getD s 1 0), (λ s. two-least 62 61 (getD s 0 0) (eqb-false (twoBytes 62 61) 0 refl), (λ s. one-least 42 (getD s 0 0) (getD s 1 0), (λ s. one-least 47 (getD s 0 0) (getD s 1 0), (λ s. one-least 37 (getD s 0 0) (getD s 1 0), (λ s. one-least 43 (getD s 0 0) (getD s 1 0), (λ s. one-least 45 (getD s 0 0) (getD s 1 0), (λ s. two-least 60 60 (getD s 0 0) (eqb-false (twoBytes 60 60) 0 refl), (λ s. two-least 62 62 (getD s 0 0) (eqb-false (twoBytes 62 62) 0 refl), (λ s. lit≤ tt, (λ s. one-least 38 (getD s 0 0) (getD s 1 0), (λ s. one-least 94 (getD s 0 0) (getD s 1 0), (λ s. one-least 124 (getD s 0 0) (getD s 1 0), (λ s. one-least 126 (getD s 0 0) (getD s 1 0), (λ s. one-least 40 (getD s 0 0) (getD s 1 0), (λ s. one-least 41 (getD s 0 0) (getD s 1 0), (λ s. one-least 44 (getD s 0 0) (getD s 1 0), tt)))))))))))))))))))))))))
+      go : (b : Bool) → eqb (kindBy s m) 0 ≡ b → kindBy s m ≡ 0
+      go true e = eqb-true (kindBy s m) 0 e
+      go false e = absurd (f (some-map spellings longer (kind-prefix s m (eqb-false (kindBy s m) 0 e))))
+
+  module _ (other : StartsNoOther s) where
+    here : scanOf s ≡ scanSymbol s
+    here = is-symbol s (other .0) (other .1) (other .2)
+
+    matched : (k n : ℕ) → Best s → scanOf s ≡ good (symbol k) n → Some (Spells s k n) spellings × (Some (λ x. (n < length (x .bytes)) × IsPrefix (x .bytes) s) spellings → ⊥)
+    matched k n (inl h) e = let g : bad 1 ≡ good (symbol k) n = sym (h .0) ∙ sym here ∙ e in let z : _≡_ {A = ℕ} 0 1 = cc in absurd (omega arith)
+    matched k n (inr (m, h, f)) e =
+        let g : good (symbol (kindBy s m)) m ≡ good (symbol k) n = sym f ∙ sym here ∙ e in
+        let p : kindBy s m ≡ k = cc in
+        let q : m ≡ n = cc in
+        (rw (p, q) at (kind-prefix s m (h .0)), rw q at (none-longer m (h .1)))
+
+    taken : (k n : ℕ) → Some (Spells s k n) spellings → (Some (λ x. (n < length (x .bytes)) × IsPrefix (x .bytes) s) spellings → ⊥) → Best s → scanOf s ≡ good (symbol k) n
+    taken k n a none = go
+      where
+        by : (kindBy s n ≡ k) × (kindBy s n ≡ 0 → ⊥)
+        by = each-some {Q = Spells s k n} spellings (λ x r q. rw (q .0, q .1) at (prefix-kind s x r (q .2))) right a
+
+        go : Best s → scanOf s ≡ good (symbol k) n
+        go (inl h) = absurd (by .1 (h .1 n))
+        go (inr (m, h, f)) = let q : m ≡ n = most-once s m n h (by .1, none-by n none) in here ∙ f ∙ rw (q, by .0)
+
+    no-match : Best s → scanOf s ≡ bad 1 → Some (λ x. IsPrefix (x .bytes) s) spellings → ⊥
+    no-match (inl h) e a = each-some spellings (λ x r q. prefix-kind s x r q .1 (h .1 (length (x .bytes)))) right a
+    no-match (inr (m, h, f)) e a =
+        let g : bad 1 ≡ good (symbol (kindBy s m)) m = sym e ∙ here ∙ f in
+        let z : _≡_ {A = ℕ} 0 1 = cc in
+        absurd (omega arith)
+
+    refused-by : Best s → (Some (λ x. IsPrefix (x .bytes) s) spellings → ⊥) → scanOf s ≡ bad 1
+    refused-by (inl h) none = here ∙ h .0
+    refused-by (inr (m, h, f)) none = absurd (none (some-map {P = Spells s (kindBy s m) m} spellings (λ x q. q .2) (kind-prefix s m (h .0))))
+
+pub longest-match : LongestMatch
+longest-match s = (
+  λ k n. (
+    λ e. let other = starts-no-other s k n e in let m = matched s other k n (best s) e in (other, m .0, m .1),
+    λ h. taken s (h .0) k n (h .1) (h .2) (best s),
+  ),
+  λ other. (no-match s other (best s), refused-by s other (best s)),
+)
 
 pub examples : Examples
 unfolding tokensOf tokensFrom scanOf

@@ -16,6 +16,15 @@ abbrev pub lexingOf : Lexed → Lexing
 lexingOf (tokens ps) = Tokens (length ps)
 lexingOf (refused k at ps) = Refused k at
 
+-- document 01's number of what `lex` answers, 0 for tokens, and its place
+abbrev pub numberOf : Lexing → ℕ
+numberOf (Tokens n) = 0
+numberOf (Refused k at) = k
+
+abbrev pub placeOf : Lexing → ℕ
+placeOf (Tokens n) = 0
+placeOf (Refused k at) = at
+
 -- a token by its kind number and its length; or document 01's number
 abbrev pub scannedOf : Scan → Scanned
 scannedOf (good t n) = Good (kindOf t) n

@@ -2,25 +2,28 @@
 use mathlib.Core.Path.{_≡_}
 use mathlib.Core.Logic.{_↔_, _⊎_}
 use mathlib.Core.Bool.{true, false}
-use mathlib.Core.List.{List, [], _∷_, _++_}
+use mathlib.Core.List.{List, [], _∷_, _++_, IsPrefix}
 use Prim.Native.Nat.{ℕ, _+_, _≤_, _<_}
 use lib.ListN.{length, getD, take}
 use lib.Seq.{sets}
 use lib.IntN.{natAbs}
 use Rattle.number.specs.Real.{inLimits}
-use Rattle.lexer.specs.Byte.{isSpace}
+use Rattle.lexer.specs.Byte.{isSpace, isQuote, startsName, startsNumber}
 use Rattle.lexer.specs.Digits.{wholeOf}
 use Rattle.lexer.specs.Real.{realDigits, scaleOf, realFits}
-use Rattle.lexer.specs.Symbol.{symbolLength}
 use Rattle.lexer.specs.Token.{Token, name, int32, int64, real, text, symbol, Placed, good, bad, scanOf, tokens, refused, tokensOf, found, nameAt, escapedAt, stringAt, integerAt, longAt, realAt}
 use Rattle.lexer.specs.Ascii.{ascii}
-use Rattle.lexer.specs.Answer.{lexingOf}
+use Rattle.lexer.specs.Answer.{lexingOf, numberOf, placeOf}
 use Rattle.lexer.specs.declared.Lexing.{Lexing}
 use Rattle.lexer.specs.declared.Lexing.the-variants.{Tokens, Refused}
 
 abbrev pub Each : {A : Type 0} → (A → Type 0) → List A → Type 0
 Each P [] = Unit {0}
 Each P (x ∷ xs) = P x × Each P xs
+
+abbrev pub Some : {A : Type 0} → (A → Type 0) → List A → Type 0
+Some P [] = ⊥
+Some P (x ∷ xs) = P x ⊎ Some P xs
 
 -- bytes that are all whitespace
 abbrev pub Blank : List ℕ → Type 0
@@ -58,6 +61,18 @@ FirstBad =
     → (tokensOf s ≡ refused k place ps)
     ↔ (((length s ≤ 4096) × Laid (BadToken k place) 0 ps s) ⊎ ((4096 < length s) × (k ≡ 10) × (place ≡ 0) × (ps ≡ [])))
 
+-- "first that applies in this order: 10, then 1 or 3 at the first bad token": a text that is too long has 10, at 0; one that is not has the number of its
+-- first bad token, 1 or 3, at that token's start; or all of it is legal tokens and has 0, at 0.
+abbrev pub HasNumber : List ℕ → ℕ → ℕ → Type 0
+HasNumber s k place =
+    ((4096 < length s) × (k ≡ 10) × (place ≡ 0))
+    ⊎ (((length s ≤ 4096) × ((k ≡ 1) ⊎ (k ≡ 3)) × (ps : List Placed) × Laid (BadToken k place) 0 ps s)
+    ⊎ ((length s ≤ 4096) × (k ≡ 0) × (place ≡ 0) × (ps : List Placed) × Laid Nothing 0 ps s))
+
+-- What `lex` answers has just that number and that place.
+abbrev pub Numbered : Type 0
+Numbered = (s : List ℕ) (k place : ℕ) → let r = lexingOf (tokensOf s) in ((numberOf r ≡ k) × (placeOf r ≡ place)) ↔ HasNumber s k place
+
 -- a token's value by its start in the text; a symbol's kind number is none of the other tokens'
 abbrev pub ValueAt : List ℕ → ℕ → Token → Type 0
 ValueAt s at (name bytes escaped) = (bytes ≡ nameAt s at) × (escaped ≡ escapedAt s at)
@@ -88,7 +103,7 @@ pub record Spelling : Type 0 where
   pub bytes : List ℕ
   pub kind : ℕ
 
-abbrev pub spellings : List Spelling
+unfoldable pub spellings : List Spelling
 spellings =
     record { bytes = ascii "!"; kind = 40 } ∷
     record { bytes = ascii "!="; kind = 33 } ∷
@@ -117,15 +132,21 @@ spellings =
     record { bytes = ascii ","; kind = 11 } ∷
     []
 
--- Each of them, with whitespace or nothing after it, is that symbol.
-abbrev pub Spelled : Type 0
-Spelled =
-    Each (λ x. (scanOf (x .bytes) ≡ good (symbol (x .kind)) (length (x .bytes))) × (scanOf (x .bytes ++ (32 ∷ [])) ≡ good (symbol (x .kind)) (length (x .bytes)))) spellings
+-- s starts no name, no number and no string. "A `-` before a digit always starts a literal": there it is no operator.
+abbrev pub StartsNoOther : List ℕ → Type 0
+StartsNoOther s = (startsName (getD s 0 0) ≡ false) × (startsNumber (getD s 0 0) (getD s 1 0) ≡ false) × (isQuote (getD s 0 0) ≡ false)
 
--- "Operators take the longest match": what is taken is no shorter than any of them that the text begins with.
-abbrev pub Longest : Type 0
-Longest =
-    Each (λ x. (s : List ℕ) → let t = x .bytes ++ s in length (x .bytes) ≤ symbolLength (getD t 0 0) (getD t 1 0) (getD t 2 0)) spellings
+-- "Operators take the longest match": a symbol of kind k and n bytes stands first in s exactly if s starts nothing else, some spelling of that kind and length
+-- is a prefix of s, and none that is longer is. What starts nothing else is refused by 1 exactly if no spelling is a prefix of it.
+abbrev pub LongestMatch : Type 0
+LongestMatch =
+    (s : List ℕ)
+    → ((k n : ℕ)
+    → (scanOf s ≡ good (symbol k) n)
+    ↔ (StartsNoOther s
+    × Some (λ x. (x .kind ≡ k) × (length (x .bytes) ≡ n) × IsPrefix (x .bytes) s) spellings
+    × (Some (λ x. (n < length (x .bytes)) × IsPrefix (x .bytes) s) spellings → ⊥)))
+    × (StartsNoOther s → (scanOf s ≡ bad 1) ↔ (Some (λ x. IsPrefix (x .bytes) s) spellings → ⊥))
 
 -- A real within its limits is one that f64 computes from two exact operands: no legal real is without a value.
 abbrev pub RealsHaveValues : Type 0

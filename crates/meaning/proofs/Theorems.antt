@@ -1,6 +1,6 @@
 -- The theorem that specs/Theorems.antt states, by computing each case. Assumes nothing.
 use mathlib.Core.Path.{refl}
-use Rattle.word.specs.Word.{le}
+use Rattle.word.specs.Word.{wordAt}
 use Rattle.notice.specs.Layout.{startsFrom}
 use Rattle.lexer.specs.Token.{scanOf, tokensFrom, tokensOf}
 use Rattle.grammar.specs.Grammar.{rank}
@@ -9,5 +9,5 @@ use Rattle.meaning.specs.Meaning.{itemOf}
 use Rattle.meaning.specs.Theorems.{PCases}
 
 pub p-cases : PCases
-unfolding le startsFrom scanOf tokensFrom tokensOf rank level levelOf parseAll itemOf
+unfolding wordAt startsFrom scanOf tokensFrom tokensOf rank level levelOf parseAll itemOf
 p-cases = (refl, (refl, (refl, (refl, (refl, (refl, (refl, (refl, (refl, (refl, (refl, tt)))))))))))

@@ -7,7 +7,7 @@ use native.Mathlib.Omega.{arith}
 use lib.Dec.{leb}
 use lib.ListN.{length}
 use borrow.Author.Tests.{le-leb, lt-leb, leb-true, eq-eqb, ne-eqb}
-use Rattle.word.specs.Word.{le}
+use Rattle.word.specs.Word.{wordAt}
 use Rattle.octets.specs.Octets.{beforeOf}
 use Rattle.octets.proofs.Theorems.{and-parts}
 use Rattle.notice.specs.declared.Layout.the-variants.{WellFormed, Fault}
@@ -22,15 +22,15 @@ module _ (s : List ℕ) where
     long h = rw (le-leb 8 (length s) p, lt-leb (length s) 16384 h)
 
     module _ (q : length s ≤ 16384) where
-      pub other-length : (4 + le 4 s 0 ≡ length s → ⊥) → false ≡ headerRight s
-      other-length h = rw (le-leb 8 (length s) p, le-leb (length s) 16384 q, ne-eqb (4 + le 4 s 0) (length s) h)
+      pub other-length : (4 + wordAt 4 s 0 ≡ length s → ⊥) → false ≡ headerRight s
+      other-length h = rw (le-leb 8 (length s) p, le-leb (length s) 16384 q, ne-eqb (4 + wordAt 4 s 0) (length s) h)
 
-      module _ (r : 4 + le 4 s 0 ≡ length s) where
-        pub other-kind : (le 2 s 4 ≡ 1 → ⊥) → false ≡ headerRight s
-        other-kind h = rw (le-leb 8 (length s) p, le-leb (length s) 16384 q, eq-eqb (4 + le 4 s 0) (length s) r, ne-eqb (le 2 s 4) 1 h)
+      module _ (r : 4 + wordAt 4 s 0 ≡ length s) where
+        pub other-kind : (wordAt 2 s 4 ≡ 1 → ⊥) → false ≡ headerRight s
+        other-kind h = rw (le-leb 8 (length s) p, le-leb (length s) 16384 q, eq-eqb (4 + wordAt 4 s 0) (length s) r, ne-eqb (wordAt 2 s 4) 1 h)
 
-        pub by-count : le 2 s 4 ≡ 1 → leb (countOf s) 64 ≡ headerRight s
-        by-count k = rw (le-leb 8 (length s) p, le-leb (length s) 16384 q, eq-eqb (4 + le 4 s 0) (length s) r, eq-eqb (le 2 s 4) 1 k)
+        pub by-count : wordAt 2 s 4 ≡ 1 → leb (countOf s) 64 ≡ headerRight s
+        by-count k = rw (le-leb 8 (length s) p, le-leb (length s) 16384 q, eq-eqb (4 + wordAt 4 s 0) (length s) r, eq-eqb (wordAt 2 s 4) 1 k)
 
 -- one turn of the walk, with n fields left, and its ends
 module _ (s : List ℕ) (at : ℕ) (last : List ℕ) where

@@ -9,7 +9,7 @@ use lib.Dec.{leb, eqb}
 use lib.ListN.{length, getD, take, drop, length-append, take-append-drop}
 use lib.Seq.{getD-at, drop-at, drop-drop, drop-cons, take-append-seam}
 use borrow.Author.Tests.{leb-true, eqb-true}
-use Rattle.word.specs.Word.{le, leBytes, Bytes}
+use Rattle.word.specs.Word.{wordAt, wordBytes, Bytes}
 use Rattle.word.proofs.Laws.{length-leBytes}
 use Rattle.word.proofs.Theorems.{bytes-read, read-bytes}
 use Rattle.octets.proofs.Theorems.{and-parts, or-parts, true-false}
@@ -69,21 +69,21 @@ module _ (p q : List ℕ) (f : Field) (small : Small f) where
   size = 3 + length (f .name) + length (f .value)
 
   abbrev to-name : List ℕ
-  to-name = p ++ (leBytes 2 size ++ (leBytes 2 (f .kind) ++ (length (f .name) ∷ [])))
+  to-name = p ++ (wordBytes 2 size ++ (wordBytes 2 (f .kind) ++ (length (f .name) ∷ [])))
 
   abbrev to-value : List ℕ
-  to-value = p ++ (leBytes 2 size ++ (leBytes 2 (f .kind) ++ (length (f .name) ∷ f .name)))
+  to-value = p ++ (wordBytes 2 size ++ (wordBytes 2 (f .kind) ++ (length (f .name) ∷ f .name)))
 
   abbrev whole : List ℕ
   whole = p ++ (fieldBytes f ++ q)
 
-  from-kind : whole ≡ (p ++ leBytes 2 size) ++ (leBytes 2 (f .kind) ++ (length (f .name) ∷ (f .name ++ (f .value ++ q))))
+  from-kind : whole ≡ (p ++ wordBytes 2 size) ++ (wordBytes 2 (f .kind) ++ (length (f .name) ∷ (f .name ++ (f .value ++ q))))
   from-kind = simp append-assoc
 
-  from-size : whole ≡ p ++ (leBytes 2 size ++ (leBytes 2 (f .kind) ++ (length (f .name) ∷ (f .name ++ (f .value ++ q)))))
+  from-size : whole ≡ p ++ (wordBytes 2 size ++ (wordBytes 2 (f .kind) ++ (length (f .name) ∷ (f .name ++ (f .value ++ q)))))
   from-size = simp append-assoc
 
-  from-name-size : whole ≡ (p ++ (leBytes 2 size ++ leBytes 2 (f .kind))) ++ (length (f .name) ∷ (f .name ++ (f .value ++ q)))
+  from-name-size : whole ≡ (p ++ (wordBytes 2 size ++ wordBytes 2 (f .kind))) ++ (length (f .name) ∷ (f .name ++ (f .value ++ q)))
   from-name-size = simp append-assoc
 
   from-name : whole ≡ to-name ++ (f .name ++ (f .value ++ q))
@@ -95,18 +95,18 @@ module _ (p q : List ℕ) (f : Field) (small : Small f) where
   pub size-read : sizeAt whole (length p) ≡ size
   size-read =
       let b : size < 256 ^ 2 = omega (arith, small .name-fits, small .value-fits) in
-      ap (λ (s : List ℕ). le 2 s (length p)) from-size ∙ bytes-read 2 size p _ b
+      ap (λ (s : List ℕ). wordAt 2 s (length p)) from-size ∙ bytes-read 2 size p _ b
 
   pub kind-read : kindAt whole (length p) ≡ f .kind
   kind-read =
       let b : f .kind < 256 ^ 2 = omega (arith, small .kind-fits) in
-      let a : length (p ++ leBytes 2 size) ≡ length p + 2 = simp (length-append, length-leBytes) in
-      ap₂ (λ (s : List ℕ) (n : ℕ). le 2 s n) from-kind (sym a) ∙ bytes-read 2 (f .kind) (p ++ leBytes 2 size) _ b
+      let a : length (p ++ wordBytes 2 size) ≡ length p + 2 = simp (length-append, length-leBytes) in
+      ap₂ (λ (s : List ℕ) (n : ℕ). wordAt 2 s n) from-kind (sym a) ∙ bytes-read 2 (f .kind) (p ++ wordBytes 2 size) _ b
 
   pub name-size-read : nameSizeAt whole (length p) ≡ length (f .name)
   name-size-read =
-      let a : length (p ++ (leBytes 2 size ++ leBytes 2 (f .kind))) ≡ length p + 4 = simp (length-append, length-leBytes) in
-      ap (λ (s : List ℕ). getD s (length p + 4) 0) from-name-size ∙ getD-at (p ++ (leBytes 2 size ++ leBytes 2 (f .kind))) _ _ 0 (length p + 4) a
+      let a : length (p ++ (wordBytes 2 size ++ wordBytes 2 (f .kind))) ≡ length p + 4 = simp (length-append, length-leBytes) in
+      ap (λ (s : List ℕ). getD s (length p + 4) 0) from-name-size ∙ getD-at (p ++ (wordBytes 2 size ++ wordBytes 2 (f .kind))) _ _ 0 (length p + 4) a
 
   pub name-read : nameAt whole (length p) ≡ f .name
   name-read =
@@ -147,11 +147,11 @@ module _ (s : List ℕ) (bytes : Bytes s) (at : ℕ) (l : Lies s at) where
   field-written =
       let room = l .room in
       let within = l .within in
-      let e1 : drop at s ≡ leBytes 2 (sizeAt s at) ++ drop (at + 2) s = split-drop 2 at s ∙ ap (λ (t : List ℕ). t ++ drop (at + 2) s) (sym (read-bytes 2 at s bytes (omega arith))) in
+      let e1 : drop at s ≡ wordBytes 2 (sizeAt s at) ++ drop (at + 2) s = split-drop 2 at s ∙ ap (λ (t : List ℕ). t ++ drop (at + 2) s) (sym (read-bytes 2 at s bytes (omega arith))) in
       let i2 : at + 2 + 2 ≡ at + 4 = omega arith in
       let i3 : suc (at + 4) ≡ at + 5 = omega arith in
       let i5 : valueStart s at + valueSizeAt s at ≡ nextAt s at = omega arith in
-      let e2 : drop (at + 2) s ≡ leBytes 2 (kindAt s at) ++ drop (at + 4) s =
+      let e2 : drop (at + 2) s ≡ wordBytes 2 (kindAt s at) ++ drop (at + 4) s =
       split-drop 2 (at + 2) s ∙ ap₂ (λ (t : List ℕ) (n : ℕ). t ++ drop n s) (sym (read-bytes 2 (at + 2) s bytes (omega arith))) i2 in
       let e3 : drop (at + 4) s ≡ nameSizeAt s at ∷ drop (at + 5) s =
       drop-cons s (at + 4) 0 (omega arith) ∙ ap (λ (n : ℕ). nameSizeAt s at ∷ drop n s) i3 in
@@ -160,6 +160,6 @@ module _ (s : List ℕ) (bytes : Bytes s) (at : ℕ) (l : Lies s at) where
       split-drop (valueSizeAt s at) (valueStart s at) s ∙ ap (λ (n : ℕ). valueAt s at ++ drop n s) i5 in
       let n : nameSizeAt s at ≡ length (nameAt s at) = sym (length-name s at l) in
       let z : sizeAt s at ≡ 3 + length (nameAt s at) + length (valueAt s at) = omega (arith, length-name s at l, length-value s at l) in
-      e1 ∙ (ap₂ (λ (m : ℕ) (t : List ℕ). leBytes 2 m ++ t) z (e2 ∙ ap (λ (t : List ℕ). leBytes 2 (kindAt s at) ++ t)
+      e1 ∙ (ap₂ (λ (m : ℕ) (t : List ℕ). wordBytes 2 m ++ t) z (e2 ∙ ap (λ (t : List ℕ). wordBytes 2 (kindAt s at) ++ t)
       (e3 ∙ ap₂ (λ (m : ℕ) (t : List ℕ). m ∷ t) n (e4 ∙ ap (λ (t : List ℕ). nameAt s at ++ t) e5)))
       ∙ simp append-assoc)

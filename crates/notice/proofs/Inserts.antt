@@ -8,7 +8,7 @@ use lib.Dec.{leb, ltb}
 use lib.ListN.{length, take, drop, length-append, length-drop, take-append-drop}
 use lib.Seq.{sets, length-take-le, drop-drop, drop-at, take-at}
 use borrow.Author.Tests.{not-true, leb-true, ltb-true}
-use Rattle.word.specs.Word.{leBytes, Bytes}
+use Rattle.word.specs.Word.{wordBytes, Bytes}
 use Rattle.word.proofs.Laws.{length-leBytes}
 use Rattle.octets.specs.Octets.{sameOf, beforeOf}
 use Rattle.octets.proofs.Theorems.{and-parts}
@@ -218,7 +218,7 @@ module _ (b : List ℕ) (bytes : Bytes b) (len : ℕ) (f : Field) (ins : Inserta
       omega (arith, w .place, long)
 
   pub inserted : sets (sets (sets (sets b (placeFor s (f .name) + fieldSize f) (take (len - placeFor s (f .name)) (drop (placeFor s (f .name)) b)))
-      (placeFor s (f .name)) (fieldBytes f)) 0 (leBytes 4 (len + fieldSize f - 4))) 6 (leBytes 2 (countOf s + 1)) ≡ insertedBytes b len f
+      (placeFor s (f .name)) (fieldBytes f)) 0 (wordBytes 4 (len + fieldSize f - 4))) 6 (wordBytes 2 (countOf s + 1)) ≡ insertedBytes b len f
   inserted =
       let w = spotted in
       let at = placeFor s (f .name) in
@@ -227,9 +227,9 @@ module _ (b : List ℕ) (bytes : Bytes b) (len : ℕ) (f : Field) (ins : Inserta
       let q = fieldsBytes (w .post) in
       let g = take (fieldSize f) (drop len b) in
       let t = drop (len + fieldSize f) b in
-      let a = leBytes 4 (4 + length (fieldsBytes fs)) in
-      let k = leBytes 2 1 in
-      let c = leBytes 2 count in
+      let a = wordBytes 4 (4 + length (fieldsBytes fs)) in
+      let k = wordBytes 2 1 in
+      let c = wordBytes 2 count in
       let new : fieldsBytes (insertField f fs) ≡ p ++ (fieldBytes f ++ q) = ap fieldsBytes (w .new) ∙ fields-append (w .pre) (f ∷ w .post) in
       let body : fieldsBytes fs ≡ p ++ q = ap fieldsBytes (w .old) ∙ fields-append (w .pre) (w .post) in
       let lf = length-field f in
@@ -254,12 +254,12 @@ module _ (b : List ℕ) (bytes : Bytes b) (len : ℕ) (f : Field) (ins : Inserta
       let n4 : len + fieldSize f - 4 ≡ 4 + length (fieldsBytes (insertField f fs)) = omega (arith, ap length new, length-append p (fieldBytes f ++ q), length-append (fieldBytes f) q) in
       let n2 : countOf s + 1 ≡ length (insertField f fs) =
       omega (arith, well-count s s-bytes (ins .well), ap length (w .new), length-append (w .pre) (f ∷ w .post), ap length (w .old), length-append (w .pre) (w .post)) in
-      let a′ = leBytes 4 (len + fieldSize f - 4) in
-      let c′ = leBytes 2 (countOf s + 1) in
+      let a′ = wordBytes 4 (len + fieldSize f - 4) in
+      let c′ = wordBytes 2 (countOf s + 1) in
       let rest = p ++ (fieldBytes f ++ (q ++ t)) in
       ap (λ (x : List ℕ). sets (sets x 0 a′) 6 c′) two
       ∙ (new-header a a′ k c c′ rest (length-leBytes 4 _) (length-leBytes 4 _) (length-leBytes 2 1) (length-leBytes 2 _) (length-leBytes 2 _)
-      ∙ (ap₂ (λ (x y : List ℕ). (x ++ (k ++ y)) ++ rest) (ap (leBytes 4) n4) (ap (leBytes 2) n2)
+      ∙ (ap₂ (λ (x y : List ℕ). (x ++ (k ++ y)) ++ rest) (ap (wordBytes 4) n4) (ap (wordBytes 2) n2)
       ∙ (ap (λ (x : List ℕ). headerBytes (length (fieldsBytes (insertField f fs))) (length (insertField f fs)) ++ x) (simp append-assoc refl ∙ ap (λ (x : List ℕ). x ++ t) (sym new))
       ∙ sym (append-assoc (headerBytes (length (fieldsBytes (insertField f fs))) (length (insertField f fs))) (fieldsBytes (insertField f fs)) t))))
 

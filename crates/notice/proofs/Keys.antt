@@ -42,7 +42,7 @@ unfolding lead
 key-empty = refl
 
 -- names by their keys
-printable-bytes : (s : List ℕ) → printable s ≡ true → Bytes s
+pub printable-bytes : (s : List ℕ) → printable s ≡ true → Bytes s
 printable-bytes [] e i = omega arith
 printable-bytes (b ∷ s) e zero =
     let p = and-parts (leb 32 b && leb b 126) (printable s) e in

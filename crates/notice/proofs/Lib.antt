@@ -14,3 +14,4 @@ pub mod Faults
 pub mod Trips
 pub mod Theorems
 pub mod Readings
+pub mod RoundTrip

@@ -9,7 +9,7 @@ use lib.Dec.{leb}
 use lib.ListN.{length, getD, take, drop, length-drop, take-append-drop, drop-of-length-le}
 use lib.Seq.{drop-cons, take-add, take-all}
 use borrow.Author.Tests.{le-leb, lt-leb}
-use Rattle.word.specs.Word.{le, leBytes, Bytes}
+use Rattle.word.specs.Word.{wordAt, wordBytes, Bytes}
 use Rattle.word.proofs.Theorems.{read-bytes}
 use Rattle.octets.proofs.Theorems.{and-parts}
 use Rattle.notice.specs.Field.{printable, nameRight}
@@ -50,11 +50,11 @@ pub next-right : (i k : ℕ) (s : List ℕ) → printable (take i s) ≡ true �
 next-right i k s e = ap (λ (x : Bool). x && printable (take k (drop i s))) (sym e) ∙ (printable-append (take i s) (take k (drop i s)) ∙ ap printable (sym (take-add i k s)))
 
 -- a word of a name is its bytes
-pub word-bytes : (k at : ℕ) (s : List ℕ) → Bytes s → at + k ≤ length s → printable (leBytes k (le k s at)) ≡ printable (take k (drop at s))
+pub word-bytes : (k at : ℕ) (s : List ℕ) → Bytes s → at + k ≤ length s → printable (wordBytes k (wordAt k s at)) ≡ printable (take k (drop at s))
 word-bytes k at s b h = ap printable (read-bytes k at s b h)
 
 -- the word that reaches to the end
-pub end-word : (k at : ℕ) (s : List ℕ) → Bytes s → at + k ≡ length s → printable (leBytes k (le k s at)) ≡ printable (drop at s)
+pub end-word : (k at : ℕ) (s : List ℕ) → Bytes s → at + k ≡ length s → printable (wordBytes k (wordAt k s at)) ≡ printable (drop at s)
 end-word k at s b h = word-bytes k at s b (omega arith) ∙ ap printable (take-all k (drop at s) (simp length-drop (omega arith)))
 
 module _ (s : List ℕ) (i : ℕ) where

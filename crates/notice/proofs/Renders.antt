@@ -7,7 +7,7 @@ use native.Mathlib.Omega.{arith}
 use lib.Dec.{leb, eqb}
 use lib.ListN.{length, drop, length-append, length-drop, drop-of-length-le}
 use borrow.Author.Tests.{le-leb, eq-eqb, leb-true, eqb-true}
-use Rattle.word.specs.Word.{le, leBytes, Bytes}
+use Rattle.word.specs.Word.{wordAt, wordBytes, Bytes}
 use Rattle.word.proofs.Laws.{length-leBytes}
 use Rattle.word.proofs.Theorems.{bytes-read, read-bytes}
 use Rattle.octets.specs.Octets.{beforeOf}
@@ -129,23 +129,23 @@ module _ (size count : ℕ) (body : List ℕ) where
   pub length-whole : length (headerBytes size count ++ body) ≡ 8 + length body
   length-whole = length-append (headerBytes size count) body ∙ ap (λ (n : ℕ). n + length body) length-header
 
-  pub length-read : 4 + size < 256 ^ 4 → le 4 (headerBytes size count ++ body) 0 ≡ 4 + size
+  pub length-read : 4 + size < 256 ^ 4 → wordAt 4 (headerBytes size count ++ body) 0 ≡ 4 + size
   length-read h =
-      let e : headerBytes size count ++ body ≡ leBytes 4 (4 + size) ++ (leBytes 2 1 ++ (leBytes 2 count ++ body)) = simp append-assoc in
-      ap (λ (s : List ℕ). le 4 s 0) e ∙ bytes-read 4 (4 + size) [] (leBytes 2 1 ++ (leBytes 2 count ++ body)) h
+      let e : headerBytes size count ++ body ≡ wordBytes 4 (4 + size) ++ (wordBytes 2 1 ++ (wordBytes 2 count ++ body)) = simp append-assoc in
+      ap (λ (s : List ℕ). wordAt 4 s 0) e ∙ bytes-read 4 (4 + size) [] (wordBytes 2 1 ++ (wordBytes 2 count ++ body)) h
 
-  pub kind-read : le 2 (headerBytes size count ++ body) 4 ≡ 1
+  pub kind-read : wordAt 2 (headerBytes size count ++ body) 4 ≡ 1
   kind-read =
-      let e : headerBytes size count ++ body ≡ leBytes 4 (4 + size) ++ (leBytes 2 1 ++ (leBytes 2 count ++ body)) = simp append-assoc in
-      let n : 4 ≡ length (leBytes 4 (4 + size)) = sym (length-leBytes 4 (4 + size)) in
+      let e : headerBytes size count ++ body ≡ wordBytes 4 (4 + size) ++ (wordBytes 2 1 ++ (wordBytes 2 count ++ body)) = simp append-assoc in
+      let n : 4 ≡ length (wordBytes 4 (4 + size)) = sym (length-leBytes 4 (4 + size)) in
       let b : 1 < 256 ^ 2 = omega arith in
-      ap₂ (λ (s : List ℕ) (i : ℕ). le 2 s i) e n ∙ bytes-read 2 1 (leBytes 4 (4 + size)) (leBytes 2 count ++ body) b
+      ap₂ (λ (s : List ℕ) (i : ℕ). wordAt 2 s i) e n ∙ bytes-read 2 1 (wordBytes 4 (4 + size)) (wordBytes 2 count ++ body) b
 
   pub count-read : count < 256 ^ 2 → countOf (headerBytes size count ++ body) ≡ count
   count-read h =
-      let e : headerBytes size count ++ body ≡ (leBytes 4 (4 + size) ++ leBytes 2 1) ++ (leBytes 2 count ++ body) = simp append-assoc in
-      let n : 6 ≡ length (leBytes 4 (4 + size) ++ leBytes 2 1) = sym (length-append (leBytes 4 (4 + size)) (leBytes 2 1) ∙ ap₂ (λ (a b : ℕ). a + b) (length-leBytes 4 (4 + size)) (length-leBytes 2 1)) in
-      ap₂ (λ (s : List ℕ) (i : ℕ). le 2 s i) e n ∙ bytes-read 2 count (leBytes 4 (4 + size) ++ leBytes 2 1) body h
+      let e : headerBytes size count ++ body ≡ (wordBytes 4 (4 + size) ++ wordBytes 2 1) ++ (wordBytes 2 count ++ body) = simp append-assoc in
+      let n : 6 ≡ length (wordBytes 4 (4 + size) ++ wordBytes 2 1) = sym (length-append (wordBytes 4 (4 + size)) (wordBytes 2 1) ∙ ap₂ (λ (a b : ℕ). a + b) (length-leBytes 4 (4 + size)) (length-leBytes 2 1)) in
+      ap₂ (λ (s : List ℕ) (i : ℕ). wordAt 2 s i) e n ∙ bytes-read 2 count (wordBytes 4 (4 + size) ++ wordBytes 2 1) body h
 
 pub length-render : (fs : List Field) → length (render fs) ≡ 8 + length (fieldsBytes fs)
 length-render fs = length-whole (length (fieldsBytes fs)) (length fs) (fieldsBytes fs)
@@ -179,12 +179,12 @@ module _ (fs : List Field) (ok : NoticeFields fs) where
   rendered-header =
       let l = length-render fs in
       let b : 4 + size < 256 ^ 4 = omega (arith, ok .short) in
-      let n : 4 + le 4 (render fs) 0 ≡ length (render fs) = omega (arith, length-read size (length fs) (fieldsBytes fs) b) in
+      let n : 4 + wordAt 4 (render fs) 0 ≡ length (render fs) = omega (arith, length-read size (length fs) (fieldsBytes fs) b) in
       let c : countOf (render fs) ≤ 64 = omega (arith, rendered-count, ok .few) in
       let k = kind-read size (length fs) (fieldsBytes fs) in
       ap₂ (λ (x y : Bool). x && y) rendered-length
-      (ap₂ (λ (x y : Bool). x && y) (eq-eqb (4 + le 4 (render fs) 0) (length (render fs)) n)
-      (ap₂ (λ (x y : Bool). x && y) (eq-eqb (le 2 (render fs) 4) 1 k) (le-leb (countOf (render fs)) 64 c)))
+      (ap₂ (λ (x y : Bool). x && y) (eq-eqb (4 + wordAt 4 (render fs) 0) (length (render fs)) n)
+      (ap₂ (λ (x y : Bool). x && y) (eq-eqb (wordAt 2 (render fs) 4) 1 k) (le-leb (countOf (render fs)) 64 c)))
 
   pub render-passes : checkOf (render fs) ≡ WellFormed
   render-passes =
@@ -211,21 +211,21 @@ module _ (s : List ℕ) (bytes : Bytes s) (well : checkOf s ≡ WellFormed) wher
   pub record Header : Type 0 where
     pub long : 8 ≤ length s
     pub short : length s ≤ 16384
-    pub size : 4 + le 4 s 0 ≡ length s
-    pub kind : le 2 s 4 ≡ 1
+    pub size : 4 + wordAt 4 s 0 ≡ length s
+    pub kind : wordAt 2 s 4 ≡ 1
     pub few : countOf s ≤ 64
 
   pub well-header : Header
   well-header =
       let a = and-parts (lengthRight s) _ (header-well .0) in
       let b = and-parts (leb 8 (length s)) (leb (length s) 16384) (a .0) in
-      let c = and-parts (eqb (4 + le 4 s 0) (length s)) _ (a .1) in
-      let d = and-parts (eqb (le 2 s 4) 1) (leb (countOf s) 64) (c .1) in
+      let c = and-parts (eqb (4 + wordAt 4 s 0) (length s)) _ (a .1) in
+      let d = and-parts (eqb (wordAt 2 s 4) 1) (leb (countOf s) 64) (c .1) in
       record {
         long = leb-true 8 (length s) (b .0);
         short = leb-true (length s) 16384 (b .1);
-        size = eqb-true (4 + le 4 s 0) (length s) (c .0);
-        kind = eqb-true (le 2 s 4) 1 (d .0);
+        size = eqb-true (4 + wordAt 4 s 0) (length s) (c .0);
+        kind = eqb-true (wordAt 2 s 4) 1 (d .0);
         few = leb-true (countOf s) 64 (d .1);
       }
 
@@ -244,11 +244,11 @@ module _ (s : List ℕ) (bytes : Bytes s) (well : checkOf s ≡ WellFormed) wher
   header-bytes =
       let h = well-header in
       let long = h .long in
-      let z : le 4 s 0 ≡ 4 + length (drop 8 s) = omega (arith, h .size, length-drop 8 s) in
-      let e1 : s ≡ leBytes 4 (4 + length (drop 8 s)) ++ drop 4 s = split-drop 4 0 s ∙ ap (λ (t : List ℕ). t ++ drop 4 s) (sym (read-bytes 4 0 s bytes (omega arith)) ∙ ap (leBytes 4) z) in
-      let e2 : drop 4 s ≡ leBytes 2 1 ++ drop 6 s = split-drop 2 4 s ∙ ap (λ (t : List ℕ). t ++ drop 6 s) (sym (read-bytes 2 4 s bytes (omega arith)) ∙ ap (leBytes 2) (h .kind)) in
-      let e3 : drop 6 s ≡ leBytes 2 (countOf s) ++ drop 8 s = split-drop 2 6 s ∙ ap (λ (t : List ℕ). t ++ drop 8 s) (sym (read-bytes 2 6 s bytes (omega arith))) in
-      e1 ∙ (ap (λ (t : List ℕ). leBytes 4 (4 + length (drop 8 s)) ++ t) (e2 ∙ ap (λ (t : List ℕ). leBytes 2 1 ++ t) e3) ∙ simp append-assoc)
+      let z : wordAt 4 s 0 ≡ 4 + length (drop 8 s) = omega (arith, h .size, length-drop 8 s) in
+      let e1 : s ≡ wordBytes 4 (4 + length (drop 8 s)) ++ drop 4 s = split-drop 4 0 s ∙ ap (λ (t : List ℕ). t ++ drop 4 s) (sym (read-bytes 4 0 s bytes (omega arith)) ∙ ap (wordBytes 4) z) in
+      let e2 : drop 4 s ≡ wordBytes 2 1 ++ drop 6 s = split-drop 2 4 s ∙ ap (λ (t : List ℕ). t ++ drop 6 s) (sym (read-bytes 2 4 s bytes (omega arith)) ∙ ap (wordBytes 2) (h .kind)) in
+      let e3 : drop 6 s ≡ wordBytes 2 (countOf s) ++ drop 8 s = split-drop 2 6 s ∙ ap (λ (t : List ℕ). t ++ drop 8 s) (sym (read-bytes 2 6 s bytes (omega arith))) in
+      e1 ∙ (ap (λ (t : List ℕ). wordBytes 4 (4 + length (drop 8 s)) ++ t) (e2 ∙ ap (λ (t : List ℕ). wordBytes 2 1 ++ t) e3) ∙ simp append-assoc)
 
   pub well-render : s ≡ render (fieldsOf s)
   well-render =

@@ -7,10 +7,10 @@ use mathlib.Core.Option.{some, none}
 use Prim.Native.Nat.{ℕ, zero, suc, _+_, _-_, _≤_, _<_}
 use native.Mathlib.Omega.{arith}
 use lib.Dec.{leb, ltb}
-use lib.ListN.{length, take, drop, take-append-drop}
+use lib.ListN.{length, getD, take, drop, take-append-drop}
 use lib.Seq.{take-at, length-take-le}
 use borrow.Author.Tests.{leb-true, lt-ltb}
-use Rattle.word.specs.Word.{leBytes}
+use Rattle.word.specs.Word.{wordBytes, Bytes}
 use Rattle.octets.specs.Octets.{sameOf, beforeOf}
 use Rattle.octets.proofs.Theorems.{and-parts, true-false, same, before-transitive}
 use Rattle.notice.specs.declared.Layout.{Layout}
@@ -20,8 +20,9 @@ use Rattle.notice.specs.Field.{Field, allRight, beforeFirst, rising}
 use Rattle.notice.specs.Render.{fieldsBytes, render, NoticeFields}
 use Rattle.notice.specs.Layout.{pick, nextAt, nameAt, fieldAt, liesAt, countOf, checkOf, startsFrom, fieldsOf, headerRight, standsAt, checkFrom, placeOf}
 use Rattle.notice.specs.Lookup.{fieldNamed, lookupIn, FoundIs}
+use Rattle.notice.specs.Read.{readNumber, blank, readField}
 use Rattle.notice.specs.Write.{fieldSize, insertField, refusalBy, refusalOf, writtenOf, writtenBytes, Writes, Insertable}
-use Rattle.notice.specs.Theorems.{WellFormed, lastName, FaultPlace, OneList, FieldsRead, ReadEach, Lookup, NamedField, NoneNamed, EachFound, WriteAdds, InsertAdds, WrittenAgain, EmptyNotice, Op42}
+use Rattle.notice.specs.Theorems.{WellFormedExactly, lastName, FaultPlace, OneList, FieldsRead, CountFields, ReadEach, Lookup, NamedField, NoneNamed, EachFound, WriteAdds, InsertAdds, WrittenAgain, EmptyNotice, Op42}
 use Rattle.notice.proofs.Places.{lies-true}
 use Rattle.notice.proofs.Walks.{starts-end, starts-more, starts-stop}
 use Rattle.notice.proofs.Renders.{render-passes, render-fields, well-render, well-fields, well-count, length-render}
@@ -33,8 +34,8 @@ use Rattle.notice.proofs.Trips.{Fitting, added-fields, added-length, ov
 use Rattle.notice.proofs.Writes.{added}
 use Rattle.notice.proofs.Inserts.{accepted}
 
-pub well-formed : WellFormed
-well-formed s bytes = (
+pub well-formed-exactly : WellFormedExactly
+well-formed-exactly s bytes = (
   λ well. (fieldsOf s, well-fields s bytes well, well-render s bytes well),
   λ r. ap checkOf (r .2) ∙ render-passes (r .0) (r .1),
 )
@@ -57,10 +58,16 @@ fields-read = render-fields
 pub one-list : OneList
 one-list fs gs p q e = sym (fields-read fs p) ∙ (ap fieldsOf e ∙ fields-read gs q)
 
-pub read-each : ReadEach
-read-each s k bytes well h =
-    let b : ltb k (countOf s) ≡ true = lt-ltb k (countOf s) (omega (arith, well-count s bytes well)) in
+pub count-fields : CountFields
+count-fields s bytes well = sym (well-count s bytes well)
+
+pub read-below : (s : List ℕ) (k : ℕ) → checkOf s ≡ layouts.WellFormed → k < countOf s → (readNumber s k ≡ 0) × (readField s k ≡ getD (fieldsOf s) k blank)
+read-below s k well h =
+    let b : ltb k (countOf s) ≡ true = lt-ltb k (countOf s) h in
     (rw (well, b), rw (well, b))
+
+pub read-each : ReadEach
+read-each s k bytes well h = read-below s k well (omega (arith, well-count s bytes well))
 
 -- lookup, on every walk over fields that lie within the notice
 found-from : (n : ℕ) (s name : List ℕ) (at : ℕ) → FoundIs s (lookupIn s name (startsFrom n s at)) (fieldNamed name (map (fieldAt s) (startsFrom n s at)))
@@ -150,7 +157,7 @@ pub insert-adds : InsertAdds
 insert-adds = insert-splits
 
 -- a write that is not refused
-number-zero : (b : List ℕ) (len : ℕ) (f : Field) → refusalOf b len f ≡ 0 → Insertable b len f
+pub number-zero : (b : List ℕ) (len : ℕ) (f : Field) → refusalOf b len f ≡ 0 → Insertable b len f
 number-zero b len f e = within (leb len (length b)) refl e
   where
     well : len ≤ length b → (l : Layout) → checkOf (take len b) ≡ l → refusalBy l b len f ≡ 0 → Insertable b len f
@@ -161,8 +168,10 @@ number-zero b len f e = within (leb len (length b)) refl e
     within true p h = well (leb-true len (length b) p) (checkOf (take len b)) refl h
     within false p h = absurd (omega arith)
 
-pub write-adds : WriteAdds
-write-adds b len f bytes e =
+-- .. leaves the bytes of a notice's fields
+pub left-by : (b : List ℕ) (len : ℕ) (f : Field) → Bytes b → writtenOf b len f .number ≡ 0
+    → NoticeFields (insertField f (fieldsOf (take len b))) × (take (writtenOf b len f .len) (writtenBytes b len f) ≡ render (insertField f (fieldsOf (take len b))))
+left-by b len f bytes e =
     let ins = number-zero b len f e in
     let s = take len b in
     let fs = fieldsOf s in
@@ -180,12 +189,17 @@ write-adds b len f bytes e =
       fits = omega (arith, a .fits);
     } in
     let w = added b len f (ins .within) (ins .well) (ins .accepted) in
-    let m : writtenOf b len f .len ≡ len + fieldSize f = ap (λ (x : Written). x .len) (sym (w .0)) in
-    let new : take (writtenOf b len f .len) (writtenBytes b len f) ≡ render (insertField f fs) =
-    ap₂ (λ (k : ℕ) (d : List ℕ). take k d) m (sym (w .1))
-    ∙ take-at (render (insertField f fs)) (drop (len + fieldSize f) b) (len + fieldSize f) (omega (arith, added-length fs f)) in
-    let ok = added-fields fs f (length b) t in
-    (ap checkOf new ∙ render-passes (insertField f fs) ok, ap fieldsOf new ∙ render-fields (insertField f fs) ok)
+    let m : writtenOf b len f .len ≡ len + fieldSize f = ap (λ (x : Written). x .len) (sym (w .0)) in (
+      added-fields fs f (length b) t,
+      ap₂ (λ (k : ℕ) (d : List ℕ). take k d) m (sym (w .1))
+          ∙ take-at (render (insertField f fs)) (drop (len + fieldSize f) b) (len + fieldSize f) (omega (arith, added-length fs f)),
+    )
+
+pub write-adds : WriteAdds
+write-adds b len f bytes e =
+    let new = insertField f (fieldsOf (take len b)) in
+    let l = left-by b len f bytes e in
+    (ap checkOf (l .1) ∙ render-passes new (l .0), ap fieldsOf (l .1) ∙ render-fields new (l .0))
 
 no-fields : NoticeFields []
 no-fields = record { few = omega arith; right = refl; rises = refl; short = omega (arith, length-render []) }
@@ -214,9 +228,9 @@ written-again s bytes well fs perm b e h =
     along p q u v x = rw (← p, ← q, ← u, ← v) x
 
 pub empty-notice : EmptyNotice
-unfolding leBytes
+unfolding wordBytes
 empty-notice = refl
 
 pub op42 : Op42
-unfolding leBytes
+unfolding wordBytes
 op42 = refl

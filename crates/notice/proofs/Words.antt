@@ -7,7 +7,7 @@ use native.Mathlib.Omega.{arith}
 use lib.Bits.{bitAnd, and-block, and-high, and-zero-r}
 use lib.Dec.{leb, eqb, lit<}
 use borrow.Author.Tests.{le-leb, leb-true, eqb-true, eq-eqb}
-use Rattle.word.specs.Word.{leBytes}
+use Rattle.word.specs.Word.{wordBytes}
 use Rattle.octets.proofs.Theorems.{and-parts}
 use Rattle.notice.specs.Field.{printable}
 
@@ -51,8 +51,8 @@ each-le : (k : ℕ) → each 127 k ≤ each 159 k
 each-le zero = omega arith
 each-le (suc k) = let ih = each-le k in omega arith
 
-clear-right : (k x : ℕ) → x < 256 ^ k → Clear k x → printable (leBytes k x) ≡ true
-unfolding leBytes
+clear-right : (k x : ℕ) → x < 256 ^ k → Clear k x → printable (wordBytes k x) ≡ true
+unfolding wordBytes
 clear-right zero x h c = refl
 clear-right (suc k) x h c =
     let m : x < 256 ^ k * 256 = rw (pow-suc 256 k) at h in
@@ -67,14 +67,14 @@ clear-right (suc k) x h c =
     let ih = clear-right k r (omega arith) (record { plain = p .1; high = q .1; low = t .1 }) in
     rw (le-leb 32 b (omega (arith, t .0)), le-leb b 126 (omega (arith, q .0))) ih
 
-right-clear : (k x : ℕ) → x < 256 ^ k → printable (leBytes k x) ≡ true → Clear k x
-unfolding leBytes
+right-clear : (k x : ℕ) → x < 256 ^ k → printable (wordBytes k x) ≡ true → Clear k x
+unfolding wordBytes
 right-clear zero x h e = record { plain = and-zero-r x; high = and-zero-r (x + 0); low = and-zero-r (0 - x) }
 right-clear (suc k) x h e =
     let m : x < 256 ^ k * 256 = rw (pow-suc 256 k) at h in
     let r = x / 256 in
     let b = x % 256 in
-    let p = and-parts (leb 32 b && leb b 126) (printable (leBytes k r)) e in
+    let p = and-parts (leb 32 b && leb b 126) (printable (wordBytes k r)) e in
     let q = and-parts (leb 32 b) (leb b 126) (p .0) in
     let l : 32 ≤ b = leb-true 32 b (q .0) in
     let u : b ≤ 126 = leb-true b 126 (q .1) in
@@ -96,10 +96,10 @@ module _ (x : ℕ) (h : x < 256 ^ 4) where
   abbrev low : ℕ
   low = bitAnd (0x9f9f_9f9f - x) 0x8080_8080
 
-  pub high-wrong : (bitAnd x 0x8080_8080 ≡ 0 → ⊥) → false ≡ printable (leBytes 4 x)
-  high-wrong f = go (printable (leBytes 4 x)) refl
+  pub high-wrong : (bitAnd x 0x8080_8080 ≡ 0 → ⊥) → false ≡ printable (wordBytes 4 x)
+  high-wrong f = go (printable (wordBytes 4 x)) refl
     where
-      go : (t : Bool) → printable (leBytes 4 x) ≡ t → false ≡ t
+      go : (t : Bool) → printable (wordBytes 4 x) ≡ t → false ≡ t
       go true e = absurd (f (right-clear 4 x h e .plain))
       go false e = refl
 
@@ -107,10 +107,10 @@ module _ (x : ℕ) (h : x < 256 ^ 4) where
     pub small : x ≤ 0x7f7f_7f7f
     small = clear-small 4 x h e
 
-    pub by-tests : (eqb high 0 && eqb low 0) ≡ printable (leBytes 4 x)
-    by-tests = go (printable (leBytes 4 x)) (eqb high 0) (eqb low 0) refl refl refl
+    pub by-tests : (eqb high 0 && eqb low 0) ≡ printable (wordBytes 4 x)
+    by-tests = go (printable (wordBytes 4 x)) (eqb high 0) (eqb low 0) refl refl refl
       where
-        go : (t a b : Bool) → printable (leBytes 4 x) ≡ t → eqb high 0 ≡ a → eqb low 0 ≡ b → (a && b) ≡ t
+        go : (t a b : Bool) → printable (wordBytes 4 x) ≡ t → eqb high 0 ≡ a → eqb low 0 ≡ b → (a && b) ≡ t
         go true a b p q r = let c = right-clear 4 x h p in ap₂ _&&_ (sym q ∙ eq-eqb high 0 (c .high)) (sym r ∙ eq-eqb low 0 (c .low))
         go false true true p q r = sym (clear-right 4 x h (record { plain = e; high = eqb-true high 0 q; low = eqb-true low 0 r })) ∙ p
         go false true false p q r = refl

@@ -5,7 +5,7 @@ use mathlib.Core.Bool.{Bool, true, false, cond, _&&_}
 use mathlib.Core.List.{List, [], _∷_, map}
 use lib.Dec.{eqb, leb}
 use lib.ListN.{length, getD, take, drop}
-use Rattle.word.specs.Word.{le}
+use Rattle.word.specs.Word.{wordAt}
 use Rattle.octets.specs.Octets.{beforeOf}
 use Rattle.notice.specs.Field.{Field, fieldRight}
 use Rattle.notice.specs.declared.Layout.{Layout}
@@ -23,10 +23,10 @@ unless false number next = number
 
 -- "Field: u16 length of all after it; u16 kind; u8 name length 1..64; name; the value takes the rest." The field starts at `at`.
 abbrev pub sizeAt : List ℕ → ℕ → ℕ
-sizeAt s at = le 2 s at
+sizeAt s at = wordAt 2 s at
 
 abbrev pub kindAt : List ℕ → ℕ → ℕ
-kindAt s at = le 2 s (at + 2)
+kindAt s at = wordAt 2 s (at + 2)
 
 abbrev pub nameSizeAt : List ℕ → ℕ → ℕ
 nameSizeAt s at = getD s (at + 4) 0
@@ -59,11 +59,11 @@ abbrev pub lengthRight : List ℕ → Bool
 lengthRight s = leb 8 (length s) && leb (length s) 16384
 
 abbrev pub countOf : List ℕ → ℕ
-countOf s = le 2 s 6
+countOf s = wordAt 2 s 6
 
 -- "u32 length of all after it; u16 kind 1; u16 field count 0..64 .. and exactly the slice"; "0 for the header (size over 16,384 or under 8, length, kind, count)"
 abbrev pub headerRight : List ℕ → Bool
-headerRight s = lengthRight s && (eqb (4 + le 4 s 0) (length s) && (eqb (le 2 s 4) 1 && leb (countOf s) 64))
+headerRight s = lengthRight s && (eqb (4 + wordAt 4 s 0) (length s) && (eqb (wordAt 2 s 4) 1 && leb (countOf s) 64))
 
 -- a field that is right by itself starts at `at`
 abbrev pub rightAt : List ℕ → ℕ → Bool

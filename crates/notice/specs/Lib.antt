@@ -6,3 +6,4 @@ pub mod Lookup
 pub mod Read
 pub mod Write
 pub mod Theorems
+pub mod RoundTrip

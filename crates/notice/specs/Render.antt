@@ -4,12 +4,12 @@ use mathlib.Core.Path.{_≡_}
 use mathlib.Core.Bool.{true}
 use mathlib.Core.List.{List, [], _∷_, _++_}
 use lib.ListN.{length}
-use Rattle.word.specs.Word.{leBytes}
+use Rattle.word.specs.Word.{wordBytes}
 use Rattle.notice.specs.Field.{Field, allRight, rising}
 
 -- "Field: u16 length of all after it; u16 kind; u8 name length 1..64; name (bytes 32..126); the value takes the rest."
 abbrev pub fieldBytes : Field → List ℕ
-fieldBytes f = leBytes 2 (3 + length (f .name) + length (f .value)) ++ (leBytes 2 (f .kind) ++ (length (f .name) ∷ (f .name ++ f .value)))
+fieldBytes f = wordBytes 2 (3 + length (f .name) + length (f .value)) ++ (wordBytes 2 (f .kind) ++ (length (f .name) ∷ (f .name ++ f .value)))
 
 abbrev pub fieldsBytes : List Field → List ℕ
 fieldsBytes [] = []
@@ -17,7 +17,7 @@ fieldsBytes (f ∷ fs) = fieldBytes f ++ fieldsBytes fs
 
 -- "u32 length of all after it; u16 kind 1; u16 field count 0..64"
 abbrev pub headerBytes : ℕ → ℕ → List ℕ
-headerBytes size count = leBytes 4 (4 + size) ++ (leBytes 2 1 ++ leBytes 2 count)
+headerBytes size count = wordBytes 4 (4 + size) ++ (wordBytes 2 1 ++ wordBytes 2 count)
 
 -- "u32 length of all after it; u16 kind 1; u16 field count 0..64; fields"
 abbrev pub render : List Field → List ℕ

@@ -16,8 +16,8 @@ use Rattle.notice.specs.Read.{readNumber, blank, readField}
 use Rattle.notice.specs.Write.{field, insertField, writtenOf, writtenBytes, Writes}
 
 -- A slice is a well-formed notice exactly if it is the bytes of some list of at most 64 right fields with rising names, at most 16,384 bytes in all.
-abbrev pub WellFormed : Type 0
-WellFormed = (s : List ℕ) → Bytes s → (checkOf s ≡ Layout.WellFormed) ↔ ((fs : List Field) × NoticeFields fs × (s ≡ render fs))
+abbrev pub WellFormedExactly : Type 0
+WellFormedExactly = (s : List ℕ) → Bytes s → (checkOf s ≡ Layout.WellFormed) ↔ ((fs : List Field) × NoticeFields fs × (s ≡ render fs))
 
 -- the last of some names, the first of which comes before the fields
 abbrev pub lastName : List ℕ → List Field → List ℕ
@@ -40,6 +40,10 @@ OneList = (fs gs : List Field) → NoticeFields fs → NoticeFields gs → rende
 abbrev pub FieldsRead : Type 0
 FieldsRead = (fs : List Field) → NoticeFields fs → fieldsOf (render fs) ≡ fs
 
+-- "u16 field count": the header's count is the number of fields.
+abbrev pub CountFields : Type 0
+CountFields = (s : List ℕ) → Bytes s → checkOf s ≡ Layout.WellFormed → countOf s ≡ length (fieldsOf s)
+
 -- Reading gives each of these fields and is not refused.
 abbrev pub ReadEach : Type 0
 ReadEach =
@@ -61,7 +65,7 @@ NoneNamed = (name : List ℕ) (fs : List Field) → (fieldNamed name fs ≡ none
 abbrev pub EachFound : Type 0
 EachFound = (fs : List Field) (f : Field) → rising fs ≡ true → List·Memᴰ f fs → fieldNamed (f .name) fs ≡ some f
 
--- "A notice that is written reads back as the same fields": what a write that is not refused leaves is a notice. It has all the old fields and the new one, as it was given, at its name's place, and no other.
+-- What a write that is not refused leaves is a notice. It has all the old fields and the new one, as it was given, at its name's place, and no other.
 abbrev pub WriteAdds : Type 0
 WriteAdds =
     (buffer : List ℕ) (len : ℕ) (f : Field) → Bytes buffer → writtenOf buffer len f .number ≡ 0 →
@@ -72,7 +76,7 @@ WriteAdds =
 abbrev pub InsertAdds : Type 0
 InsertAdds = (f : Field) (fs : List Field) → (pre post : List Field) × (fs ≡ pre ++ post) × (insertField f fs ≡ pre ++ (f ∷ post))
 
--- "one that is read and written again has the same bytes": all fields of a notice, written in any order from the empty notice in any buffer that has room, are not refused, leave the notice's own bytes, and the bytes after them stay.
+-- All fields of a notice, written in any order from the empty notice in any buffer that has room, are not refused, leave the notice's own bytes, and the bytes after them stay.
 abbrev pub WrittenAgain : Type 0
 WrittenAgain =
     (s : List ℕ) → Bytes s → checkOf s ≡ Layout.WellFormed → (fs : List Field) → List·Permᴰ fs (fieldsOf s) →

@@ -85,6 +85,10 @@ writtenOf buffer len f = record {
 abbrev pub writtenBytes : List ℕ → ℕ → Field → List ℕ
 writtenBytes buffer len f = pick (eqb (refusalOf buffer len f) 0) (λ _. insertedBytes buffer len f) (λ _. buffer)
 
+-- what writing a field answers, and the bytes of the buffer with it
+abbrev pub WriteIs : List ℕ → ℕ → Field → Written → List ℕ → Type 0
+WriteIs buffer len f answer after = (answer ≡ writtenOf buffer len f) × (after ≡ writtenBytes buffer len f)
+
 -- fields written one after the other, none refused, from a buffer and a length to a buffer and a length
 unfoldable pub Writes : List Field → List ℕ → ℕ → List ℕ → ℕ → Type 0
 Writes [] buffer len after after-len = (buffer ≡ after) × (len ≡ after-len)

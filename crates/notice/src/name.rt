@@ -2,13 +2,13 @@
 ghost use mathlib.Core.Path.{_≡_};
 ghost use Prim.Native.Nat.{_≤_};
 ghost use lib.ListN.{length};
-ghost use Rattle.word.specs.Word.{leBytes};
+ghost use Rattle.word.specs.Word.{wordBytes};
 ghost use Rattle.notice.specs.Field.{printable, nameRight};
 
 // Whether each byte of a word is 32..126. If none has its high bit, the sum and the difference carry nothing from byte to byte:
 // they have a high bit where a byte is 127, and where it is below 32.
 fn word_right(x: u32) -> bool
-    ensures { λ r. ⌜ r ≡ printable (leBytes 4 x) ⌝ }
+    ensures { λ r. ⌜ r ≡ printable (wordBytes 4 x) ⌝ }
 {
     if x & 0x8080_8080 != 0 {
         return false;

@@ -30,7 +30,7 @@ fn lacking(n: usize) -> usize
 }
 
 // The key of the name of n bytes at `at`. A short one is read with bytes before it, which the shift drops.
-pub fn key_of(notice: &[u8], at: usize, n: usize) -> u64
+pub(crate) fn key_of(notice: &[u8], at: usize, n: usize) -> u64
     requires { ⌜ (8 ≤ at) × (1 ≤ n) × (at + n ≤ length (now notice)) ⌝ }
     ensures { λ r. ⌜ r ≡ keyOf (take n (drop at (now (notice .entry)))) ⌝ }
 {
@@ -39,7 +39,7 @@ pub fn key_of(notice: &[u8], at: usize, n: usize) -> u64
 }
 
 // Whether the name of the last field is before that of the field at `at`, by their keys where these differ.
-pub fn rises(notice: &[u8], last: usize, last_key: u64, at: usize, key: u64) -> bool
+pub(crate) fn rises(notice: &[u8], last: usize, last_key: u64, at: usize, key: u64) -> bool
     requires { ⌜ Last (now notice) last «last_key» × (rightAt (now notice) at ≡ true) × (key ≡ keyOf (nameAt (now notice) at)) ⌝ }
     ensures { λ r. ⌜ r ≡ beforeOf (lastNameAt (now (notice .entry)) last) (nameAt (now (notice .entry)) at) ⌝ }
 {

@@ -4,7 +4,7 @@ ghost use Prim.Native.Nat.{_+_, _-_, _≤_};
 ghost use lib.ListN.{length, take, drop};
 ghost use lib.Seq.{sets};
 ghost use Rattle.notice.specs.Render.{fieldBytes};
-ghost use Rattle.notice.specs.Write.{field, placeFor, hasRoom, refusalIn, Insertable, insertedBytes, writtenOf, writtenBytes};
+ghost use Rattle.notice.specs.Write.{field, placeFor, hasRoom, refusalIn, Insertable, insertedBytes, WriteIs};
 use crate::Found;
 use crate::Layout;
 use crate::Written;
@@ -86,8 +86,10 @@ fn refusal(notice: &[u8], room: usize, name: &[u8], kind: u16, value: &[u8]) -> 
     requires { ⌜ 8 ≤ length (now notice) ⌝ }
     ensures { λ r. ⌜ r ≡ refusalIn (now (notice .entry)) room (field kind (now (name .entry)) (now (value .entry))) ⌝ }
 {
-    if name_right(name) {
-        if size_right(kind, value.len()) {
+    let named = name_right(name);
+    let sized = size_right(kind, value.len());
+    if named {
+        if sized {
             let found = lookup(notice, name);
             match found {
                 Found::At {
@@ -128,7 +130,7 @@ fn insert(buffer: &mut [u8], len: usize, name: &[u8], kind: u16, value: &[u8])
 
 // Adds one field, at its name's place, to the notice of the first `len` bytes. A refusal changes no byte.
 pub fn write(buffer: &mut [u8], len: usize, name: &[u8], kind: u16, value: &[u8]) -> Written
-    ensures { λ r. ⌜ (r ≡ writtenOf (now (buffer .entry)) len (field kind (now (name .entry)) (now (value .entry)))) × (now (buffer .exit) ≡ writtenBytes (now (buffer .entry)) len (field kind (now (name .entry)) (now (value .entry)))) ⌝ }
+    ensures { λ r. ⌜ WriteIs (now (buffer .entry)) len (field kind (now (name .entry)) (now (value .entry))) r (now (buffer .exit)) ⌝ }
 {
     if buffer.len() < len {
         return Written {

@@ -47,13 +47,13 @@ fn difference_i64(a: i64, b: i64) -> Number
     Number::Int64(a - b)
 }
 
-pub fn absolute(a: i64) -> u64
+pub(crate) fn absolute(a: i64) -> u64
     ensures { λ r. ⌜ r ≡ natAbs a ⌝ }
 {
     if a < 0 { (!a) as u64 + 1 } else { a as u64 }
 }
 
-pub fn is_negative(a: i64) -> bool
+pub(crate) fn is_negative(a: i64) -> bool
     ensures { λ r. ⌜ r ≡ isNegative a ⌝ }
 {
     a < 0
@@ -162,7 +162,7 @@ fn remainder_i64(a: i64, b: i64) -> i64
 }
 
 // An operator on two int32. 64 bits hold every result. A divisor of 0 has been turned away, as below.
-pub fn arithmetic_i32(op: Arithmetic, a: i32, b: i32) -> i64
+pub(crate) fn arithmetic_i32(op: Arithmetic, a: i32, b: i32) -> i64
     requires { ⌜ (divides op ≡ true → 0 < natAbs b) ⌝ }
     ensures { λ r. ⌜ r ≡ exactOf op a b ⌝ }
 {
@@ -178,7 +178,7 @@ pub fn arithmetic_i32(op: Arithmetic, a: i32, b: i32) -> i64
 }
 
 // An operator on two int64.
-pub fn arithmetic_i64(op: Arithmetic, a: i64, b: i64) -> Number
+pub(crate) fn arithmetic_i64(op: Arithmetic, a: i64, b: i64) -> Number
     requires { ⌜ (divides op ≡ true → 0 < natAbs b) ⌝ }
     ensures { λ r. ⌜ r ≡ typed false (exactOf op a b) ⌝ }
 {
@@ -192,7 +192,7 @@ pub fn arithmetic_i64(op: Arithmetic, a: i64, b: i64) -> Number
 }
 
 // The result of two int32 as an int32 where it fits.
-pub fn narrow(z: i64) -> Number
+pub(crate) fn narrow(z: i64) -> Number
     ensures { λ r. ⌜ r ≡ typed true z ⌝ }
 {
     if z < -2147483648 {
@@ -204,13 +204,13 @@ pub fn narrow(z: i64) -> Number
     Number::Int64(z)
 }
 
-pub fn equal_i64(a: i64, b: i64) -> bool
+pub(crate) fn equal_i64(a: i64, b: i64) -> bool
     ensures { λ r. ⌜ r ≡ equalZ a b ⌝ }
 {
     a == b
 }
 
-pub fn order_i64(op: Order, a: i64, b: i64) -> bool
+pub(crate) fn order_i64(op: Order, a: i64, b: i64) -> bool
     ensures { λ r. ⌜ r ≡ orderZ op a b ⌝ }
 {
     match op {

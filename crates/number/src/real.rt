@@ -104,7 +104,7 @@ pub fn bits_of_real(x: f64) -> u64
 }
 
 // An integer as a real: "if its size is at most 2^53, else bottom".
-pub fn exact_real(z: i64) -> Number
+pub(crate) fn exact_real(z: i64) -> Number
     ensures { λ r. ⌜ r ≡ exactReal z ⌝ }
 {
     if z < -9007199254740992 {
@@ -117,7 +117,7 @@ pub fn exact_real(z: i64) -> Number
 }
 
 // "Real with real is f64's own `+ - * /`"; "`%` with a real" is bottom.
-pub fn real_arithmetic(op: Arithmetic, x: f64, y: f64) -> Number
+pub(crate) fn real_arithmetic(op: Arithmetic, x: f64, y: f64) -> Number
     ensures { λ r. ⌜ r ≡ realArithmetic op x y ⌝ }
 {
     match op {
@@ -129,7 +129,7 @@ pub fn real_arithmetic(op: Arithmetic, x: f64, y: f64) -> Number
     }
 }
 
-pub fn order_real(op: Order, x: f64, y: f64) -> bool
+pub(crate) fn order_real(op: Order, x: f64, y: f64) -> bool
     ensures { λ r. ⌜ r ≡ orderReal op x y ⌝ }
 {
     match op {

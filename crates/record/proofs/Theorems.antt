@@ -7,21 +7,21 @@ use Prim.Native.Nat.{ℕ, zero, suc, _+_, _≤_, _<_}
 use native.Mathlib.Omega.{arith}
 use lib.Dec.{ltb, leb, eqb}
 use lib.ListN.{length, getD, length-append, List·getD-append}
-use Rattle.word.specs.Word.{le}
-use borrow.Author.Tests.{ltb-true, ltb-false, leb-true, leb-false, le-ltb, ne-eqb}
+use Rattle.word.specs.Word.{wordAt}
+use borrow.Author.Tests.{ltb-true, ltb-false, leb-true, leb-false, eqb-true, le-ltb, ne-eqb}
 use Rattle.record.specs.declared.Record.{Record}
 use Rattle.record.specs.declared.Record.the-variants.{End, Whole, Cut, Wrong}
 use Rattle.record.specs.Record.{lengthOf, kindOf, lengthRight, recordOf}
-use Rattle.record.specs.Theorems.{WholeLies, CutShort, WholeGrows, WrongGrows}
+use Rattle.record.specs.Theorems.{WholeLies, CutShort, EndEmpty, WholeGrows, WrongGrows}
 use Rattle.record.proofs.Laws.{found-whole}
 
 -- a word that lies in s stays where more comes after it
-le-grows : (k at : ℕ) (s t : List ℕ) → at + k ≤ length s → le k (s ++ t) at ≡ le k s at
-unfolding le
-le-grows zero at s t h = refl
-le-grows (suc k) at s t h =
+word-grows : (k at : ℕ) (s t : List ℕ) → at + k ≤ length s → wordAt k (s ++ t) at ≡ wordAt k s at
+unfolding wordAt
+word-grows zero at s t h = refl
+word-grows (suc k) at s t h =
     let g : getD (s ++ t) at 0 ≡ getD s at 0 = List·getD-append s t 0 at (omega arith) in
-    let ih = le-grows k (suc at) s t (omega arith) in
+    let ih = word-grows k (suc at) s t (omega arith) in
     rw (g, ih)
 
 -- the reader's four tests
@@ -68,6 +68,18 @@ cut-short s e =
     (λ p. let r = length-right n (p .0) in let h = leb-false (4 + n) (length s) (p .1) in omega arith)
     (cut-tests (eqb (length s) 0) (ltb (length s) 4) (lengthRight n) (leb (4 + n) (length s)) (kindOf s) (4 + n) e)
 
+end-tests : (a b c d : Bool) (k n : ℕ) → by-tests a b c d (Whole k n) ≡ End → a ≡ true
+end-tests true b c d k n e = refl
+end-tests false true c d k n e = differ (cc)
+end-tests false false false d k n e = differ (cc)
+end-tests false false true true k n e = differ (cc)
+end-tests false false true false k n e = differ (cc)
+
+pub end-empty : EndEmpty
+end-empty s e =
+    let n = lengthOf s in
+    eqb-true (length s) 0 (end-tests (eqb (length s) 0) (ltb (length s) 4) (lengthRight n) (leb (4 + n) (length s)) (kindOf s) (4 + n) e)
+
 wrong-tests : (a b c d : Bool) (k n : ℕ) → by-tests a b c d (Whole k n) ≡ Wrong → (a ≡ false) × (b ≡ false) × (c ≡ false)
 wrong-tests true b c d k n e = differ (cc)
 wrong-tests false true c d k n e = differ (cc)
@@ -82,8 +94,8 @@ whole-grows s t kind size e =
     let r = length-right n (w .0) in
     let h = leb-true (4 + n) (length s) (w .1) in
     let l = length-append s t in
-    let el : lengthOf (s ++ t) ≡ n = le-grows 4 0 s t (omega arith) in
-    let ek : kindOf (s ++ t) ≡ kindOf s = le-grows 2 4 s t (omega arith) in
+    let el : lengthOf (s ++ t) ≡ n = word-grows 4 0 s t (omega arith) in
+    let ek : kindOf (s ++ t) ≡ kindOf s = word-grows 2 4 s t (omega arith) in
     let h4 : 4 ≤ length (s ++ t) = omega arith in
     let hw : 4 + lengthOf (s ++ t) ≤ length (s ++ t) = omega arith in
     sym (found-whole (s ++ t) h4 (lengthOf (s ++ t)) refl (kindOf (s ++ t)) refl (omega (arith, r .0)) (omega (arith, r .1)) hw)
@@ -98,6 +110,6 @@ wrong-grows s t e =
     let h : 4 ≤ length s = ltb-false (length s) 4 (w .1) in
     let l = length-append s t in
     let g : 4 ≤ length (s ++ t) = omega arith in
-    let el : lengthOf (s ++ t) ≡ n = le-grows 4 0 s t (omega arith) in
+    let el : lengthOf (s ++ t) ≡ n = word-grows 4 0 s t (omega arith) in
     let f : lengthRight (lengthOf (s ++ t)) ≡ false = ap lengthRight el ∙ w .2 in
     rw (ne-eqb (length (s ++ t)) 0 (λ z. omega arith), le-ltb (length (s ++ t)) 4 g, f)

@@ -4,16 +4,16 @@ use mathlib.Core.Bool.{Bool, true, false, cond, not, _&&_}
 use mathlib.Core.List.{List}
 use lib.Dec.{ltb, leb, eqb}
 use lib.ListN.{length}
-use Rattle.word.specs.Word.{le}
+use Rattle.word.specs.Word.{wordAt}
 use Rattle.record.specs.declared.Record.{Record}
 use Rattle.record.specs.declared.Record.the-variants.{End, Whole, Cut, Wrong}
 
 -- the length of all after the length word, as in a notice
 abbrev pub lengthOf : List ℕ → ℕ
-lengthOf s = le 4 s 0
+lengthOf s = wordAt 4 s 0
 
 abbrev pub kindOf : List ℕ → ℕ
-kindOf s = le 2 s 4
+kindOf s = wordAt 2 s 4
 
 -- ".. or its length is under 2 or over 16,380"
 abbrev pub lengthRight : ℕ → Bool

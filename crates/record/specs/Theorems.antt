@@ -3,7 +3,7 @@ use mathlib.Core.Path.{_≡_}
 use mathlib.Core.List.{List, _++_}
 use Prim.Native.Nat.{ℕ, _≤_, _<_}
 use lib.ListN.{length}
-use Rattle.record.specs.declared.Record.the-variants.{Whole, Cut, Wrong}
+use Rattle.record.specs.declared.Record.the-variants.{End, Whole, Cut, Wrong}
 use Rattle.record.specs.Record.{recordOf}
 
 -- A whole record has a kind and at most 16,384 bytes, and lies in the bytes that it was found in.
@@ -13,6 +13,10 @@ WholeLies = (s : List ℕ) (kind size : ℕ) → recordOf s ≡ Whole kind size 
 -- A record that is cut has fewer than 16,384 bytes there.
 abbrev pub CutShort : Type 0
 CutShort = (s : List ℕ) → recordOf s ≡ Cut → length s < 16384
+
+-- Nothing is left only where there is no byte.
+abbrev pub EndEmpty : Type 0
+EndEmpty = (s : List ℕ) → recordOf s ≡ End → length s ≡ 0
 
 -- More input after it changes neither a whole record nor a wrong length.
 abbrev pub WholeGrows : Type 0

@@ -14,7 +14,7 @@ use lib.IntN.{ℤ, pos, negsuc}
 use mir.Syntax.{w32, w64}
 use mir.Val.{SFits, toZ, ofZ}
 use mir.ValLaws.{toZ-ofZ}
-use borrow.Author.Tests.{eq-eqb, ne-eqb, lt-ltb, le-ltb, le-leb, lt-leb}
+use borrow.Author.Tests.{eq-eqb, ne-eqb, lt-ltb, le-leb, lt-leb}
 use Rattle.truth.specs.declared.Truth.{Truth}
 use Rattle.truth.specs.declared.Truth.the-variants.{False, Bottom, True}
 use Rattle.truth.specs.Truth.{isTrue, isFalse, andOf, orOf}
@@ -33,7 +33,8 @@ use Rattle.grammar.specs.Size.{countOf, skips, entriesOf, entriesIn, poolBytes,
 use Rattle.table.specs.Table.{blank, Program}
 use Rattle.table.specs.declared.Entry.{Entry}
 use Rattle.value.specs.Value as value
-use Rattle.interpreter.specs.Run.{State, start, slotAt, stackBy, strideBy, visit, rule, afterFrom, after, runOf, verdictOf}
+use Rattle.interpreter.specs.Run.{State, start, slotAt, stackBy, strideBy, visit, afterFrom, after, runOf, verdictOf}
+use Rattle.interpreter.proofs.Safe.{more-visits, stays}
 use Rattle.meaning.specs.Meaning.{leafItem, byUnary, byBinary, byCall, itemOf, itemsOf, meaning}
 use Rattle.translator.proofs.Sound.{size, size-in, pool-size, pool-in}
 use Rattle.translator.specs.Compile.{entry, leafEntry, skipEntries, callEntry, codeOf, codeIn, leafBytes, bytesOf, bytesIn, compile}
@@ -132,11 +133,6 @@ module _ (p : Program) (notice : List ℕ) where
   abbrev state : ℕ → List value.Item → ℕ → State
   state i st k = record { next = i; stack = st; steps = k }
 
-  more-visits : (m n : ℕ) (s : State) → afterFrom p notice (m + n) s ≡ afterFrom p notice n (afterFrom p notice m s)
-  unfolding afterFrom
-  more-visits zero n s = let e : 0 + n ≡ n = omega arith in rw e
-  more-visits (suc m) n s = let e : suc m + n ≡ suc (m + n) = omega arith in rw e (more-visits m n (rule p notice s))
-
   -- From the entry i and the stack st, in at most n visits, to the entry j and the stack st′. The count of visits k goes on.
   pub record Ran (i : ℕ) (st : List value.Item) (k n j : ℕ) (st′ : List value.Item) : Type 0 where
     pub visited : ℕ
@@ -154,7 +150,7 @@ module _ (p : Program) (notice : List ℕ) where
       record {
         visited = r .visited + q .visited;
         few = omega (arith, r .few, q .few);
-        goes = more-visits (r .visited) (q .visited) (state i st k) ∙ ap (afterFrom p notice (q .visited)) (r .goes) ∙ q .goes ∙ ap (state l st″) sum;
+        goes = more-visits p notice (r .visited) (q .visited) (state i st k) ∙ ap (afterFrom p notice (q .visited)) (r .goes) ∙ q .goes ∙ ap (state l st″) sum;
       }
 
   lax : {i k n n′ j j′ : ℕ} {st st′ : List value.Item} → n ≤ n′ → j ≡ j′ → Ran i st k n j st′ → Ran i st k n′ j′ st′
@@ -315,12 +311,6 @@ stands-from p notice pre (x ∷ xs) e =
     let rest = stands-from p notice (pre ++ (x ∷ [])) xs (e ∙ sym (append-assoc pre (x ∷ []) xs)) in
     ((omega arith, here), rw next at rest)
 
--- at the end nothing changes
-ended : (p : Program) (notice : List ℕ) (r : ℕ) (s : State) → length (p .entries) ≤ s .next → afterFrom p notice r s ≡ s
-unfolding afterFrom
-ended p notice zero s h = refl
-ended p notice (suc r) s h = rw (le-ltb (s .next) (length (p .entries)) h) (ended p notice r s h)
-
 -- The run of a tree's table: it ends at N with the one slot that the tree is.
 pub record Whole (t : Tree) (notice : List ℕ) : Type 0 where
   pub visited : ℕ
@@ -342,6 +332,6 @@ runs-whole t notice small made =
       few = r .few;
       ends =
           ap (λ (k : ℕ). afterFrom p notice k start) (n ∙ sym split) ∙ more-visits p notice (r .visited) (entriesOf t - r .visited) start
-          ∙ ap (afterFrom p notice (entriesOf t - r .visited)) g ∙ ended p notice (entriesOf t - r .visited) _ (omega (arith, n))
+          ∙ ap (afterFrom p notice (entriesOf t - r .visited)) g ∙ stays p notice (entriesOf t - r .visited) _ (omega (arith, n))
           ∙ ap (λ (k : ℕ). record { next = entriesOf t; stack = itemOf (value.valueNamed notice) t ∷ []; steps = k }) none;
     }

@@ -1,38 +1,37 @@
 -- Demand 3, as specs/Demand.antt states it. Assumes nothing.
-use Prim.Native.Nat.{ℕ, zero, suc, _+_, _^_, _≤_, _<_}
+use Prim.Native.Nat.{ℕ, _≤_}
 use native.Mathlib.Omega.{arith}
 use mathlib.Core.Path.{_≡_, refl, sym, ap, _∙_, subst}
 use mathlib.Core.Bool.{Bool, true, false}
 use mathlib.Core.Logic.{_⊎_, inl, inr}
-use mathlib.Core.List.{List, [], _∷_, map}
+use mathlib.Core.List.{List, [], map}
 use mathlib.Core.Option.{some}
 use lib.Dec.{eqb}
 use lib.ListN.{length, take}
-use lib.Seq.{sets, length-sets}
+use lib.Seq.{length-sets}
 use borrow.Author.Tests.{ne-eqb}
 use Rattle.word.specs.Word.{Bytes}
-use Rattle.notice.specs.Layout.{checkOf as noticeCheck}
+use Rattle.notice.specs.Layout.{checkOf as noticeCheck, numberOf}
 use Rattle.notice.specs.declared.Layout.the-variants.{WellFormed, Fault}
 use Rattle.notice.specs.declared.Layout.{Layout}
 use Rattle.notice.specs.Field.{Field}
 use Rattle.notice.specs.Write.{writtenOf, writtenBytes, refusalOf as refusalIn}
+use Rattle.lexer.specs.Token.{pick}
 use Rattle.lexer.proofs.Theorems.{stored}
 use Rattle.grammar.specs.Tree.{Tree}
-use Rattle.grammar.specs.Parse.{ok, parseAll}
-use Rattle.grammar.specs.Size.{entriesOf, poolOf as poolSize}
 use Rattle.grammar.proofs.Theorems.{parses}
-use Rattle.table.specs.Table.{Program, encode, decode, poolOf}
-use Rattle.table.specs.Check.{checkOf as tableCheck}
-use Rattle.value.specs.Held.{itemOf}
-use Rattle.interpreter.specs.Run.{State, after, runOf, verdictOf}
-use Rattle.interpreter.specs.Machine.{stateOf}
+use Rattle.table.specs.Table.{Program, encode, decode}
+use Rattle.table.specs.Check.{checkOf as tableCheck, refusalOf}
+use Rattle.interpreter.specs.Run.{State, runOf, verdictOf}
+use Rattle.interpreter.specs.Machine.{Visited}
 use Rattle.interpreter.specs.Running.{answerOf, runningOf}
 use Rattle.interpreter.specs.declared.Machine.{Machine}
 use Rattle.interpreter.specs.declared.Ran.{Ran}
-use Rattle.interpreter.proofs.Stack.{stack-length}
+use Rattle.interpreter.proofs.Visits.{as-many}
+use Rattle.interpreter.proofs.Answers.{neither-refused}
 use Rattle.interpreter.proofs.Theorems.{stack-small}
 use Rattle.meaning.specs.Meaning.{meaning, textMeaning}
-use Rattle.translator.specs.Compile.{codeOf, compile}
+use Rattle.translator.specs.Compile.{compile}
 use Rattle.translator.specs.Translation.{Outcome, translationOf, Answers}
 use Rattle.translator.specs.Theorems.{Accepted}
 use Rattle.translator.specs.declared.Translated.{Translated}
@@ -42,7 +41,7 @@ use Rattle.translator.proofs.Lexed.{lexed-text}
 use Rattle.translator.proofs.Fits.{fits-room, refused-empty}
 use Rattle.translator.proofs.Theorems.{writes-table, accepts-exactly, decodes, passes-check, pool-small}
 use Rattle.router.specs.Agree.{Made}
-use Rattle.router.specs.Demand.{Met, Calls, DemandThree, AcceptedText, RefusalKeeps, refused as refusedWith, ranOf, RunsTable, Matches}
+use Rattle.router.specs.Demand.{Met, DemandThree, AcceptedText, RefusalKeeps, outcomeOf, refused as refusedWith, ranOf, checkedOf, RunsChecked, RunsTable, Matches}
 use Rattle.router.specs.declared.matching.Matched.{Matched}
 use Rattle.router.proofs.Agree.{Whole, runs-whole}
 use Rattle.router.proofs.Made.{accepted-made}
@@ -51,28 +50,25 @@ use Rattle.router.proofs.Made.{accepted-made}
 written-table : (o : Outcome) (buffer written : List ℕ) (r : Translated) → length (o .table) ≤ length buffer → Answers o buffer written r → take (r .length) written ≡ o .table
 written-table o buffer written r h a = rw (a .answer, a .bytes) (stored buffer (o .table) h)
 
--- where both checks pass, the guarded run answers the whole run
-pub runs-checked : (table notice : List ℕ) → tableCheck table ≡ true → noticeCheck notice ≡ WellFormed → answerOf (runOf (decode table) notice) ≡ runningOf table notice
-runs-checked table notice p w = rw (p, w)
-
 module _ (text notice : List ℕ) (tree : Tree) (b : Bytes text) (a : Accepted text tree) where
   made : Made tree
-  made = accepted-made (map (λ p. p .token) (a .placed)) tree (a .derived) (lexed-text text (a .placed) b (a .lexed) .right) (a .forms)
+  made = let x = a .expression in accepted-made (map (λ p. p .token) (x .placed)) tree (x .derived) (lexed-text text (x .placed) b (x .lexed) .right) (a .right .forms)
 
   whole : Whole tree notice
   whole = let h = pool-small text tree b a in runs-whole tree notice (omega arith) made
 
   -- the text's meaning is the tree's
   text-means : textMeaning text notice ≡ some (meaning tree notice)
-  text-means = rw (a .lexed, parses (map (λ p. p .token) (a .placed)) tree .1 (a .derived))
+  text-means = let x = a .expression in rw (x .lexed, parses (map (λ p. p .token) (x .placed)) tree .1 (x .derived))
 
-  -- the accepted text's own table, by the definitions
-  met : noticeCheck notice ≡ WellFormed → Met text notice (encode (compile tree)) (runningOf (encode (compile tree)) notice .number) (runningOf (encode (compile tree)) notice .verdict) (runningOf (encode (compile tree)) notice .steps)
-  met w =
+  -- the accepted text's own table, by the definitions, and a machine of the runner on it
+  met : noticeCheck notice ≡ WellFormed → {visits : ℕ} {m : Machine} → Visited (encode (compile tree)) notice visits m
+      → Met text notice (encode (compile tree)) (runningOf (encode (compile tree)) notice .number) (runningOf (encode (compile tree)) notice .verdict) (runningOf (encode (compile tree)) notice .steps) visits m
+  met w {visits} {m} v =
       let table = encode (compile tree) in
       let p = passes-check text tree b a in
       let d = decodes text tree b a in
-      let r : runningOf table notice ≡ answerOf (runOf (decode table) notice) = sym (runs-checked table notice p w) in
+      let r : runningOf table notice ≡ answerOf (runOf (decode table) notice) = sym (neither-refused table notice p w) in
       let e = whole .ends in
       record {
         passes = p;
@@ -82,17 +78,16 @@ module _ (text notice : List ℕ) (tree : Tree) (b : Bytes text) (a : Accepted t
         steps-run = ap (λ (x : Ran). x .steps) r;
         ends = ap (λ (x : Program). runOf x notice .next) d ∙ ap (λ (s : State). s .next) e ∙ sym (size tree 0) ∙ sym (ap (λ (x : Program). length (x .entries)) d);
         run-small = stack-small table notice p;
-        runner-small = λ k m q.
-            let n : m .depth ≡ length (after (decode table) notice k .stack) =
-            sym (stack-length (itemOf (poolOf table) notice) (m .stack) (m .depth)) ∙ ap (λ (s : State). length (s .stack)) q in
-            (n, subst (λ (d : ℕ). d ≤ 32) (sym n) (stack-small table notice p k));
+        runner-holds = as-many table notice visits m (v .state);
+        runner-small = v .inside;
       }
 
 pub demand-three : DemandThree
-demand-three text buffer notice tree c b a room w =
+demand-three text buffer notice visits tree c b a room w =
     let e = writes-table text tree (length buffer) a room in
     let t : take (c .translated .length) (c .written) ≡ encode (compile tree) = written-table _ buffer (c .written) (c .translated) room (rw e at (c .translates)) in
-    let m = met text notice tree b a w in
+    let v : Visited (encode (compile tree)) notice visits (c .machine) = subst (λ (x : List ℕ). Visited x notice visits (c .machine)) t (c .runner (rw t (passes-check text tree b a))) in
+    let m = met text notice tree b a w v in
     let n : c .translated .number ≡ 0 = rw (c .translates .answer, e) in
     (n, c .checks ∙ rw t (m .passes), rw (c .runs, t) m)
 
@@ -118,9 +113,27 @@ refusal-keeps = (
   unwritten,
 )
 
--- ---- one function that translates and runs
+-- ---- one function that translates, checks and runs
 
-module _ (text buffer notice written : List ℕ) (t : Translated) (a : Answers (translationOf text (length buffer)) buffer written t) where
+-- a table that fails the check, and one that passes it, with the answers of the run and of the runner
+pub check-refused : (table notice : List ℕ) (visits : ℕ) (r : Matched) → tableCheck table ≡ false → r ≡ refusedWith (refusalOf false) 0 → RunsChecked table notice visits r
+check-refused table notice visits r e q =
+    record {
+      answer = q ∙ sym (ap (λ (b : Bool). checkedOf b table notice (r .machine)) e);
+      runner = λ p. impossible (sym e ∙ p);
+    }
+
+pub check-passed : (table notice : List ℕ) (visits : ℕ) (a : Ran) (m : Machine) → tableCheck table ≡ true → a ≡ runningOf table notice → Visited table notice visits m
+    → RunsChecked table notice visits (record { number = a .number; place = a .place; length = length table; verdict = a .verdict; steps = a .steps; machine = m })
+check-passed table notice visits a m p q v =
+    record {
+      answer =
+          ap (λ (x : Ran). record { number = x .number; place = x .place; length = length table; verdict = x .verdict; steps = x .steps; machine = m }) q
+          ∙ sym (ap (λ (b : Bool). checkedOf b table notice m) p);
+      runner = λ _. v;
+    }
+
+module _ (text buffer notice written : List ℕ) (visits : ℕ) (t : Translated) (a : Answers (translationOf text (length buffer)) buffer written t) where
   pub fits : t .length ≤ length written
   fits =
       let n : t .length ≡ length (translationOf text (length buffer) .table) = ap (λ (x : Translated). x .length) (a .answer) in
@@ -135,31 +148,43 @@ module _ (text buffer notice written : List ℕ) (t : Translated) (a : Answers (
   number-is = ap (λ (x : Translated). x .number) (a .answer)
 
   -- a table that is written passes the check, by `PassesCheck`
-  pub passes : Bytes text → (long : ℕ) → long ≡ t .length → t .number ≡ 0 → tableCheck (take long written) ≡ true
-  passes b long l n =
-      let z : translationOf text (length buffer) .number ≡ 0 = sym number-is ∙ n in
+  passes : Bytes text → translationOf text (length buffer) .number ≡ 0 → tableCheck (translationOf text (length buffer) .table) ≡ true
+  passes b z =
       let k = accepts-exactly text (length buffer) .0 z in
-      rw (l, table-is, writes-table text (k .0) (length buffer) (k .1) (k .2)) (passes-check text (k .0) b (k .1))
+      rw (writes-table text (k .0) (length buffer) (k .1) (k .2)) (passes-check text (k .0) b (k .1))
 
-  pub refused-run : (r : Matched) → (t .number ≡ 0 → ⊥) → r ≡ refusedWith (t .number) (t .place) → RunsTable (translationOf text (length buffer)) buffer notice written r
+  pub refused-run : (r : Matched) → (t .number ≡ 0 → ⊥) → r ≡ refusedWith (t .number) (t .place) → RunsTable (translationOf text (length buffer)) buffer notice written visits r
   refused-run r n q =
       let m : translationOf text (length buffer) .number ≡ 0 → ⊥ = λ e. n (number-is ∙ e) in
-      record { answer = q ∙ rw (a .answer, ne-eqb _ 0 m); bytes = a .bytes }
+      record { answer = q ∙ rw (a .answer, ne-eqb _ 0 m); bytes = a .bytes; runner = λ z. absurd (m z) }
 
-  pub table-run : (r : Matched) (long : ℕ) → long ≡ t .length → t .number ≡ 0 → r ≡ ranOf (length (take long written)) (runningOf (take long written) notice)
-      → RunsTable (translationOf text (length buffer)) buffer notice written r
-  table-run r long l n q =
-      let z : translationOf text (length buffer) .number ≡ 0 = sym number-is ∙ n in
-      let p : r ≡ ranOf (length (translationOf text (length buffer) .table)) (runningOf (translationOf text (length buffer) .table) notice) = rw (l, table-is) at q in
-      record { answer = p ∙ rw z; bytes = a .bytes }
+  pub table-run : (r : Matched) (long : ℕ) → long ≡ t .length → t .number ≡ 0 → Bytes text → RunsChecked (take long written) notice visits r
+      → RunsTable (translationOf text (length buffer)) buffer notice written visits r
+  table-run r long l n b q =
+      let o = translationOf text (length buffer) in
+      let z : o .number ≡ 0 = sym number-is ∙ n in
+      let p = passes b z in
+      let k : RunsChecked (o .table) notice visits r = subst (λ (x : List ℕ). RunsChecked x notice visits r) (ap (λ (i : ℕ). take i written) l ∙ table-is) q in
+      record {
+        answer =
+            k .answer
+            ∙ ap (λ (c : Bool). checkedOf c (o .table) notice (r .machine)) p
+            ∙ sym (ap (λ (i : ℕ). pick (eqb i 0) (λ _. ranOf (o .table) notice (r .machine)) (λ _. refusedWith (o .number) (o .place))) z);
+        bytes = a .bytes;
+        runner = λ _. k .runner p;
+      }
 
-module _ (text buffer notice written : List ℕ) (r : Matched) where
+module _ (text buffer notice written : List ℕ) (visits : ℕ) (r : Matched) where
   -- a faulty notice: the buffer stays
-  pub fault-matches : (layout : Layout) (place : ℕ) → layout ≡ noticeCheck notice → layout ≡ Fault place → written ≡ buffer → r ≡ refusedWith 11 place → Matches text buffer notice written r
+  pub fault-matches : (layout : Layout) (place : ℕ) → layout ≡ noticeCheck notice → layout ≡ Fault place → written ≡ buffer → r ≡ refusedWith (numberOf (Fault place)) place → Matches text buffer notice written visits r
   fault-matches layout place e f b q =
       let g : noticeCheck notice ≡ Fault place = sym e ∙ f in
       record {
-        determined = record { answer = rw g q; bytes = rw g b };
+        determined = record {
+          answer = rw g q;
+          bytes = rw g b;
+          runner = λ z. let n : outcomeOf text (length buffer) notice .number ≡ numberOf (Fault place) = rw g in let q : ⊥ = omega (arith, sym n ∙ z) in absurd q;
+        };
         demand = λ tree acc room w. no-way (sym w ∙ g);
       }
     where
@@ -170,14 +195,18 @@ module _ (text buffer notice written : List ℕ) (r : Matched) where
       no-way : {A : Type 0} → WellFormed ≡ Fault place → A
       no-way h = let z : _≡_ {A = Bool} false true = ap isFault h in impossible z
 
-  pub run-matches : (layout : Layout) → layout ≡ noticeCheck notice → layout ≡ WellFormed → Bytes text → RunsTable (translationOf text (length buffer)) buffer notice written r → Matches text buffer notice written r
+  pub run-matches : (layout : Layout) → layout ≡ noticeCheck notice → layout ≡ WellFormed → Bytes text → RunsTable (translationOf text (length buffer)) buffer notice written visits r → Matches text buffer notice written visits r
   run-matches layout e f b a =
       let g : noticeCheck notice ≡ WellFormed = sym e ∙ f in
       record {
         determined = rw g a;
         demand = λ tree acc room w.
             let e = writes-table text tree (length buffer) acc room in
-            let s : r ≡ ranOf (length (encode (compile tree))) (runningOf (encode (compile tree)) notice) = rw e at (a .answer) in
-            let k : take (length (encode (compile tree))) written ≡ encode (compile tree) = rw (a .bytes, e) (stored buffer (encode (compile tree)) room) in
-            rw (s, k) (met text notice tree b acc w);
+            let table = encode (compile tree) in
+            let s : r ≡ ranOf table notice (r .machine) = rw e at (a .answer) in
+            let k : take (length table) written ≡ table = rw (a .bytes, e) (stored buffer table room) in
+            let v : Visited table notice visits (r .machine) = (rw e at (a .runner)) refl in
+            let n = runningOf table notice in
+            subst (λ (x : Matched). Met text notice (take (x .length) written) (x .number) (x .verdict) (x .steps) visits (x .machine)) (sym s)
+            (subst (λ (x : List ℕ). Met text notice x (n .number) (n .verdict) (n .steps) visits (r .machine)) (sym k) (met text notice tree b acc w v));
       }

@@ -3,12 +3,12 @@
 -- Take any accepted text, one to which no refusal of translation applies but perhaps that for a short buffer; any lent buffer with room for its table; and any well-formed notice. The table that
 -- translation writes, of the length that it answers, passes the table check. Running it on that notice is not refused. The verdict answered equals the meaning of the text on that notice when every
 -- part of the expression is worked out and nothing is skipped. The verdict and the steps answered are exactly those of document 01's run of that table on that notice. Neither that run nor the
--- interpreter ever holds more than 32 values on its stack.
+-- runner ever holds more than 32 values on its stack.
 --
--- `DemandThree` says it of the answers of `translate`, `check`, `run` and `run_checked`, by their promises; `Matches` is the promise of `match_text`, which carries it as well. The proofs are in proofs/Demand.antt.
+-- `DemandThree` says it of the answers of `translate`, `check`, `run` and `run_checked`, by their promises; `Matches` is the promise of `match_text`, which calls all four and carries it as well. The proofs are in proofs/Demand.antt.
 use Prim.Native.Nat.{ℕ, _≤_}
 use mathlib.Core.Path.{_≡_}
-use mathlib.Core.Bool.{Bool, true}
+use mathlib.Core.Bool.{Bool, true, false}
 use mathlib.Core.List.{List}
 use mathlib.Core.Logic.{_↔_}
 use mathlib.Core.Option.{some}
@@ -18,17 +18,17 @@ use lib.Seq.{sets}
 use Rattle.word.specs.Word.{Bytes}
 use Rattle.truth.specs.declared.Truth.{Truth}
 use Rattle.truth.specs.declared.Truth.the-variants.{Bottom}
-use Rattle.notice.specs.Layout.{checkOf as noticeCheck}
+use Rattle.notice.specs.Layout.{checkOf as noticeCheck, numberOf, placeOf}
 use Rattle.notice.specs.declared.Layout.the-variants.{WellFormed, Fault}
 use Rattle.notice.specs.declared.Layout.{Layout}
 use Rattle.notice.specs.Field.{Field}
 use Rattle.notice.specs.Write.{writtenOf, writtenBytes}
 use Rattle.grammar.specs.Tree.{Tree}
 use Rattle.lexer.specs.Token.{pick}
-use Rattle.table.specs.Table.{encode, decode, poolOf}
-use Rattle.table.specs.Check.{checkOf as tableCheck}
+use Rattle.table.specs.Table.{encode, decode}
+use Rattle.table.specs.Check.{checkOf as tableCheck, refusalOf}
 use Rattle.interpreter.specs.Run.{after, runOf, verdictOf}
-use Rattle.interpreter.specs.Machine.{stateOf}
+use Rattle.interpreter.specs.Machine.{fresh, Visited}
 use Rattle.interpreter.specs.Running.{runningOf}
 use Rattle.interpreter.specs.declared.Machine.{Machine}
 use Rattle.interpreter.specs.declared.Ran.{Ran}
@@ -39,8 +39,8 @@ use Rattle.translator.specs.Theorems.{Accepted}
 use Rattle.translator.specs.declared.Translated.{Translated}
 use Rattle.router.specs.declared.matching.Matched.{Matched}
 
--- What the demand asks of a table, and of the number, verdict and steps answered for it on a notice.
-pub record Met (text notice table : List ℕ) (number : ℕ) (verdict : Truth) (steps : ℕ) : Type 0 where
+-- What the demand asks of a table, of the number, verdict and steps answered for it on a notice, and of the runner's machine after so many visits.
+pub record Met (text notice table : List ℕ) (number : ℕ) (verdict : Truth) (steps visits : ℕ) (machine : Machine) : Type 0 where
   -- "The table .. passes the table check."
   pub passes : tableCheck table ≡ true
   -- "Running it on that notice is not refused."
@@ -54,10 +54,11 @@ pub record Met (text notice table : List ℕ) (number : ℕ) (verdict : Truth) (
   -- "Neither that run .. ever holds more than 32 values on its stack", after any number of visits ..
   pub run-small : (visits : ℕ) → length (after (decode table) notice visits .stack) ≤ 32
   -- .. "nor the runner", which holds just as many after as many visits
-  pub runner-small : (visits : ℕ) (m : Machine) → stateOf (poolOf table) notice m ≡ after (decode table) notice visits → (m .depth ≡ length (after (decode table) notice visits .stack)) × (m .depth ≤ 32)
+  pub runner-holds : machine .depth ≡ length (after (decode table) notice visits .stack)
+  pub runner-small : machine .depth ≤ 32
 
--- The calls of the code for a text, a buffer and a notice: what each answers, and its promise.
-pub record Calls (text buffer notice : List ℕ) : Type 0 where
+-- The calls of the code for a text, a buffer, a notice and a number of visits: what each answers, and its promise.
+pub record Calls (text buffer notice : List ℕ) (visits : ℕ) : Type 0 where
   -- `translate(text, buffer)`, and the buffer after it
   pub translated : Translated
   pub written : List ℕ
@@ -68,13 +69,17 @@ pub record Calls (text buffer notice : List ℕ) : Type 0 where
   -- `run(table, notice)`
   pub ran : Ran
   pub runs : ran ≡ runningOf (take (translated .length) written) notice
+  -- `run_checked(table, notice, visits)`, by which `run` makes its visits: the runner's machine after that many; it asks for a table that passes the check
+  pub machine : Machine
+  pub runner : tableCheck (take (translated .length) written) ≡ true → Visited (take (translated .length) written) notice visits machine
 
--- Demand 3.
+-- Demand 3, for every number of visits: a run has at most 512, and a larger number makes as many as there are, so that a `usize` names them all.
 abbrev pub DemandThree : Type 0
 DemandThree =
-    (text buffer notice : List ℕ) (tree : Tree) (c : Calls text buffer notice)
+    (text buffer notice : List ℕ) (visits : ℕ) (tree : Tree) (c : Calls text buffer notice visits)
     → Bytes text → Accepted text tree → length (encode (compile tree)) ≤ length buffer → noticeCheck notice ≡ WellFormed
-    → (c .translated .number ≡ 0) × (c .passed ≡ true) × Met text notice (take (c .translated .length) (c .written)) (c .ran .number) (c .ran .verdict) (c .ran .steps)
+    → (c .translated .number ≡ 0) × (c .passed ≡ true)
+    × Met text notice (take (c .translated .length) (c .written)) (c .ran .number) (c .ran .verdict) (c .ran .steps) visits (c .machine)
 
 -- "one to which no refusal of translation applies but perhaps that for a short buffer": those texts, and no others, to which with some buffer none applies
 abbrev pub AcceptedText : Type 0
@@ -86,33 +91,48 @@ RefusalKeeps =
     ((text buffer written : List ℕ) (r : Translated) → Answers (translationOf text (length buffer)) buffer written r → (r .number ≡ 0 → ⊥) → written ≡ buffer)
     × ((buffer : List ℕ) (len : ℕ) (f : Field) → (writtenOf buffer len f .number ≡ 0 → ⊥) → writtenBytes buffer len f ≡ buffer)
 
--- ---- one function that translates and runs
+-- ---- one function that translates, checks and runs
 
 -- the refusal of the notice, or translation's answer
 abbrev pub outcomeBy : Layout → Outcome → Outcome
 outcomeBy WellFormed o = o
-outcomeBy (Fault place) o = refusal 11 place
+outcomeBy (Fault place) o = refusal (numberOf (Fault place)) (placeOf (Fault place))
 
 abbrev pub outcomeOf : List ℕ → ℕ → List ℕ → Outcome
 outcomeOf text room notice = outcomeBy (noticeCheck notice) (translationOf text room)
 
--- a refusal: no table, bottom, no steps
+-- a refusal: no table, bottom, no steps, and a machine that has made no visit
 abbrev pub refused : ℕ → ℕ → Matched
-refused number place = record { number = number; place = place; length = 0; verdict = Bottom; steps = 0 }
+refused number place = record { number = number; place = place; length = 0; verdict = Bottom; steps = 0; machine = fresh }
 
--- the table's length with what its run answers
-abbrev pub ranOf : ℕ → Ran → Matched
-ranOf long r = record { number = r .number; place = r .place; length = long; verdict = r .verdict; steps = r .steps }
+-- the table's length with what its run answers, and the runner's machine
+abbrev pub ranOf : List ℕ → List ℕ → Machine → Matched
+ranOf table notice m =
+    let r = runningOf table notice in
+    record { number = r .number; place = r .place; length = length table; verdict = r .verdict; steps = r .steps; machine = m }
 
-abbrev pub matchBy : Outcome → List ℕ → Matched
-matchBy o notice = pick (eqb (o .number) 0) (λ _. ranOf (length (o .table)) (runningOf (o .table) notice)) (λ _. refused (o .number) (o .place))
+-- .. where the table passes the check, and the check's refusal where it does not
+abbrev pub checkedOf : Bool → List ℕ → List ℕ → Machine → Matched
+checkedOf true table notice m = ranOf table notice m
+checkedOf false table notice m = refused (refusalOf false) 0
 
--- What is answered and left in the buffer: the refusal and no byte changed, or the table and what its run on the notice answers.
-pub record RunsTable (o : Outcome) (buffer notice written : List ℕ) (r : Matched) : Type 0 where
-  pub answer : r ≡ matchBy o notice
+-- .. where translation answers a table, and translation's refusal where it does not
+abbrev pub matchBy : Outcome → List ℕ → Machine → Matched
+matchBy o notice m = pick (eqb (o .number) 0) (λ _. ranOf (o .table) notice m) (λ _. refused (o .number) (o .place))
+
+-- What is answered of any table: the check's refusal, or what the run on the notice answers, with the runner's machine after so many visits.
+pub record RunsChecked (table notice : List ℕ) (visits : ℕ) (r : Matched) : Type 0 where
+  pub answer : r ≡ checkedOf (tableCheck table) table notice (r .machine)
+  pub runner : tableCheck table ≡ true → Visited table notice visits (r .machine)
+
+-- What is answered and left in the buffer: the refusal and no byte changed, or the table and what its run on the notice answers, with the runner's machine after so many visits.
+pub record RunsTable (o : Outcome) (buffer notice written : List ℕ) (visits : ℕ) (r : Matched) : Type 0 where
+  pub answer : r ≡ matchBy o notice (r .machine)
   pub bytes : written ≡ sets buffer 0 (o .table)
+  pub runner : o .number ≡ 0 → Visited (o .table) notice visits (r .machine)
 
 -- The promise of `match_text`: its answer and every byte of the buffer for all inputs, and demand 3.
-pub record Matches (text buffer notice written : List ℕ) (r : Matched) : Type 0 where
-  pub determined : RunsTable (outcomeOf text (length buffer) notice) buffer notice written r
-  pub demand : (tree : Tree) → Accepted text tree → length (encode (compile tree)) ≤ length buffer → noticeCheck notice ≡ WellFormed → Met text notice (take (r .length) written) (r .number) (r .verdict) (r .steps)
+pub record Matches (text buffer notice written : List ℕ) (visits : ℕ) (r : Matched) : Type 0 where
+  pub determined : RunsTable (outcomeOf text (length buffer) notice) buffer notice written visits r
+  pub demand : (tree : Tree) → Accepted text tree → length (encode (compile tree)) ≤ length buffer → noticeCheck notice ≡ WellFormed
+      → Met text notice (take (r .length) written) (r .number) (r .verdict) (r .steps) visits (r .machine)

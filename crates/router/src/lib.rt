@@ -3,7 +3,7 @@
 // Each calls one function of the crates below, answers document 01's number, 0 if nothing is refused, and stores what else there is to say through the references that it is lent.
 ghost use mathlib.Core.Path.{_≡_};
 ghost use lib.ListN.{length};
-ghost use Rattle.truth.specs.Truth.{rank};
+ghost use Rattle.truth.specs.Truth.{numberOf as verdictNumber};
 ghost use Rattle.translator.specs.Translation.{translationOf, Answers};
 ghost use Rattle.table.specs.Check.{checkOf as tableCheck, refusalOf};
 ghost use Rattle.notice.specs.Layout.{checkOf as noticeCheck, numberOf, placeOf};
@@ -11,7 +11,6 @@ ghost use Rattle.notice.specs.Read.{Located};
 ghost use Rattle.notice.specs.Write.{field, writtenOf, writtenBytes};
 ghost use Rattle.interpreter.specs.Running.{runningOf};
 use notice::Layout;
-use truth::Truth;
 
 pub mod matching;
 
@@ -58,18 +57,7 @@ pub extern "C" fn virentolex_check_notice(notice: &[u8], place: &mut usize) -> u
     }
 }
 
-// A verdict by its rank: false 0, bottom 1, true 2.
-fn verdict_number(t: Truth) -> u8
-    ensures { λ r. ⌜ r ≡ rank t ⌝ }
-{
-    match t {
-        Truth::False => 0,
-        Truth::Bottom => 1,
-        Truth::True => 2,
-    }
-}
-
-// "Running answers number, place, verdict (bottom if refused) and steps (0 if refused)."
+// "Running answers number, place, verdict (bottom if refused) and steps (0 if refused)." A verdict is false 0, true 1, bottom 2.
 #[no_mangle]
 pub extern "C" fn virentolex_run<'a>(
     table: &'a [u8],
@@ -80,13 +68,13 @@ pub extern "C" fn virentolex_run<'a>(
 ) -> u8
     ensures { λ r. ⌜ r ≡ runningOf (now (table .entry)) (now (notice .entry)) .number ⌝ }
     ensures { λ _. ⌜ now (place .exit) ≡ runningOf (now (table .entry)) (now (notice .entry)) .place ⌝ }
-    ensures { λ _. ⌜ now (verdict .exit) ≡ rank (runningOf (now (table .entry)) (now (notice .entry)) .verdict) ⌝ }
+    ensures { λ _. ⌜ now (verdict .exit) ≡ verdictNumber (runningOf (now (table .entry)) (now (notice .entry)) .verdict) ⌝ }
     ensures { λ _. ⌜ now (steps .exit) ≡ runningOf (now (table .entry)) (now (notice .entry)) .steps ⌝ }
 {
     let a = interpreter::run(table, notice);
     let t = a.verdict;
     *place = a.place;
-    *verdict = verdict_number(t);
+    *verdict = truth::number(t);
     *steps = a.steps;
     a.number
 }

@@ -46,7 +46,8 @@ between-length s at n h =
     let m : n ≤ length (drop at s) = omega arith in
     ap length (between s at n) ∙ length-take-le n (drop at s) m
 
-stored-front : (xs d : List ℕ) → length xs ≤ length d → take (length xs) (sets d 0 xs) ≡ xs
+-- what is stored at the start stands there
+pub stored-front : (xs d : List ℕ) → length xs ≤ length d → take (length xs) (sets d 0 xs) ≡ xs
 stored-front xs d h =
     let z : 0 + length xs ≤ length d = omega arith in
     ap (λ (l : List ℕ). take (length xs) l) (sets-eq xs d 0 z) ∙ take-append-seam xs (drop (0 + length xs) d)

@@ -1,24 +1,33 @@
 -- The theorems that specs/Theorems.antt states. Assumes nothing.
 use mathlib.Core.Path.{_≡_, refl, sym, ap, ap₂, _∙_}
-use mathlib.Core.Bool.{Bool, true, false, not, cond}
-use mathlib.Core.List.{List, [], _∷_, _++_, append-assoc, append-nil}
-use Prim.Native.Nat.{ℕ, zero, suc, _+_, _*_, _-_, _≤_, _<_}
+use mathlib.Core.Bool.{Bool, true, false, not}
+use mathlib.Core.List.{List, [], _++_, append-assoc, append-nil}
+use mathlib.Core.Logic.{inl}
+use Prim.Native.Nat.{ℕ, zero, suc, _+_, _-_, _≤_}
 use native.Mathlib.Omega.{arith}
-use borrow.Author.Tests.{lt-ltb, le-ltb, le-leb, lt-leb, eq-eqb, ne-eqb}
-use lib.ListN.{length, take, drop, getD, length-append, length-drop, List·getD-append}
-use lib.Seq.{sets, length-sets, take-append-le, drop-append-le, drop-drop}
+use borrow.Author.Tests.{eq-eqb}
+use lib.ListN.{length, take, drop, length-append, length-drop}
+use lib.Seq.{length-sets, take-append-le, drop-append-le, drop-drop}
 use Rattle.table.specs.Table.{layoutOf}
 use Rattle.table.specs.Check.{checkOf}
 use Rattle.record.specs.declared.Record.{Record}
 use Rattle.record.specs.declared.Record.the-variants.{End, Whole, Cut, Wrong}
-use Rattle.record.specs.Record.{lengthOf, kindOf, lengthRight, recordOf, waitsOf}
+use Rattle.record.specs.Record.{recordOf, waitsOf}
 use Rattle.record.specs.Line.{errorLine}
 use Rattle.record.proofs.Theorems.{whole-lies, whole-grows, wrong-grows}
 use Rattle.session.specs.declared.Stop.{Stop}
 use Rattle.session.specs.declared.Stop.the-variants.{Full, Waiting, Ended}
-use Rattle.session.specs.Session.{lineOf, tableAfter, onRecord, outputFrom}
-use Rattle.session.specs.Serving.{bufferAfter, Serving, stopped, prepend, servingOf}
-use Rattle.session.specs.Theorems.{restOf, InPieces, NoTable}
+use Rattle.session.specs.declared.Next.{Next}
+use Rattle.session.specs.declared.Next.the-variants.{Read}
+use Rattle.session.specs.declared.Brought.{Brought}
+use Rattle.session.specs.declared.Brought.the-variants.{UpTo, Again}
+use Rattle.session.specs.declared.State.{State}
+use Rattle.session.specs.Session.{lineOf, tableAfter, onRecord, outputFrom, mostTable, outputAfter, outputOf}
+use Rattle.session.specs.Serving.{bufferAfter, Serving, servingOf}
+use Rattle.session.specs.State.{pending, nextOf, servingNow, crowded, arrived, receivedOf}
+use Rattle.session.specs.History.{Session, begins, answers, moves, reads, toCome}
+use Rattle.session.specs.Theorems.{restOf, InPieces, AlwaysReady, Printed, WholeOutput, NoTable}
+use Rattle.session.proofs.Steps.{waiting-rest, waits-none, read-waits, pending-after, moved-held, moved-last, moved-next, room-ready, pending-received, received-ready}
 use Rattle.session.proofs.Laws.{serving-waits, serving-whole, serving-error}
 
 -- ---- the output, record by record
@@ -170,3 +179,121 @@ in-pieces (suc n) (suc m) last table buffer s t hl hm =
 pub no-table : NoTable
 unfolding checkOf layoutOf
 no-table room r = refl
+
+-- ---- a session
+
+pub always-ready : AlwaysReady
+always-ready input table read written s (begins h e) =
+    record {
+      stands = record { order = omega arith; within = omega arith; large = h; short = λ z. omega arith };
+      held = omega arith;
+      sound = inl refl;
+    }
+always-ready input table read written s (answers h e q) = q .ready
+always-ready input table read written s (moves h e q) = room-ready (always-ready _ _ _ _ _ h) q
+always-ready input table read written s (reads {b = b} h e q) = received-ready b (always-ready _ _ _ _ _ h) q
+
+-- the table's buffer keeps its length
+long-table : (input table read written : List ℕ) (s : State) → Session input table s read written → length table ≡ mostTable
+long-table input table read written s (begins h e) = e
+long-table input table read written s (answers h e q) = q .size ∙ long-table _ _ _ _ _ h
+long-table input table read written s (moves h e q) = long-table _ _ _ _ _ h
+long-table input table read written s (reads h e q) = long-table _ _ _ _ _ h
+
+-- where more is read, the input has not ended
+still-open : (input table read written : List ℕ) (s : State) → Session input table s read written → s .next ≡ Read → s .last ≡ false
+still-open input table read written s (begins h e) z = refl
+still-open input table read written s (answers {table = table₀} {out = out} {s = s₀} h e q) z =
+    q .last ∙ read-waits (servingNow input table₀ out s₀ .stop) (s₀ .last) (sym (q .next) ∙ z) .1
+still-open input table read written s (moves {input = input₀} {s = s₀} h e q) z =
+    ap (λ (x : State). x .last) (q .state) ∙ moved-last (crowded input₀ s₀) s₀ ∙ still-open _ _ _ _ _ h e
+still-open input table read written s (reads {s = s₀} {b = b} h e q) z = by b z (still-open _ _ _ _ _ h e)
+  where
+    by : (b : Brought) → receivedOf s₀ b .next ≡ Read → s₀ .last ≡ false → receivedOf s₀ b .last ≡ false
+    by (UpTo n) w o = let d : _≡_ {A = ℕ} 0 1 = cc in absurd (omega arith)
+    by Again w o = o
+
+-- a turn's lines, and then what is printed for the rest
+turn-output : (n : ℕ) (last : Bool) (tb table p t : List ℕ) → (last ≡ true → t ≡ []) → length table ≡ mostTable
+    → (servingOf n last tb table p .lines
+    ++ toCome (nextOf (servingOf n last tb table p .stop) last) (outputAfter (servingOf n last tb table p .table) (drop (servingOf n last tb table p .taken) p ++ t)))
+    ≡ outputAfter tb (p ++ t)
+turn-output n last tb table p t hl e =
+    let σ : Serving = servingOf n last tb table p in
+    let x : List ℕ = drop (σ .taken) p ++ t in
+    let m : ℕ = length (p ++ t) in
+    let l1 = length-append (drop (σ .taken) p) t in
+    let l2 = length-append p t in
+    let l3 = length-drop (σ .taken) p in
+    let fits : length x ≤ m = omega arith in
+    let fuel : outputAfter (σ .table) x ≡ outputFrom m (length table) (σ .table) x =
+    same-output (length x) m mostTable (σ .table) x (omega arith) fits ∙ ap (λ (k : ℕ). outputFrom m k (σ .table) x) (sym e) in
+    ap (λ (y : List ℕ). σ .lines ++ y) (by (σ .stop) refl last refl fuel)
+    ∙ in-pieces n m last tb table p t hl (omega arith)
+    ∙ ap (λ (k : ℕ). outputFrom m k tb (p ++ t)) e
+  where
+    σ₀ : Serving
+    σ₀ = servingOf n last tb table p
+
+    x₀ : List ℕ
+    x₀ = drop (σ₀ .taken) p ++ t
+
+    by : (stop : Stop) → σ₀ .stop ≡ stop → (l : Bool) → last ≡ l → outputAfter (σ₀ .table) x₀ ≡ outputFrom (length (p ++ t)) (length table) (σ₀ .table) x₀
+        → toCome (nextOf stop l) (outputAfter (σ₀ .table) x₀) ≡ restOf stop (outputFrom (length (p ++ t)) (length table) (σ₀ .table) x₀)
+    by Full es l el f = f
+    by Waiting es false el f = f
+    by Waiting es true el f =
+        let w : waitsOf (recordOf (drop (σ₀ .taken) p)) true ≡ true =
+        ap (λ (b : Bool). waitsOf (recordOf (drop (σ₀ .taken) p)) b) (sym el) ∙ waiting-rest n last tb table p es in
+        let z = waits-none (drop (σ₀ .taken) p) w in
+        let lt : length t ≡ 0 = ap length (hl el) in
+        let la = length-append (drop (σ₀ .taken) p) t in
+        sym (output-empty (length (p ++ t)) (length table) (σ₀ .table) x₀ (omega arith))
+    by Ended es l el f = refl
+
+pub printed : Printed
+printed input table read written s (begins h e) t hl = refl
+printed input table read written s (answers {table = table₀} {out = out} {out′ = out′} {written = written₀} {s = s₀} h e q) t hl =
+    let σ : Serving = servingNow input table₀ out s₀ in
+    let p : List ℕ = pending input s₀ in
+    let rest : pending input s ≡ drop (σ .taken) p = ap (λ (k : ℕ). take (k - s .from) (drop (s .from) input)) (q .end) ∙ pending-after input s₀ (s .from) (σ .taken) (q .from) in
+    let before : (written₀ ++ toCome (s₀ .next) (outputAfter (take (s₀ .held) table₀) (p ++ t))) ≡ outputOf (read ++ t) = printed _ _ _ _ _ h t (λ z. hl (q .last ∙ z)) in
+    let now : (take (s .written) out′ ++ toCome (s .next) (outputAfter (take (s .held) table) (pending input s ++ t)))
+    ≡ (σ .lines ++ toCome (nextOf (σ .stop) (s₀ .last)) (outputAfter (σ .table) (drop (σ .taken) p ++ t))) =
+    ap (λ (x : List ℕ). x ++ toCome (s .next) (outputAfter (take (s .held) table) (pending input s ++ t))) (q .lines)
+    ∙ ap (λ (x : Next). σ .lines ++ toCome x (outputAfter (take (s .held) table) (pending input s ++ t))) (q .next)
+    ∙ ap₂ (λ (x y : List ℕ). σ .lines ++ toCome (nextOf (σ .stop) (s₀ .last)) (outputAfter x (y ++ t))) (q .kept) rest in
+    append-assoc written₀ (take (s .written) out′) (toCome (s .next) (outputAfter (take (s .held) table) (pending input s ++ t)))
+    ∙ ap (λ (x : List ℕ). written₀ ++ x) (now ∙ turn-output _ (s₀ .last) (take (s₀ .held) table₀) table₀ p t (λ z. hl (q .last ∙ z)) (long-table _ _ _ _ _ h))
+    ∙ ap (λ (x : Next). written₀ ++ toCome x (outputAfter (take (s₀ .held) table₀) (p ++ t))) (sym e)
+    ∙ before
+printed input table read written s (moves {input = input₀} {s = s₀} h e q) t hl =
+    let el : s .last ≡ s₀ .last = ap (λ (x : State). x .last) (q .state) ∙ moved-last (crowded input₀ s₀) s₀ in
+    let eh : s .held ≡ s₀ .held = ap (λ (x : State). x .held) (q .state) ∙ moved-held (crowded input₀ s₀) s₀ in
+    let en : s .next ≡ s₀ .next = ap (λ (x : State). x .next) (q .state) ∙ moved-next (crowded input₀ s₀) s₀ in
+    ap (λ (x : Next). written ++ toCome x (outputAfter (take (s .held) table) (pending input s ++ t))) en
+    ∙ ap₂ (λ (n : ℕ) (x : List ℕ). written ++ toCome (s₀ .next) (outputAfter (take n table) (x ++ t))) eh (q .same)
+    ∙ printed _ _ _ _ _ h t (λ z. hl (el ∙ z))
+printed input table read written s (reads {input = input₀} {read = read₀} {s = s₀} {b = b} h e q) t hl =
+    let x : List ℕ = arrived input (s₀ .end) b in
+    let o : s₀ .last ≡ false = still-open _ _ _ _ _ h e in
+    let before : (written ++ toCome (s₀ .next) (outputAfter (take (s₀ .held) table) (pending input₀ s₀ ++ (x ++ t)))) ≡ outputOf (read₀ ++ (x ++ t)) =
+    printed _ _ _ _ _ h (x ++ t) (λ z. let d : _≡_ {A = ℕ} 0 1 = cc in absurd (omega arith)) in
+    by b refl
+    ∙ ap (λ (y : List ℕ). written ++ outputAfter (take (s₀ .held) table) (y ++ t)) (pending-received input₀ input s₀ (always-ready _ _ _ _ _ h .stands) b q)
+    ∙ ap (λ (y : List ℕ). written ++ outputAfter (take (s₀ .held) table) y) (append-assoc (pending input₀ s₀) x t)
+    ∙ ap (λ (y : Next). written ++ toCome y (outputAfter (take (s₀ .held) table) (pending input₀ s₀ ++ (x ++ t)))) (sym e)
+    ∙ before
+    ∙ ap outputOf (sym (append-assoc read₀ x t))
+  where
+    by : (c : Brought) → b ≡ c
+        → (written ++ toCome (receivedOf s₀ c .next) (outputAfter (take (receivedOf s₀ c .held) table) (pending input (receivedOf s₀ c) ++ t)))
+        ≡ (written ++ outputAfter (take (s₀ .held) table) (pending input (receivedOf s₀ c) ++ t))
+    by (UpTo n) f = refl
+    by Again f = ap (λ (y : Next). written ++ toCome y (outputAfter (take (s₀ .held) table) (pending input s₀ ++ t))) e
+
+pub whole-output : WholeOutput
+whole-output input table read written s h e t hl =
+    sym (append-nil written)
+    ∙ ap (λ (x : Next). written ++ toCome x (outputAfter (take (s .held) table) (pending input s ++ t))) (sym e)
+    ∙ printed input table read written s h t hl

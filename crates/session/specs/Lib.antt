@@ -1,3 +1,5 @@
 pub mod Session
 pub mod Serving
+pub mod State
+pub mod History
 pub mod Theorems

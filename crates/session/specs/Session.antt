@@ -58,6 +58,10 @@ outputFrom (suc n) room table s =
 abbrev pub mostTable : ℕ
 mostTable = 10250
 
--- The whole output for the whole input. A record takes at least six bytes, so there are fewer than the input has.
+-- What is printed for the bytes s, where `table` is the last text's. A record takes at least six bytes, so there are fewer than s has.
+abbrev pub outputAfter : List ℕ → List ℕ → List ℕ
+outputAfter table s = outputFrom (length s) mostTable table s
+
+-- the whole output for the whole input
 abbrev pub outputOf : List ℕ → List ℕ
-outputOf s = outputFrom (length s) mostTable [] s
+outputOf s = outputAfter [] s

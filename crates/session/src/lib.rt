@@ -1,22 +1,22 @@
-// What each record of standard input means, as functions on slices. Document 01, "Examples", the program `verdict`.
+// What each record of standard input means, and the session that answers them over lent buffers, as functions on slices. Document 01, "Examples", the program `verdict`.
 ghost use mathlib.Core.Path.{_≡_};
 ghost use mathlib.Core.List.{List};
 ghost use Prim.Native.Nat.{ℕ, _+_, _-_, _/_, _≤_};
-ghost use lib.ListN.{length, take, drop};
-ghost use lib.Seq.{sets};
+ghost use lib.ListN.{length, take};
 ghost use Rattle.record.specs.Line.{Put};
 ghost use Rattle.interpreter.specs.Running.{refused as refusedWith, runningOf};
 ghost use Rattle.session.specs.Session.{ranLine, Sound};
 ghost use Rattle.session.specs.Serving.{Answers, Serves, servingOf};
+ghost use Rattle.session.specs.State.{first, Stands, Ready, nextOf, Turns, MakesRoom, receivedOf};
 use interpreter::Ran;
 use notice::Layout;
 use record::Record;
 use truth::Truth;
 
 // What a record leaves: the length of the table, 0 where there is none, and the place after the line.
-pub struct Answered {
-    pub held: usize,
-    pub next: usize,
+struct Answered {
+    held: usize,
+    next: usize,
 }
 
 // Kind 3. It asks for the kind, which the record reader found, and for room for a line.
@@ -77,7 +77,7 @@ fn put_verdict<'a>(table: &'a [u8], notice: &'a [u8], out: &mut [u8], at: usize)
 
 // What the whole record `bytes` of a kind means: the line is stored in `out` from `at` on, and a text's table in `table`, of which `held` bytes are the last text's.
 // It asks for a record's length and kind, which the record reader found, for a sound table, and for room for a line.
-pub fn answer(
+fn answer(
     bytes: &[u8],
     kind: u16,
     table: &mut [u8],
@@ -106,7 +106,7 @@ pub fn answer(
 }
 
 // Why no more records were answered.
-pub enum Stop {
+enum Stop {
     // There is no room for another line.
     Full,
     // The next record has not come whole.
@@ -116,16 +116,16 @@ pub enum Stop {
 }
 
 // What a stretch of the input leaves: the bytes of it that were answered, the length of the table, the bytes of the lines, and why no more were.
-pub struct Served {
-    pub taken: usize,
-    pub held: usize,
-    pub written: usize,
-    pub stop: Stop,
+struct Served {
+    taken: usize,
+    held: usize,
+    written: usize,
+    stop: Stop,
 }
 
 // Answers the records of a stretch of the input, as many as `out` has room for lines of 80 bytes. `last`: the input ends with the stretch.
 // It asks that the table lies in its buffer and is sound, as one that it left is, and as none is.
-pub fn serve(input: &[u8], last: bool, table: &mut [u8], held: usize, out: &mut [u8]) -> Served
+fn serve(input: &[u8], last: bool, table: &mut [u8], held: usize, out: &mut [u8]) -> Served
     requires { ⌜ (held ≤ length (now table)) × Sound (take held (now table)) ⌝ }
     ensures { λ r. ⌜ Serves (servingOf (length (now (out .entry)) / 80) last (take held (now (table .entry))) (now (table .entry)) (now (input .entry))) (now (input .entry)) (now (out .entry)) (now (table .exit)) (now (out .exit)) r ⌝ }
 {
@@ -164,5 +164,127 @@ pub fn serve(input: &[u8], last: bool, table: &mut [u8], held: usize, out: &mut 
         held: size_held,
         written: written,
         stop: Stop::Full,
+    }
+}
+
+// ---- a session over lent buffers: turns, and room for what is read
+
+// What is done next.
+pub enum Next {
+    // What is there is answered.
+    Answer,
+    // More is read.
+    Read,
+    // Nothing: the input has ended, or a record was wrong.
+    Done,
+}
+
+// What is kept between the steps: where the bytes that are not answered yet stand in the input's buffer, the length of the table, that of the lines which the last turn left, whether the input has ended, and what is done next.
+pub struct State {
+    pub from: usize,
+    pub end: usize,
+    pub held: usize,
+    pub written: usize,
+    pub last: bool,
+    pub next: Next,
+}
+
+pub fn start() -> State
+    ensures { λ r. ⌜ r ≡ first ⌝ }
+{
+    State {
+        from: 0,
+        end: 0,
+        held: 0,
+        written: 0,
+        last: false,
+        next: Next::Read,
+    }
+}
+
+fn next_of(stop: Stop, last: bool) -> Next
+    ensures { λ r. ⌜ r ≡ nextOf stop last ⌝ }
+{
+    match stop {
+        Stop::Full => Next::Answer,
+        Stop::Waiting => if last { Next::Done } else { Next::Read },
+        Stop::Ended => Next::Done,
+    }
+}
+
+// Answers what is there, as far as `out` has room for lines. It asks that the state lies in its buffers and the table is sound, as `start` and every step leave them.
+pub fn turn(input: &[u8], table: &mut [u8], out: &mut [u8], s: State) -> State
+    requires { ⌜ Ready (now input) (now table) s ⌝ }
+    ensures { λ r. ⌜ Turns (now (input .entry)) (now (table .entry)) (now (out .entry)) s (now (table .exit)) (now (out .exit)) r ⌝ }
+{
+    let from = s.from;
+    let end = s.end;
+    let last = s.last;
+    let served = serve(&input[from..end], last, table, s.held, out);
+    let stop = served.stop;
+    State {
+        from: from + served.taken,
+        end: end,
+        held: served.held,
+        written: served.written,
+        last: last,
+        next: next_of(stop, last),
+    }
+}
+
+// The lines that a turn left.
+pub fn lines(out: &[u8], s: State) -> &[u8]
+    requires { ⌜ s .written ≤ length (now out) ⌝ }
+    ensures { λ r. ⌜ now r ≡ take (s .written) (now (out .entry)) ⌝ }
+{
+    let n = s.written;
+    &out[0..n]
+}
+
+// Sees to room for a longest record behind what is not answered yet, which is moved to the buffer's start where there is none. In the program at least half of the buffer has been answered then, so each byte is moved seldom.
+// It asks for a state that lies in its buffer and is to read.
+pub fn make_room(input: &mut [u8], s: State) -> State
+    requires { ⌜ Stands (now input) s × (s .next ≡ Next.Read) ⌝ }
+    ensures { λ r. ⌜ MakesRoom (now (input .entry)) s (now (input .exit)) r ⌝ }
+{
+    let from = s.from;
+    let end = s.end;
+    let next = s.next;
+    if input.len() - end < 16384 {
+        record::move_down(input, from, end);
+        return State {
+            from: 0,
+            end: end - from,
+            held: s.held,
+            written: s.written,
+            last: s.last,
+            next: next,
+        };
+    }
+    s
+}
+
+// What one read brought.
+pub enum Brought {
+    // The input reaches up to here; no further than before where it has ended.
+    UpTo(usize),
+    // Nothing yet: the read is repeated.
+    Again,
+}
+
+// The state after a read behind what was there.
+pub fn received(s: State, brought: Brought) -> State
+    ensures { λ r. ⌜ r ≡ receivedOf s brought ⌝ }
+{
+    match brought {
+        Brought::UpTo(end) => State {
+            from: s.from,
+            end: end,
+            held: s.held,
+            written: s.written,
+            last: end == s.end,
+            next: Next::Answer,
+        },
+        Brought::Again => s,
     }
 }

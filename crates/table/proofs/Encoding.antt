@@ -6,7 +6,7 @@ use native.Mathlib.Omega.{arith}
 use lib.Dec.{lit<}
 use lib.ListN.{length, getD, take, drop, length-append, take-append-drop}
 use lib.Seq.{drop-at, take-add, drop-drop, getD-drop}
-use Rattle.word.specs.Word.{le, leBytes, Bytes}
+use Rattle.word.specs.Word.{wordAt, wordBytes, Bytes}
 use Rattle.word.proofs.Laws.{length-leBytes}
 use Rattle.word.proofs.Theorems.{bytes-read, read-bytes, bounded}
 use Rattle.table.specs.Table.{Entry, blank, Program, entryBytes, entriesBytes, bodyBytes, encode, countOf, poolLengthOf, entryAt, entriesFrom, entriesOf, poolOf, decode}
@@ -39,16 +39,16 @@ module _ (p : Program) where
 -- ---- reading what was written
 
 -- a word that stands at a known place
-word-at : (k v at : ℕ) (pre post s : List ℕ) → s ≡ pre ++ (leBytes k v ++ post) → length pre ≡ at → v < 256 ^ k → le k s at ≡ v
+word-at : (k v at : ℕ) (pre post s : List ℕ) → s ≡ pre ++ (wordBytes k v ++ post) → length pre ≡ at → v < 256 ^ k → wordAt k s at ≡ v
 word-at k v at pre post s e l h = rw (e, ← l) (bytes-read k v pre post h)
 
 entry-read : (i : ℕ) (e : Entry) (pre post s : List ℕ) → s ≡ pre ++ (entryBytes e ++ post) → length pre ≡ 10 + 12 * i → Fits e → entryAt s i ≡ e
 entry-read i e pre post s q l f =
-    let o = word-at 2 (e .op) (10 + 12 * i) pre (leBytes 2 (e .a) ++ (leBytes 8 (e .b) ++ post)) s (q ∙ simp append-assoc) l (f .op) in
+    let o = word-at 2 (e .op) (10 + 12 * i) pre (wordBytes 2 (e .a) ++ (wordBytes 8 (e .b) ++ post)) s (q ∙ simp append-assoc) l (f .op) in
     let a =
-    word-at 2 (e .a) (12 + 12 * i) (pre ++ leBytes 2 (e .op)) (leBytes 8 (e .b) ++ post) s (q ∙ simp append-assoc) (simp (length-append, length-leBytes) (omega arith)) (f .a) in
+    word-at 2 (e .a) (12 + 12 * i) (pre ++ wordBytes 2 (e .op)) (wordBytes 8 (e .b) ++ post) s (q ∙ simp append-assoc) (simp (length-append, length-leBytes) (omega arith)) (f .a) in
     let b =
-    word-at 8 (e .b) (14 + 12 * i) (pre ++ (leBytes 2 (e .op) ++ leBytes 2 (e .a))) post s (q ∙ simp append-assoc) (simp (length-append, length-leBytes) (omega arith)) (f .b) in
+    word-at 8 (e .b) (14 + 12 * i) (pre ++ (wordBytes 2 (e .op) ++ wordBytes 2 (e .a))) post s (q ∙ simp append-assoc) (simp (length-append, length-leBytes) (omega arith)) (f .b) in
     rw (o, a, b)
 
 entries-read : (es : List Entry) (i : ℕ) (pre post s : List ℕ) → s ≡ pre ++ (entriesBytes es ++ post) → length pre ≡ 10 + 12 * i
@@ -63,37 +63,37 @@ entries-read (e ∷ es) i pre post s q l f =
 
 -- the header of what was written
 module _ (p : Program) (l : Limits p) where
-  word-read : le 4 (encode p) 0 ≡ length (bodyBytes p)
+  word-read : wordAt 4 (encode p) 0 ≡ length (bodyBytes p)
   unfolding encode
   word-read = word-at 4 (length (bodyBytes p)) 0 [] (bodyBytes p) (encode p) refl refl (let m = l .few in let k = l .small in rw (length-body p) (omega arith))
 
-  kind-read : le 2 (encode p) 4 ≡ 2
+  kind-read : wordAt 2 (encode p) 4 ≡ 2
   unfolding encode bodyBytes
-  kind-read = word-at 2 2 4 (leBytes 4 (length (bodyBytes p))) _ (encode p) refl (length-leBytes 4 (length (bodyBytes p))) (lit< tt)
+  kind-read = word-at 2 2 4 (wordBytes 4 (length (bodyBytes p))) _ (encode p) refl (length-leBytes 4 (length (bodyBytes p))) (lit< tt)
 
   count-read : countOf (encode p) ≡ length (p .entries)
   unfolding encode bodyBytes
   count-read =
-      word-at 2 (length (p .entries)) 6 (leBytes 4 (length (bodyBytes p)) ++ leBytes 2 2) (leBytes 2 (length (p .pool)) ++ (entriesBytes (p .entries) ++ p .pool)) (encode p) (simp append-assoc)
+      word-at 2 (length (p .entries)) 6 (wordBytes 4 (length (bodyBytes p)) ++ wordBytes 2 2) (wordBytes 2 (length (p .pool)) ++ (entriesBytes (p .entries) ++ p .pool)) (encode p) (simp append-assoc)
       (simp (length-append, length-leBytes)) (let m = l .few in omega arith)
 
   size-read : poolLengthOf (encode p) ≡ length (p .pool)
   unfolding encode bodyBytes
   size-read =
-      word-at 2 (length (p .pool)) 8 (leBytes 4 (length (bodyBytes p)) ++ (leBytes 2 2 ++ leBytes 2 (length (p .entries)))) (entriesBytes (p .entries) ++ p .pool) (encode p) (simp append-assoc)
+      word-at 2 (length (p .pool)) 8 (wordBytes 4 (length (bodyBytes p)) ++ (wordBytes 2 2 ++ wordBytes 2 (length (p .entries)))) (entriesBytes (p .entries) ++ p .pool) (encode p) (simp append-assoc)
       (simp (length-append, length-leBytes)) (let m = l .small in omega arith)
 
   entries-same : entriesOf (encode p) ≡ p .entries
   unfolding encode bodyBytes
   entries-same =
       rw count-read
-      (entries-read (p .entries) 0 (leBytes 4 (length (bodyBytes p)) ++ (leBytes 2 2 ++ (leBytes 2 (length (p .entries)) ++ leBytes 2 (length (p .pool))))) (p .pool) (encode p) (simp append-assoc)
+      (entries-read (p .entries) 0 (wordBytes 4 (length (bodyBytes p)) ++ (wordBytes 2 2 ++ (wordBytes 2 (length (p .entries)) ++ wordBytes 2 (length (p .pool))))) (p .pool) (encode p) (simp append-assoc)
       (simp (length-append, length-leBytes)) (l .fit))
 
   pool-same : poolOf (encode p) ≡ p .pool
   unfolding encode bodyBytes
   pool-same =
-      let pre = leBytes 4 (length (bodyBytes p)) ++ (leBytes 2 2 ++ (leBytes 2 (length (p .entries)) ++ (leBytes 2 (length (p .pool)) ++ entriesBytes (p .entries)))) in
+      let pre = wordBytes 4 (length (bodyBytes p)) ++ (wordBytes 2 2 ++ (wordBytes 2 (length (p .entries)) ++ (wordBytes 2 (length (p .pool)) ++ entriesBytes (p .entries)))) in
       let e : encode p ≡ pre ++ p .pool = simp append-assoc in
       rw (count-read, e) (drop-at pre (p .pool) (10 + 12 * length (p .entries)) (simp (length-append, length-leBytes, length-entriesBytes) (omega arith)))
 
@@ -144,7 +144,7 @@ module _ (s : List ℕ) (by : Bytes s) where
       rw (e1, entry-written i (omega arith), ih, e2) (part-join 12 (12 * n) (10 + 12 * i) s)
 
   module _ (l : Laid s) where
-    body-length : length (bodyBytes (decode s)) ≡ le 4 s 0
+    body-length : length (bodyBytes (decode s)) ≡ wordAt 4 s 0
     body-length =
         let w = l .whole in
         let h = l .word in
@@ -157,10 +157,10 @@ module _ (s : List ℕ) (by : Bytes s) where
     written-read =
         let w = l .whole in
         let h = l .head in
-        let e4 : leBytes 4 (length (bodyBytes (decode s))) ≡ take 4 (drop 0 s) = ap (leBytes 4) body-length ∙ read-bytes 4 0 s by (omega arith) in
-        let e2 : leBytes 2 2 ≡ take 2 (drop 4 s) = ap (leBytes 2) (sym (l .kind)) ∙ read-bytes 2 4 s by (omega arith) in
-        let en : leBytes 2 (length (entriesOf s)) ≡ take 2 (drop 6 s) = ap (leBytes 2) (length-entries s) ∙ read-bytes 2 6 s by (omega arith) in
-        let ep : leBytes 2 (length (poolOf s)) ≡ take 2 (drop 8 s) = ap (leBytes 2) (pool-length s l) ∙ read-bytes 2 8 s by (omega arith) in
+        let e4 : wordBytes 4 (length (bodyBytes (decode s))) ≡ take 4 (drop 0 s) = ap (wordBytes 4) body-length ∙ read-bytes 4 0 s by (omega arith) in
+        let e2 : wordBytes 2 2 ≡ take 2 (drop 4 s) = ap (wordBytes 2) (sym (l .kind)) ∙ read-bytes 2 4 s by (omega arith) in
+        let en : wordBytes 2 (length (entriesOf s)) ≡ take 2 (drop 6 s) = ap (wordBytes 2) (length-entries s) ∙ read-bytes 2 6 s by (omega arith) in
+        let ep : wordBytes 2 (length (poolOf s)) ≡ take 2 (drop 8 s) = ap (wordBytes 2) (pool-length s l) ∙ read-bytes 2 8 s by (omega arith) in
         let ee : entriesBytes (entriesOf s) ≡ take (12 * countOf s) (drop 10 s) = entries-written (countOf s) 0 (omega arith) in
         rw (e4, e2, en, ep, ee, part-rest (12 * countOf s) 10 s, part-rest 2 8 s, part-rest 2 6 s, part-rest 2 4 s, part-rest 4 0 s)
 
@@ -181,29 +181,29 @@ bytes-append [] ys b c i = c i
 bytes-append (x ∷ xs) ys b c zero = b 0
 bytes-append (x ∷ xs) ys b c (suc i) = bytes-append xs ys (λ j. b (suc j)) c i
 
-bytes-word : (k v : ℕ) → Bytes (leBytes k v)
-unfolding leBytes
+bytes-word : (k v : ℕ) → Bytes (wordBytes k v)
+unfolding wordBytes
 bytes-word zero v i = omega arith
 bytes-word (suc k) v zero = omega arith
 bytes-word (suc k) v (suc i) = bytes-word k (v / 256) i
 
 -- a word before bytes
-word-first : (k v : ℕ) (ys : List ℕ) → Bytes ys → Bytes (leBytes k v ++ ys)
-word-first k v ys b = bytes-append (leBytes k v) ys (bytes-word k v) b
+word-first : (k v : ℕ) (ys : List ℕ) → Bytes ys → Bytes (wordBytes k v ++ ys)
+word-first k v ys b = bytes-append (wordBytes k v) ys (bytes-word k v) b
 
 bytes-entries : (es : List Entry) → Bytes (entriesBytes es)
 unfolding entriesBytes
 bytes-entries [] = λ i. omega arith
 bytes-entries (e ∷ es) =
-    bytes-append (entryBytes e) (entriesBytes es) (word-first 2 (e .op) (leBytes 2 (e .a) ++ leBytes 8 (e .b)) (word-first 2 (e .a) (leBytes 8 (e .b)) (bytes-word 8 (e .b)))) (bytes-entries es)
+    bytes-append (entryBytes e) (entriesBytes es) (word-first 2 (e .op) (wordBytes 2 (e .a) ++ wordBytes 8 (e .b)) (word-first 2 (e .a) (wordBytes 8 (e .b)) (bytes-word 8 (e .b)))) (bytes-entries es)
 
 pub written-bytes : (p : Program) → Bytes (p .pool) → Bytes (encode p)
 unfolding encode bodyBytes
 written-bytes p b =
     let t = entriesBytes (p .entries) ++ p .pool in
-    let u = leBytes 2 (length (p .pool)) ++ t in
-    let v = leBytes 2 (length (p .entries)) ++ u in
-    word-first 4 (length (bodyBytes p)) (leBytes 2 2 ++ v)
+    let u = wordBytes 2 (length (p .pool)) ++ t in
+    let v = wordBytes 2 (length (p .entries)) ++ u in
+    word-first 4 (length (bodyBytes p)) (wordBytes 2 2 ++ v)
     (word-first 2 2 v
     (word-first 2 (length (p .entries)) u
     (word-first 2 (length (p .pool)) t (bytes-append (entriesBytes (p .entries)) (p .pool) (bytes-entries (p .entries)) b))))

@@ -6,14 +6,14 @@ use Prim.Native.Nat.{ℕ, _+_, _*_, _≤_, _<_}
 use native.Mathlib.Omega.{arith}
 use lib.ListN.{length, length-drop}
 use borrow.Author.Tests.{leb-true, le-leb, eqb-true, eq-eqb}
-use Rattle.word.specs.Word.{le}
+use Rattle.word.specs.Word.{wordAt}
 use Rattle.table.specs.Table.{countOf, poolLengthOf, poolOf, layoutOf}
 use Rattle.table.proofs.Tests.{both-true, are-true}
 
 pub record Laid (s : List ℕ) : Type 0 where
   pub head : 10 ≤ length s
-  pub word : 4 + le 4 s 0 ≡ length s
-  pub kind : le 2 s 4 ≡ 2
+  pub word : 4 + wordAt 4 s 0 ≡ length s
+  pub kind : wordAt 2 s 4 ≡ 2
   pub some-entry : 1 ≤ countOf s
   pub few : countOf s ≤ 512
   pub small : poolLengthOf s ≤ 4096

@@ -5,7 +5,7 @@ use mathlib.Core.Bool.{Bool, _&&_}
 use mathlib.Core.List.{List, [], _∷_, _++_}
 use lib.Dec.{eqb, leb}
 use lib.ListN.{length, drop}
-use Rattle.word.specs.Word.{le, leBytes}
+use Rattle.word.specs.Word.{wordAt, wordBytes}
 pub use Rattle.table.specs.declared.Entry.{Entry}
 
 pub record Program : Type 0 where
@@ -18,7 +18,7 @@ blank = record { op = 0; a = 0; b = 0 }
 
 -- "Entry: u16 op, u16 a, u64 b."
 abbrev pub entryBytes : Entry → List ℕ
-entryBytes e = leBytes 2 (e .op) ++ (leBytes 2 (e .a) ++ leBytes 8 (e .b))
+entryBytes e = wordBytes 2 (e .op) ++ (wordBytes 2 (e .a) ++ wordBytes 8 (e .b))
 
 unfoldable pub entriesBytes : List Entry → List ℕ
 entriesBytes [] = []
@@ -27,23 +27,23 @@ entriesBytes (e ∷ es) = entryBytes e ++ entriesBytes es
 -- "u16 kind 2; u16 entry count N ..; u16 pool length ..; N entries of 12 bytes; pool"
 unfoldable pub bodyBytes : Program → List ℕ
 bodyBytes p =
-    leBytes 2 2 ++ (leBytes 2 (length (p .entries)) ++ (leBytes 2 (length (p .pool)) ++ (entriesBytes (p .entries) ++ p .pool)))
+    wordBytes 2 2 ++ (wordBytes 2 (length (p .entries)) ++ (wordBytes 2 (length (p .pool)) ++ (entriesBytes (p .entries) ++ p .pool)))
 
 -- "u32 length of all after it"
 unfoldable pub encode : Program → List ℕ
-encode p = leBytes 4 (length (bodyBytes p)) ++ bodyBytes p
+encode p = wordBytes 4 (length (bodyBytes p)) ++ bodyBytes p
 
 -- ---- reading
 
 abbrev pub countOf : List ℕ → ℕ
-countOf s = le 2 s 6
+countOf s = wordAt 2 s 6
 
 abbrev pub poolLengthOf : List ℕ → ℕ
-poolLengthOf s = le 2 s 8
+poolLengthOf s = wordAt 2 s 8
 
 -- the entry i, wherever it lies
 abbrev pub entryAt : List ℕ → ℕ → Entry
-entryAt s i = record { op = le 2 s (10 + 12 * i); a = le 2 s (12 + 12 * i); b = le 8 s (14 + 12 * i) }
+entryAt s i = record { op = wordAt 2 s (10 + 12 * i); a = wordAt 2 s (12 + 12 * i); b = wordAt 8 s (14 + 12 * i) }
 
 -- n entries, from the entry i on
 unfoldable pub entriesFrom : List ℕ → ℕ → ℕ → List Entry
@@ -63,7 +63,7 @@ decode s = record { entries = entriesOf s; pool = poolOf s }
 unfoldable pub layoutOf : List ℕ → Bool
 layoutOf s =
     leb 10 (length s)
-    && (eqb (4 + le 4 s 0) (length s)
-    && (eqb (le 2 s 4) 2
+    && (eqb (4 + wordAt 4 s 0) (length s)
+    && (eqb (wordAt 2 s 4) 2
     && ((leb 1 (countOf s) && leb (countOf s) 512)
     && (leb (poolLengthOf s) 4096 && eqb (10 + 12 * countOf s + poolLengthOf s) (length s)))))

@@ -8,7 +8,7 @@ use lib.Dec.{eqb, ltb}
 use lib.ListN.{length, length-append}
 use lib.Seq.{sets}
 use borrow.Author.Tests.{eqb-true, lt-ltb, le-ltb, ltb-true, ltb-false, eq-eqb, ne-eqb}
-use Rattle.word.specs.Word.{leBytes}
+use Rattle.word.specs.Word.{wordBytes}
 use Rattle.word.proofs.Laws.{length-leBytes}
 use Rattle.table.specs.Table.{entriesBytes, bodyBytes, encode}
 use Rattle.table.proofs.Encoding.{length-body, length-encode}
@@ -17,12 +17,13 @@ use Rattle.lexer.specs.Token.{Token}
 use Rattle.grammar.specs.Tree.{Tree}
 use Rattle.grammar.specs.Parse.{Result, ok, bad, pick, levelOf, parseAll}
 use Rattle.grammar.specs.Size.{entriesOf, poolOf, depthOf}
+use Rattle.grammar.specs.Function.{orElse}
 use Rattle.grammar.specs.Judge.{formsRight, kindsRight, isLogic}
 use Rattle.grammar.specs.Answer.{foundOf}
 use Rattle.grammar.specs.declared.found.Found.{Found}
 use Rattle.translator.specs.Compile.{codeOf, bytesOf, compile}
 use Rattle.translator.specs.Pool.{broughtFrom}
-use Rattle.translator.specs.Emit.{placeOf, Accepts, Writes, Judged, Filled, Known, tableAnswer, headerBytes, refusalBy}
+use Rattle.translator.specs.Emit.{entryStart, Accepts, Writes, Judged, Filled, Known, tableAnswer, headerBytes, refusalBy}
 use Rattle.translator.specs.Translation.{refusalOf, ofTree, refusal, answerOf, Answers, ofResult}
 use Rattle.translator.specs.declared.Emitted.{Emitted}
 use Rattle.translator.specs.declared.Translated.{Translated}
@@ -32,20 +33,20 @@ use Rattle.translator.proofs.Brought.{brought-all}
 
 -- ---- the header
 
-pub header-written : (s s1 s2 s3 s4 : List ℕ) (v n p : ℕ) → v ≡ 6 + 12 * n + p → s1 ≡ sets s 0 (leBytes 4 v) → s2 ≡ sets s1 4 (leBytes 2 2) → s3 ≡ sets s2 6 (leBytes 2 n) → s4 ≡ sets s3 8 (leBytes 2 p)
+pub header-written : (s s1 s2 s3 s4 : List ℕ) (v n p : ℕ) → v ≡ 6 + 12 * n + p → s1 ≡ sets s 0 (wordBytes 4 v) → s2 ≡ sets s1 4 (wordBytes 2 2) → s3 ≡ sets s2 6 (wordBytes 2 n) → s4 ≡ sets s3 8 (wordBytes 2 p)
     → s4 ≡ sets s 0 (headerBytes n p)
-unfolding leBytes
+unfolding wordBytes
 header-written s s1 s2 s3 s4 v n p e a b c d =
     d
-    ∙ ap (λ (l : List ℕ). sets l 8 (leBytes 2 p))
-    (c ∙ ap (λ (l : List ℕ). sets l 6 (leBytes 2 n)) (b ∙ ap (λ (l : List ℕ). sets l 4 (leBytes 2 2)) (a ∙ ap (λ (w : ℕ). sets s 0 (leBytes 4 w)) e)))
+    ∙ ap (λ (l : List ℕ). sets l 8 (wordBytes 2 p))
+    (c ∙ ap (λ (l : List ℕ). sets l 6 (wordBytes 2 n)) (b ∙ ap (λ (l : List ℕ). sets l 4 (wordBytes 2 2)) (a ∙ ap (λ (w : ℕ). sets s 0 (wordBytes 4 w)) e)))
 
 length-header : (n p : ℕ) → length (headerBytes n p) ≡ 10
 length-header n p = simp (length-append, length-leBytes)
 
 -- ---- the whole table
 
-pub table-size : (t : Tree) → length (encode (compile t)) ≡ placeOf (entriesOf t) + poolOf t
+pub table-size : (t : Tree) → length (encode (compile t)) ≡ entryStart (entriesOf t) + poolOf t
 table-size t = omega (arith, length-encode (compile t), size t 0, pool-size t)
 
 table-is : (t : Tree) → encode (compile t) ≡ headerBytes (entriesOf t) (poolOf t) ++ (entriesBytes (codeOf 0 t) ++ bytesOf t)
@@ -73,7 +74,7 @@ whole-level ks {t} {n} e = go (levelOf ks 0 0) refl e
         by false f g = let z : _≡_ {A = ℕ} 0 1 = cc in absurd (omega arith)
     go (bad p) q h = let z : _≡_ {A = ℕ} 0 1 = cc in absurd (omega arith)
 
-module _ {ks : List Token} {entries names long : ℕ} (j : Judged ks entries names long) where
+module _ {ks : List Token} {entries pool long : ℕ} (j : Judged ks entries pool long) where
   pub level-accepts : Accepts (levelOf ks 0 0) 0 0 long
   level-accepts =
       record {
@@ -85,7 +86,7 @@ module _ {ks : List Token} {entries names long : ℕ} (j : Judged ks entries nam
         bytes = omega (arith, j .entries-are, j .room);
       }
 
-  pub pool-fits : placeOf entries + length (broughtFrom ks 0 (length ks)) ≤ long
+  pub pool-fits : entryStart entries + length (broughtFrom ks 0 (length ks)) ≤ long
   pool-fits =
       let b = ap length (brought-all ks (whole-level ks (j .is-ok) .0)) in
       omega (arith, b, pool-size (j .tree), j .pool-is, j .room)
@@ -93,7 +94,7 @@ module _ {ks : List Token} {entries names long : ℕ} (j : Judged ks entries nam
   pub header-fits : 10 ≤ long
   header-fits = omega (arith, j .room)
 
-  pub table-filled : {was head mid now : List ℕ} {r : Emitted} → head ≡ sets was 0 (headerBytes entries names) → Writes (levelOf ks 0 0) 0 0 head mid r → now ≡ sets mid (10 + 12 * entries) (broughtFrom ks 0 (length ks)) → Filled ks was now
+  pub table-filled : {was head mid now : List ℕ} {r : Emitted} → head ≡ sets was 0 (headerBytes entries pool) → Writes (levelOf ks 0 0) 0 0 head mid r → now ≡ sets mid (10 + 12 * entries) (broughtFrom ks 0 (length ks)) → Filled ks was now
   table-filled {was} {head} {mid} {now} h w p =
       let t = j .tree in
       let l = whole-level ks (j .is-ok) .0 in
@@ -114,6 +115,9 @@ module _ {ks : List Token} {entries names long : ℕ} (j : Judged ks entries nam
 -- ---- the refusals of a tree
 
 module _ (f : Found) (room : ℕ) where
+  pub by-4 : not (f .forms) ≡ true → 4 ≡ refusalBy f room
+  by-4 a = rw a
+
   pub by-5 : not (f .forms) ≡ false → not (f .kinds && f .logic) ≡ true → 5 ≡ refusalBy f room
   by-5 a b = rw (a, b)
 
@@ -123,11 +127,11 @@ module _ (f : Found) (room : ℕ) where
   pub by-8 : not (f .forms) ≡ false → not (f .kinds && f .logic) ≡ false → f .entries ≤ 512 → 32 < f .depth → 8 ≡ refusalBy f room
   by-8 a b c d = rw (a, b, le-ltb 512 (f .entries) c, lt-ltb 32 (f .depth) d)
 
-  pub by-9 : not (f .forms) ≡ false → not (f .kinds && f .logic) ≡ false → f .entries ≤ 512 → f .depth ≤ 32 → room < placeOf (f .entries) + f .pool → 9 ≡ refusalBy f room
-  by-9 a b c d e = rw (a, b, le-ltb 512 (f .entries) c, le-ltb 32 (f .depth) d, lt-ltb room (placeOf (f .entries) + f .pool) e)
+  pub by-9 : not (f .forms) ≡ false → not (f .kinds && f .logic) ≡ false → f .entries ≤ 512 → f .depth ≤ 32 → room < entryStart (f .entries) + f .pool → 9 ≡ refusalBy f room
+  by-9 a b c d e = rw (a, b, le-ltb 512 (f .entries) c, le-ltb 32 (f .depth) d, lt-ltb room (entryStart (f .entries) + f .pool) e)
 
-  pub by-0 : not (f .forms) ≡ false → not (f .kinds && f .logic) ≡ false → f .entries ≤ 512 → f .depth ≤ 32 → placeOf (f .entries) + f .pool ≤ room → 0 ≡ refusalBy f room
-  by-0 a b c d e = rw (a, b, le-ltb 512 (f .entries) c, le-ltb 32 (f .depth) d, le-ltb room (placeOf (f .entries) + f .pool) e)
+  pub by-0 : not (f .forms) ≡ false → not (f .kinds && f .logic) ≡ false → f .entries ≤ 512 → f .depth ≤ 32 → entryStart (f .entries) + f .pool ≤ room → 0 ≡ refusalBy f room
+  by-0 a b c d e = rw (a, b, le-ltb 512 (f .entries) c, le-ltb 32 (f .depth) d, le-ltb room (entryStart (f .entries) + f .pool) e)
 
 -- no refusal applies
 pub record Free (f : Found) (room : ℕ) : Type 0 where
@@ -136,13 +140,13 @@ pub record Free (f : Found) (room : ℕ) : Type 0 where
   pub logic : f .logic ≡ true
   pub few : f .entries ≤ 512
   pub shallow : f .depth ≤ 32
-  pub fits : placeOf (f .entries) + f .pool ≤ room
+  pub fits : entryStart (f .entries) + f .pool ≤ room
 
 pub free : (f : Found) (room : ℕ) → refusalBy f room ≡ 0 → Free f room
-free f room e = go (f .forms) (f .kinds) (f .logic) (ltb 512 (f .entries)) (ltb 32 (f .depth)) (ltb room (placeOf (f .entries) + f .pool)) refl refl refl refl refl refl e
+free f room e = go (f .forms) (f .kinds) (f .logic) (ltb 512 (f .entries)) (ltb 32 (f .depth)) (ltb room (entryStart (f .entries) + f .pool)) refl refl refl refl refl refl e
   where
-    go : (a b c d g h : Bool) → f .forms ≡ a → f .kinds ≡ b → f .logic ≡ c → ltb 512 (f .entries) ≡ d → ltb 32 (f .depth) ≡ g → ltb room (placeOf (f .entries) + f .pool) ≡ h
-        → _≡_ {A = ℕ} (cond (not a) 4 (cond (not (b && c)) 5 (cond d 7 (cond g 8 (cond h 9 0))))) 0 → Free f room
+    go : (a b c d g h : Bool) → f .forms ≡ a → f .kinds ≡ b → f .logic ≡ c → ltb 512 (f .entries) ≡ d → ltb 32 (f .depth) ≡ g → ltb room (entryStart (f .entries) + f .pool) ≡ h
+        → _≡_ {A = ℕ} (orElse (cond (not a) 4 (cond (not (b && c)) 5 (cond d 7 (cond g 8 0)))) (cond h 9 0)) 0 → Free f room
     go false b c d g h p q r s t u z = absurd (omega arith)
     go true false c d g h p q r s t u z = absurd (omega arith)
     go true true false d g h p q r s t u z = absurd (omega arith)
@@ -150,7 +154,7 @@ free f room e = go (f .forms) (f .kinds) (f .logic) (ltb 512 (f .entries)) (ltb 
     go true true true false true h p q r s t u z = absurd (omega arith)
     go true true true false false true p q r s t u z = absurd (omega arith)
     go true true true false false false p q r s t u z =
-        record { forms = p; kinds = q; logic = r; few = ltb-false 512 (f .entries) s; shallow = ltb-false 32 (f .depth) t; fits = ltb-false room (placeOf (f .entries) + f .pool) u }
+        record { forms = p; kinds = q; logic = r; few = ltb-false 512 (f .entries) s; shallow = ltb-false 32 (f .depth) t; fits = ltb-false room (entryStart (f .entries) + f .pool) u }
 
 pub refusal-by : (t : Tree) (room : ℕ) → refusalOf t room ≡ refusalBy (foundOf t) room
 unfolding refusalOf
@@ -180,5 +184,5 @@ module _ {ks : List Token} {f : Found} (k : Known ks f) (room : ℕ) {n : ℕ} (
       let same : w .tree ≡ t = let x = w .is-ok in let y = k .is-ok in cc in
       let a = ap (λ (g : Found). g .entries) (k .has) in
       let b = ap (λ (g : Found). g .pool) (k .has) in
-      let len : placeOf (f .entries) + f .pool ≡ length (encode (compile t)) = omega (arith, table-size t, a, b) in
+      let len : entryStart (f .entries) + f .pool ≡ length (encode (compile t)) = omega (arith, table-size t, a, b) in
       rw (k .is-ok, number-is, z) (record { answer = e ∙ ap (λ (x : ℕ). record { number = 0; place = 0; length = x }) len; bytes = w .bytes ∙ ap (λ (u : Tree). sets was 0 (encode (compile u))) same })

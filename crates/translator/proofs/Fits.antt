@@ -1,5 +1,5 @@
 -- The table that is answered lies in the buffer, and a refused text has none. Assumes nothing.
-use mathlib.Core.Bool.{Bool, true, false, cond, not, _&&_}
+use mathlib.Core.Bool.{Bool, true, false, cond}
 use mathlib.Core.Path.{_≡_, refl}
 use mathlib.Core.Logic.{_⊎_, inl, inr}
 use mathlib.Core.List.{List, [], map}
@@ -12,33 +12,32 @@ use Rattle.lexer.specs.Token.{Token, Placed, kindOf, pick, Lexed, tokens, refus
 use Rattle.grammar.specs.Tree.{Tree}
 use Rattle.grammar.specs.Parse.{Result, ok, bad, parseAll}
 use Rattle.grammar.specs.Nesting.{tooDeep}
-use Rattle.grammar.specs.Judge.{formsRight, kindsRight, isLogic}
-use Rattle.grammar.specs.Size.{entriesOf, depthOf}
+use Rattle.grammar.specs.Function.{orElse}
+use Rattle.grammar.specs.Answer.{foundOf, foundNumber}
 use Rattle.table.specs.Table.{encode}
 use Rattle.translator.specs.Compile.{compile}
 use Rattle.translator.specs.Translation.{Outcome, refusal, refusalOf, ofTree, ofResult, ofTokens, ofLexed, translationOf}
 use Rattle.translator.specs.Theorems.{FitsRoom, RefusedEmpty}
 
--- a tree's refusal by its tests
-abbrev numberBy : Bool → Bool → Bool → Bool → Bool → ℕ
-numberBy a b c d e = cond a 4 (cond b 5 (cond c 7 (cond d 8 (cond e 9 0))))
-
-abbrev outcomeBy : ℕ → List ℕ → Outcome
+-- a tree's answer by its number
+abbrev pub outcomeBy : ℕ → List ℕ → Outcome
 outcomeBy k table = pick (eqb k 0) (λ _. record { number = 0; place = 0; table = table }) (λ _. refusal k 0)
 
-fits-tests : (a b c d e : Bool) (table : List ℕ) (room : ℕ) → (e ≡ false → length table ≤ room) → length (outcomeBy (numberBy a b c d e) table .table) ≤ room
-fits-tests true b c d e table room h = omega arith
-fits-tests false true c d e table room h = omega arith
-fits-tests false false true d e table room h = omega arith
-fits-tests false false false true e table room h = omega arith
-fits-tests false false false false true table room h = omega arith
-fits-tests false false false false false table room h = h refl
+fits-short : (e : Bool) (table : List ℕ) (room : ℕ) → (e ≡ false → length table ≤ room) → length (outcomeBy (cond e 9 0) table .table) ≤ room
+fits-short true table room h = omega arith
+fits-short false table room h = h refl
+
+fits-number : (k : ℕ) (e : Bool) (table : List ℕ) (room : ℕ) → (e ≡ false → length table ≤ room) → length (outcomeBy (orElse k (cond e 9 0)) table .table) ≤ room
+fits-number k e table room h = go (eqb k 0) refl
+  where
+    go : (b : Bool) → eqb k 0 ≡ b → length (outcomeBy (cond b (cond e 9 0) k) table .table) ≤ room
+    go true q = fits-short e table room h
+    go false q = rw q (omega arith)
 
 fits-tree : (t : Tree) (room : ℕ) → length (ofTree t room .table) ≤ room
 unfolding ofTree refusalOf
 fits-tree t room =
-    fits-tests (not (formsRight t)) (not (kindsRight t && isLogic t)) (ltb 512 (entriesOf t)) (ltb 32 (depthOf t)) (ltb room (length (encode (compile t)))) (encode (compile t)) room
-    (λ h. ltb-false room (length (encode (compile t))) h)
+    fits-number (foundNumber (foundOf t)) (ltb room (length (encode (compile t)))) (encode (compile t)) room (λ h. ltb-false room (length (encode (compile t))) h)
 
 fits-result : (long : ℕ) (starts : List ℕ) (room : ℕ) (r : Result) → length (ofResult long starts room r .table) ≤ room
 unfolding ofResult

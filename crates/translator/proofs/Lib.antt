@@ -10,5 +10,7 @@ pub mod Brought
 pub mod Lexed
 pub mod Filling
 pub mod Answering
+pub mod Stages
 pub mod Theorems
 pub mod Fits
+pub mod Refusals

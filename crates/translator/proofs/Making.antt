@@ -13,7 +13,7 @@ use lib.Seq.{sets, sets-eq}
 use borrow.Author.Tests.{eqb-true, le-leb, lt-leb, ne-eqb}
 use mir.Syntax.{w64}
 use mir.Val.{ofZ}
-use Rattle.word.specs.Word.{leBytes}
+use Rattle.word.specs.Word.{wordBytes}
 use Rattle.table.specs.declared.Entry.{Entry}
 use Rattle.table.specs.Table.{entryBytes, entriesBytes}
 use Rattle.lexer.specs.Token.{Token, nameAt, stringAt, integerAt, realAt}
@@ -21,14 +21,14 @@ use Rattle.grammar.specs.Parse.{tokenAt}
 use Rattle.grammar.specs.Stream.{tokenOf, tokensIn}
 use Rattle.grammar.proofs.Streams.{token-at}
 use Rattle.translator.specs.Compile.{entry, leafEntry, callEntry, skipOp, skipEntries}
-use Rattle.translator.specs.Emit.{placeOf, skipCount}
+use Rattle.translator.specs.Emit.{entryStart, skipCount}
 use Rattle.translator.proofs.Stores.{sets-all, length-entry, entries-one, entries-none}
 
 -- three words over the whole of a part
-pub entry-written : (s s1 s2 s3 : List ℕ) (e : Entry) → length s ≡ 12 → s1 ≡ sets s 0 (leBytes 2 (e .op)) → s2 ≡ sets s1 2 (leBytes 2 (e .a)) → s3 ≡ sets s2 4 (leBytes 8 (e .b)) → s3 ≡ entryBytes e
-unfolding leBytes
+pub entry-written : (s s1 s2 s3 : List ℕ) (e : Entry) → length s ≡ 12 → s1 ≡ sets s 0 (wordBytes 2 (e .op)) → s2 ≡ sets s1 2 (wordBytes 2 (e .a)) → s3 ≡ sets s2 4 (wordBytes 8 (e .b)) → s3 ≡ entryBytes e
+unfolding wordBytes
 entry-written s s1 s2 s3 e n p q r =
-    r ∙ ap (λ (l : List ℕ). sets l 4 (leBytes 8 (e .b))) (q ∙ ap (λ (l : List ℕ). sets l 2 (leBytes 2 (e .a))) p) ∙ sets-all (entryBytes e) s (length-entry e ∙ sym n)
+    r ∙ ap (λ (l : List ℕ). sets l 4 (wordBytes 8 (e .b))) (q ∙ ap (λ (l : List ℕ). sets l 2 (wordBytes 2 (e .a))) p) ∙ sets-all (entryBytes e) s (length-entry e ∙ sym n)
 
 -- the part goes back to its place
 pub part-back : (s : List ℕ) (at : ℕ) (e : Entry) → at + 12 ≤ length s → take at s ++ (entryBytes e ++ drop (at + 12) s) ≡ sets s at (entryBytes e)
@@ -75,12 +75,12 @@ after-some k o i e z = let n = some-skip k o e z .0 in omega (arith, n)
 
 -- what is written of an operator
 module _ (s : List ℕ) (k o from end : ℕ) (e : o ≡ skipOp k) where
-  pub operator-alone : {now : List ℕ} {x : Entry} → o ≡ 0 → x ≡ entry k 0 0 → now ≡ sets s (placeOf end) (entryBytes x)
-      → now ≡ sets (sets s (placeOf from) (entriesBytes (skipEntries k (end - from - 1)))) (placeOf end) (entryBytes (entry k 0 0))
+  pub operator-alone : {now : List ℕ} {x : Entry} → o ≡ 0 → x ≡ entry k 0 0 → now ≡ sets s (entryStart end) (entryBytes x)
+      → now ≡ sets (sets s (entryStart from) (entriesBytes (skipEntries k (end - from - 1)))) (entryStart end) (entryBytes (entry k 0 0))
   operator-alone z ex q = q ∙ rw (no-skip k o e z .1 (end - from - 1), entries-none, ex)
 
-  pub operator-skip : {mid now : List ℕ} {x y : Entry} → (o ≡ 0 → ⊥) → y ≡ entry o (end - from - 1 + 1) 0 → mid ≡ sets s (placeOf from) (entryBytes y) → x ≡ entry k 0 0 → now ≡ sets mid (placeOf end) (entryBytes x)
-      → now ≡ sets (sets s (placeOf from) (entriesBytes (skipEntries k (end - from - 1)))) (placeOf end) (entryBytes (entry k 0 0))
+  pub operator-skip : {mid now : List ℕ} {x y : Entry} → (o ≡ 0 → ⊥) → y ≡ entry o (end - from - 1 + 1) 0 → mid ≡ sets s (entryStart from) (entryBytes y) → x ≡ entry k 0 0 → now ≡ sets mid (entryStart end) (entryBytes x)
+      → now ≡ sets (sets s (entryStart from) (entriesBytes (skipEntries k (end - from - 1)))) (entryStart end) (entryBytes (entry k 0 0))
   operator-skip z ey p ex q = q ∙ rw (some-skip k o e z .1 (end - from - 1), entries-one (entry o (end - from - 1 + 1) 0), p, ex, ey)
 
 -- ---- literals, names and calls

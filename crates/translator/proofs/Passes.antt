@@ -8,9 +8,9 @@ use mathlib.Core.List.{List, [], _∷_, _++_, append-nil}
 use mathlib.Core.Option.{some}
 use lib.Dec.{leb}
 use lib.ListN.{length, getD}
-use borrow.Author.Tests.{leb-true}
 use Rattle.word.specs.Word.{Bytes}
-use Rattle.notice.specs.Field.{printable, nameRight}
+use Rattle.notice.specs.Field.{printable}
+use Rattle.notice.proofs.Keys.{printable-bytes}
 use Rattle.opcode.specs.Opcode.{logic}
 use Rattle.table.specs.Table.{blank, encode, decode}
 use Rattle.table.specs.Check.{entriesRight, endRight, skipsRight, programRight, checkOf}
@@ -31,14 +31,6 @@ bytes-append : (xs ys : List ℕ) → Bytes xs → Bytes ys → Bytes (xs ++ ys)
 bytes-append [] ys b c i = c i
 bytes-append (x ∷ xs) ys b c zero = b 0
 bytes-append (x ∷ xs) ys b c (suc i) = bytes-append xs ys (λ j. b (suc j)) c i
-
-printable-bytes : (s : List ℕ) → printable s ≡ true → Bytes s
-printable-bytes [] e i = omega arith
-printable-bytes (b ∷ s) e zero =
-    let p = both-true (leb 32 b && leb b 126) (printable s) e in
-    let h = leb-true b 126 (both-true (leb 32 b) (leb b 126) (p .0) .1) in
-    omega arith
-printable-bytes (b ∷ s) e (suc i) = printable-bytes s (both-true (leb 32 b && leb b 126) (printable s) e .1) i
 
 leaf-bytes : (x : Token) → TokenRight x → Bytes (leafBytes x)
 leaf-bytes (name s e) r = printable-bytes s (both-true (leb 1 (length s) && leb (length s) 64) (printable s) r .1)

@@ -6,10 +6,10 @@ use mathlib.Core.List.{List, [], _∷_, _++_, append-assoc, append-nil}
 use lib.ListN.{length, set, drop, length-append}
 use lib.Seq.{sets, sets-eq, set-comm, drop-length, length-sets}
 use Rattle.word.proofs.Laws.{length-leBytes}
-use Rattle.word.specs.Word.{leBytes}
+use Rattle.word.specs.Word.{wordBytes}
 use Rattle.table.specs.declared.Entry.{Entry}
 use Rattle.table.specs.Table.{entryBytes, entriesBytes}
-use Rattle.translator.specs.Emit.{placeOf}
+use Rattle.translator.specs.Emit.{entryStart}
 
 pub sets-append : (xs ys l : List ℕ) (i : ℕ) → sets l i (xs ++ ys) ≡ sets (sets l i xs) (i + length xs) ys
 sets-append [] ys l i = let e : i + 0 ≡ i = omega arith in rw e
@@ -55,40 +55,40 @@ unfolding entriesBytes
 entries-none = refl
 
 -- some entries, and then some more after them
-pub join : (was mid now : List ℕ) (i n : ℕ) (xs ys : List Entry) → mid ≡ sets was (placeOf i) (entriesBytes xs) → now ≡ sets mid (placeOf n) (entriesBytes ys) → n ≡ i + length xs
-    → now ≡ sets was (placeOf i) (entriesBytes (xs ++ ys))
+pub join : (was mid now : List ℕ) (i n : ℕ) (xs ys : List Entry) → mid ≡ sets was (entryStart i) (entriesBytes xs) → now ≡ sets mid (entryStart n) (entriesBytes ys) → n ≡ i + length xs
+    → now ≡ sets was (entryStart i) (entriesBytes (xs ++ ys))
 join was mid now i n xs ys p q e =
-    let at : placeOf n ≡ placeOf i + length (entriesBytes xs) = omega (arith, length-entries xs) in
+    let at : entryStart n ≡ entryStart i + length (entriesBytes xs) = omega (arith, length-entries xs) in
     q
-    ∙ ap (λ (l : List ℕ). sets l (placeOf n) (entriesBytes ys)) p
-    ∙ ap (λ (m : ℕ). sets (sets was (placeOf i) (entriesBytes xs)) m (entriesBytes ys)) at
-    ∙ sym (sets-append (entriesBytes xs) (entriesBytes ys) was (placeOf i))
-    ∙ ap (sets was (placeOf i)) (sym (entries-append xs ys))
+    ∙ ap (λ (l : List ℕ). sets l (entryStart n) (entriesBytes ys)) p
+    ∙ ap (λ (m : ℕ). sets (sets was (entryStart i) (entriesBytes xs)) m (entriesBytes ys)) at
+    ∙ sym (sets-append (entriesBytes xs) (entriesBytes ys) was (entryStart i))
+    ∙ ap (sets was (entryStart i)) (sym (entries-append xs ys))
 
 -- and one more
-pub join-one : (was mid now : List ℕ) (i n : ℕ) (xs : List Entry) (e : Entry) → mid ≡ sets was (placeOf i) (entriesBytes xs) → now ≡ sets mid (placeOf n) (entryBytes e) → n ≡ i + length xs
-    → now ≡ sets was (placeOf i) (entriesBytes (xs ++ (e ∷ [])))
-join-one was mid now i n xs e p q h = join was mid now i n xs (e ∷ []) p (q ∙ ap (sets mid (placeOf n)) (sym (entries-one e))) h
+pub join-one : (was mid now : List ℕ) (i n : ℕ) (xs : List Entry) (e : Entry) → mid ≡ sets was (entryStart i) (entriesBytes xs) → now ≡ sets mid (entryStart n) (entryBytes e) → n ≡ i + length xs
+    → now ≡ sets was (entryStart i) (entriesBytes (xs ++ (e ∷ [])))
+join-one was mid now i n xs e p q h = join was mid now i n xs (e ∷ []) p (q ∙ ap (sets mid (entryStart n)) (sym (entries-one e))) h
 
 -- the left side; then the right side, with the skip's stretch left free before it; then the skip and the operator
 pub between : (was mid right now : List ℕ) (i n m : ℕ) (xs ss us : List Entry) (e : Entry)
-    → mid ≡ sets was (placeOf i) (entriesBytes xs) → n ≡ i + length xs
-    → right ≡ sets mid (placeOf (n + length ss)) (entriesBytes us) → m ≡ n + length ss + length us
-    → now ≡ sets (sets right (placeOf n) (entriesBytes ss)) (placeOf m) (entryBytes e)
-    → now ≡ sets was (placeOf i) (entriesBytes (xs ++ (ss ++ (us ++ (e ∷ [])))))
+    → mid ≡ sets was (entryStart i) (entriesBytes xs) → n ≡ i + length xs
+    → right ≡ sets mid (entryStart (n + length ss)) (entriesBytes us) → m ≡ n + length ss + length us
+    → now ≡ sets (sets right (entryStart n) (entriesBytes ss)) (entryStart m) (entryBytes e)
+    → now ≡ sets was (entryStart i) (entriesBytes (xs ++ (ss ++ (us ++ (e ∷ [])))))
 between was mid right now i n m xs ss us e p pn q qm r =
     let ls = length-entries ss in
-    let skipped = sets mid (placeOf n) (entriesBytes ss) in
-    let swap : sets right (placeOf n) (entriesBytes ss) ≡ sets skipped (placeOf (n + length ss)) (entriesBytes us) =
-    ap (λ (l : List ℕ). sets l (placeOf n) (entriesBytes ss)) q ∙ sets-swap (entriesBytes ss) (entriesBytes us) mid (placeOf n) (placeOf (n + length ss)) (omega arith) in
-    let two : skipped ≡ sets was (placeOf i) (entriesBytes (xs ++ ss)) = join was mid skipped i n xs ss p refl pn in
+    let skipped = sets mid (entryStart n) (entriesBytes ss) in
+    let swap : sets right (entryStart n) (entriesBytes ss) ≡ sets skipped (entryStart (n + length ss)) (entriesBytes us) =
+    ap (λ (l : List ℕ). sets l (entryStart n) (entriesBytes ss)) q ∙ sets-swap (entriesBytes ss) (entriesBytes us) mid (entryStart n) (entryStart (n + length ss)) (omega arith) in
+    let two : skipped ≡ sets was (entryStart i) (entriesBytes (xs ++ ss)) = join was mid skipped i n xs ss p refl pn in
     let l2 = length-append xs ss in
-    let three : sets right (placeOf n) (entriesBytes ss) ≡ sets was (placeOf i) (entriesBytes ((xs ++ ss) ++ us)) =
-    join was skipped (sets right (placeOf n) (entriesBytes ss)) i (n + length ss) (xs ++ ss) us two swap (omega arith) in
+    let three : sets right (entryStart n) (entriesBytes ss) ≡ sets was (entryStart i) (entriesBytes ((xs ++ ss) ++ us)) =
+    join was skipped (sets right (entryStart n) (entriesBytes ss)) i (n + length ss) (xs ++ ss) us two swap (omega arith) in
     let l3 = length-append (xs ++ ss) us in
-    let four : now ≡ sets was (placeOf i) (entriesBytes (((xs ++ ss) ++ us) ++ (e ∷ []))) =
-    join-one was (sets right (placeOf n) (entriesBytes ss)) now i m ((xs ++ ss) ++ us) e three r (omega arith) in
-    four ∙ ap (λ (l : List Entry). sets was (placeOf i) (entriesBytes l)) (simp append-assoc)
+    let four : now ≡ sets was (entryStart i) (entriesBytes (((xs ++ ss) ++ us) ++ (e ∷ []))) =
+    join-one was (sets right (entryStart n) (entriesBytes ss)) now i m ((xs ++ ss) ++ us) e three r (omega arith) in
+    four ∙ ap (λ (l : List Entry). sets was (entryStart i) (entriesBytes l)) (simp append-assoc)
 
 -- writing keeps the length
 pub kept-by : (s now : List ℕ) (at : ℕ) (xs : List ℕ) → now ≡ sets s at xs → length now ≡ length s

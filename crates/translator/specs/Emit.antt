@@ -1,26 +1,26 @@
 -- What the writer of entries asks and leaves, of the result of the parser at a token.
 use Prim.Native.Nat.{ℕ, _+_, _*_, _≤_}
 use mathlib.Core.Path.{_≡_}
-use mathlib.Core.Bool.{cond, not, _&&_}
+use mathlib.Core.Bool.{cond}
 use mathlib.Core.List.{List, _++_}
-use lib.Dec.{ltb}
 use lib.ListN.{length}
 use lib.Seq.{sets}
-use Rattle.word.specs.Word.{leBytes}
+use Rattle.word.specs.Word.{wordBytes}
 use Rattle.table.specs.Table.{entriesBytes, encode}
 use Rattle.lexer.specs.Token.{Token}
 use Rattle.grammar.specs.Tree.{Tree}
 use Rattle.grammar.specs.Parse.{Result, ok, parseAll}
 use Rattle.grammar.specs.Size.{skips, entriesOf, poolOf}
-use Rattle.grammar.specs.Answer.{foundOf}
+use Rattle.grammar.specs.Answer.{foundOf, foundNumber}
 use Rattle.grammar.specs.declared.found.Found.{Found}
 use Rattle.translator.specs.Compile.{codeOf, compile}
+use Rattle.translator.specs.Translation.{orShort}
 use Rattle.translator.specs.declared.Emitted.{Emitted}
 use Rattle.translator.specs.declared.Translated.{Translated}
 
 -- "N entries of 12 bytes" after the header of 10: where the entry i stands
-abbrev pub placeOf : ℕ → ℕ
-placeOf i = 10 + 12 * i
+abbrev pub entryStart : ℕ → ℕ
+entryStart i = 10 + 12 * i
 
 -- The parser accepts, and the tree's entries from the entry i on, with its pool bytes from `at` on, are within the limits and the buffer's length.
 pub record Accepts (x : Result) (i at long : ℕ) : Type 0 where
@@ -29,7 +29,7 @@ pub record Accepts (x : Result) (i at long : ℕ) : Type 0 where
   pub is-ok : x ≡ ok tree next
   pub entries : i + entriesOf tree ≤ 512
   pub pool : at + poolOf tree ≤ 4096
-  pub bytes : placeOf (i + entriesOf tree) ≤ long
+  pub bytes : entryStart (i + entriesOf tree) ≤ long
 
 -- The tree's entries stand in the buffer, and every other byte is as it was; the answer tells the token, the entry and the pool's byte that come next.
 pub record Writes (x : Result) (i at : ℕ) (was now : List ℕ) (r : Emitted) : Type 0 where
@@ -37,7 +37,7 @@ pub record Writes (x : Result) (i at : ℕ) (was now : List ℕ) (r : Emitted) :
   pub is-ok : x ≡ ok tree (r .next)
   pub end : r .end ≡ i + entriesOf tree
   pub pool : r .pool ≡ at + poolOf tree
-  pub bytes : now ≡ sets was (placeOf i) (entriesBytes (codeOf at tree))
+  pub bytes : now ≡ sets was (entryStart i) (entriesBytes (codeOf at tree))
 
 -- the entries that the skip before a right side takes
 abbrev pub skipCount : ℕ → ℕ
@@ -51,7 +51,7 @@ pub record Judged (ks : List Token) (entries pool long : ℕ) : Type 0 where
   pub pool-is : pool ≡ poolOf tree
   pub few : entries ≤ 512
   pub small : pool ≤ 4096
-  pub room : placeOf entries + pool ≤ long
+  pub room : entryStart entries + pool ≤ long
 
 -- The table of the tree stands at the start of the buffer, and every later byte is as it was.
 pub record Filled (ks : List Token) (was now : List ℕ) : Type 0 where
@@ -68,17 +68,12 @@ pub record Known (ks : List Token) (f : Found) : Type 0 where
 
 -- the answer of a table of so many entries and pool bytes
 abbrev pub tableAnswer : ℕ → ℕ → Translated
-tableAnswer entries pool = record { number = 0; place = 0; length = placeOf entries + pool }
+tableAnswer entries pool = record { number = 0; place = 0; length = entryStart entries + pool }
 
 -- "u32 length of all after it; u16 kind 2; u16 entry count N ..; u16 pool length .."
 abbrev pub headerBytes : ℕ → ℕ → List ℕ
-headerBytes entries pool = leBytes 4 (6 + 12 * entries + pool) ++ (leBytes 2 2 ++ (leBytes 2 entries ++ leBytes 2 pool))
+headerBytes entries pool = wordBytes 4 (6 + 12 * entries + pool) ++ (wordBytes 2 2 ++ (wordBytes 2 entries ++ wordBytes 2 pool))
 
--- the first of the refusals 4, 5, 7, 8 and 9, by what is known of the expression
+-- `refusalOf` of specs/Translation.antt, by what is known of the expression
 abbrev pub refusalBy : Found → ℕ → ℕ
-refusalBy f room =
-    cond (not (f .forms)) 4
-    (cond (not (f .kinds && f .logic)) 5
-    (cond (ltb 512 (f .entries)) 7
-    (cond (ltb 32 (f .depth)) 8
-    (cond (ltb room (placeOf (f .entries) + f .pool)) 9 0))))
+refusalBy f room = orShort (foundNumber f) (entryStart (f .entries) + f .pool) room

@@ -1,16 +1,18 @@
--- What holds of every translation. The proofs are in proofs/Theorems.antt, those of `FitsRoom` and `RefusedEmpty` in proofs/Fits.antt, under the same names.
-use Prim.Native.Nat.{ℕ, _≤_}
+-- What holds of every translation. The proofs are in proofs/Theorems.antt, that of `GivenExactly` in proofs/Refusals.antt, those of `FitsRoom` and `RefusedEmpty` in proofs/Fits.antt, under the same names.
+use Prim.Native.Nat.{ℕ, _≤_, _<_}
 use mathlib.Core.Path.{_≡_}
-use mathlib.Core.Bool.{true, false}
+use mathlib.Core.Bool.{true, false, _&&_}
 use mathlib.Core.List.{List, [], map}
 use mathlib.Core.Logic.{_↔_, _⊎_}
-use lib.ListN.{length}
+use lib.ListN.{length, getD}
 use Rattle.word.specs.Word.{Bytes}
 use Rattle.table.specs.Table.{encode, decode}
 use Rattle.table.specs.Check.{checkOf}
 use Rattle.lexer.specs.Token.{Placed, kindOf, tokens, tokensOf}
+use Rattle.lexer.specs.Theorems.{Laid, BadToken}
 use Rattle.grammar.specs.Tree.{Tree}
 use Rattle.grammar.specs.Grammar.{Level}
+use Rattle.grammar.specs.Place.{Breaks}
 use Rattle.grammar.specs.Nesting.{tooDeep}
 use Rattle.grammar.specs.Judge.{formsRight, kindsRight, isLogic}
 use Rattle.grammar.specs.Size.{entriesOf, depthOf}
@@ -18,16 +20,23 @@ use Rattle.translator.specs.Compile.{codeOf, compile}
 use Rattle.translator.specs.Depth.{mostSlots}
 use Rattle.translator.specs.Translation.{translationOf}
 
--- An accepted text and its tree: no refusal of translation applies "but perhaps that for a short buffer". It has legal tokens alone (10, 1, 3), is not nested too
--- deep (6), the grammar derives the tree from its tokens (2), and the tree's forms, kinds and sizes are right (4, 5, 7, 8).
-pub record Accepted (s : List ℕ) (t : Tree) : Type 0 where
+-- A text that is one expression, and its tree: it has legal tokens alone (10, 1, 3), is not nested too deep (6), and the grammar derives the tree from its tokens (2).
+pub record Expression (s : List ℕ) (t : Tree) : Type 0 where
   pub placed : List Placed
   pub lexed : tokensOf s ≡ tokens placed
   pub shallow : tooDeep (map (λ p. kindOf (p .token)) placed) ≡ false
   pub derived : Level 0 (map (λ p. p .token) placed) t
+
+-- The tree's forms and kinds are right (4, 5).
+pub record Right (t : Tree) : Type 0 where
   pub forms : formsRight t ≡ true
   pub kinds : kindsRight t ≡ true
   pub logic : isLogic t ≡ true
+
+-- An accepted text and its tree: no refusal of translation applies "but perhaps that for a short buffer". The sizes are right too (7, 8).
+pub record Accepted (s : List ℕ) (t : Tree) : Type 0 where
+  pub expression : Expression s t
+  pub right : Right t
   pub few : entriesOf t ≤ 512
   pub low : depthOf t ≤ 32
 
@@ -50,9 +59,44 @@ Decodes = (s : List ℕ) (t : Tree) → Bytes s → Accepted s t → decode (enc
 abbrev pub PassesCheck : Type 0
 PassesCheck = (s : List ℕ) (t : Tree) → Bytes s → Accepted s t → checkOf (encode (compile t)) ≡ true
 
--- What the refusals 7 and 8 judge is the table's own: its entries, and the most slots that it holds at once in their order.
+-- What the refusals 7 and 8 judge is the table's own, of every text that the grammar derives with right forms and kinds, of whatever size: its entries, and the most
+-- slots that it holds at once in their order.
 abbrev pub TableSizes : Type 0
-TableSizes = (s : List ℕ) (t : Tree) → Bytes s → Accepted s t → (length (codeOf 0 t) ≡ entriesOf t) × (mostSlots (codeOf 0 t) 0 ≡ depthOf t)
+TableSizes =
+    (s : List ℕ) (ps : List Placed) (t : Tree)
+    → Bytes s → tokensOf s ≡ tokens ps → Level 0 (map (λ p. p .token) ps) t → formsRight t ≡ true → kindsRight t ≡ true
+    → (length (codeOf 0 t) ≡ entriesOf t) × (mostSlots (codeOf 0 t) 0 ≡ depthOf t)
+
+-- "Given exactly if": each number of translation with its place, of the text and the buffer's length alone; and 0 where none is given.
+pub data Given (s : List ℕ) (room : ℕ) : ℕ → ℕ → Type 0 where
+  -- "text over 4,096 bytes"
+  long : 4096 < length s → Given s room 10 0
+  -- "a token has no legal form": the first bad token, at its start, after legal tokens and whitespace
+  formless : (place : ℕ) (ps : List Placed) → length s ≤ 4096 → Laid (BadToken 1 place) 0 ps s → Given s room 1 place
+  -- "legal form, but number or name outside its limits"
+  outside : (place : ℕ) (ps : List Placed) → length s ≤ 4096 → Laid (BadToken 3 place) 0 ps s → Given s room 3 place
+  -- "over 24 parentheses open at once .., or over 24 of `!` `~` in a row"
+  deep : (ps : List Placed) → tokensOf s ≡ tokens ps → tooDeep (map (λ p. kindOf (p .token)) ps) ≡ true → Given s room 6 0
+  -- "grammar not kept": at "the start of the first token after which the grammar allows no completion, limits aside, or the text's length"
+  broken : (ps : List Placed) (q : ℕ) → tokensOf s ≡ tokens ps → tooDeep (map (λ p. kindOf (p .token)) ps) ≡ false → Breaks (map (λ p. p .token) ps) q
+      → Given s room 2 (getD (map (λ p. p .start) ps) q (length s))
+  -- "unknown function, wrong argument count or form"
+  form : (t : Tree) → Expression s t → formsRight t ≡ false → Given s room 4 0
+  -- "kind wrong"
+  kind : (t : Tree) → Expression s t → formsRight t ≡ true → (kindsRight t && isLogic t) ≡ false → Given s room 5 0
+  -- "over 512 entries", of the table
+  many : (t : Tree) → Expression s t → Right t → 512 < length (codeOf 0 t) → Given s room 7 0
+  -- "stack over 32", of the table
+  high : (t : Tree) → Expression s t → Right t → length (codeOf 0 t) ≤ 512 → 32 < mostSlots (codeOf 0 t) 0 → Given s room 8 0
+  -- "lent buffer shorter than the table"
+  short : (t : Tree) → Accepted s t → room < length (encode (compile t)) → Given s room 9 0
+  none : (t : Tree) → Accepted s t → length (encode (compile t)) ≤ room → Given s room 0 0
+
+-- Translation answers a number and a place exactly if they are given.
+abbrev pub GivenExactly : Type 0
+GivenExactly =
+    (s : List ℕ) (room number place : ℕ) → Bytes s
+    → ((translationOf s room .number ≡ number) × (translationOf s room .place ≡ place)) ↔ Given s room number place
 
 -- The table that is answered, none where the text is refused, lies in the buffer.
 abbrev pub FitsRoom : Type 0

@@ -1,17 +1,21 @@
 -- Translation: number, place and table for every text and every buffer. Document 01, "Refusals by number".
 use Prim.Native.Nat.{ℕ, _≤_}
 use mathlib.Core.Path.{_≡_}
-use mathlib.Core.Bool.{cond, not, _&&_}
+use mathlib.Core.Bool.{cond}
 use mathlib.Core.List.{List, [], map}
 use lib.Dec.{eqb, ltb}
 use lib.ListN.{length, getD}
 use lib.Seq.{sets}
 use Rattle.lexer.specs.Token.{Token, Placed, kindOf, pick, Lexed, tokens, refused, tokensOf}
+use Rattle.lexer.specs.Answer as lexing
+use Rattle.lexer.specs.declared.Lexing.the-variants.{Refused}
 use Rattle.grammar.specs.Tree.{Tree}
 use Rattle.grammar.specs.Parse.{Result, ok, bad, parseAll}
 use Rattle.grammar.specs.Nesting.{tooDeep}
-use Rattle.grammar.specs.Judge.{formsRight, kindsRight, isLogic}
-use Rattle.grammar.specs.Size.{entriesOf, poolOf, depthOf}
+use Rattle.grammar.specs.Function.{orElse}
+use Rattle.grammar.specs.Size.{poolOf}
+use Rattle.grammar.specs.Answer.{foundOf, foundNumber, numberOf, placeOf}
+use Rattle.grammar.specs.declared.Parsed.the-variants.{Broken}
 use Rattle.table.specs.Table.{encode}
 use Rattle.translator.specs.Compile.{compile}
 use Rattle.translator.specs.declared.Translated.{Translated}
@@ -25,14 +29,13 @@ pub record Outcome : Type 0 where
 abbrev pub refusal : ℕ → ℕ → Outcome
 refusal number place = record { number = number; place = place; table = [] }
 
+-- "9 | lent buffer shorter than the table", of so many bytes, where no other number is given
+abbrev pub orShort : ℕ → ℕ → ℕ → ℕ
+orShort number size room = orElse number (cond (ltb room size) 9 0)
+
 -- "4, 5, 7, 8, 9", the first that applies to a tree, for a buffer of so many bytes; 0 if none does
 unfoldable pub refusalOf : Tree → ℕ → ℕ
-refusalOf t room =
-    cond (not (formsRight t)) 4
-    (cond (not (kindsRight t && isLogic t)) 5
-    (cond (ltb 512 (entriesOf t)) 7
-    (cond (ltb 32 (depthOf t)) 8
-    (cond (ltb room (length (encode (compile t)))) 9 0))))
+refusalOf t room = orShort (foundNumber (foundOf t)) (length (encode (compile t))) room
 
 unfoldable pub ofTree : Tree → ℕ → Outcome
 ofTree t room = pick (eqb (refusalOf t room) 0) (λ _. record { number = 0; place = 0; table = encode (compile t) }) (λ _. refusal (refusalOf t room) 0)
@@ -40,7 +43,7 @@ ofTree t room = pick (eqb (refusalOf t room) 0) (λ _. record { number = 0; plac
 -- "2 | grammar not kept", with its place: the start of the token that the parser names, or the text's length
 unfoldable pub ofResult : ℕ → List ℕ → ℕ → Result → Outcome
 ofResult long starts room (ok t n) = ofTree t room
-ofResult long starts room (bad p) = refusal 2 (getD starts p long)
+ofResult long starts room (bad p) = refusal (numberOf (Broken p)) (getD starts (placeOf (Broken p)) long)
 
 -- "6", then what the parser says; by the tokens' kinds and starts
 unfoldable pub ofTokens : ℕ → List ℕ → List ℕ → ℕ → List Token → Outcome
@@ -49,7 +52,7 @@ ofTokens long kinds starts room ks = pick (tooDeep kinds) (λ _. refusal 6 0) (�
 -- "10, then 1 or 3 at the first bad token"
 unfoldable pub ofLexed : ℕ → ℕ → Lexed → Outcome
 ofLexed long room (tokens ps) = ofTokens long (map (λ p. kindOf (p .token)) ps) (map (λ p. p .start) ps) room (map (λ p. p .token) ps)
-ofLexed long room (refused number place ps) = refusal number place
+ofLexed long room (refused number place ps) = refusal (lexing.numberOf (Refused number place)) (lexing.placeOf (Refused number place))
 
 -- "Translation, first that applies in this order: 10, then 1 or 3 at the first bad token, 6, 2, 4, 5, 7, 8, 9."
 unfoldable pub translationOf : List ℕ → ℕ → Outcome

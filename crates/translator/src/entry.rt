@@ -8,7 +8,7 @@ ghost use Rattle.grammar.specs.Parse.{tokenAt};
 ghost use Rattle.grammar.specs.Stream.{tokensIn};
 ghost use Rattle.table.specs.Table.{entryBytes, entriesBytes};
 ghost use Rattle.translator.specs.Compile.{entry, leafEntry, callEntry, skipOp, skipEntries};
-ghost use Rattle.translator.specs.Emit.{placeOf, skipCount};
+ghost use Rattle.translator.specs.Emit.{entryStart, skipCount};
 use grammar::stream;
 use table::Entry;
 
@@ -24,8 +24,8 @@ fn put_entry(part: &mut [u8], e: Entry)
 
 // Lends the entry's own stretch of the buffer to the entry writer; every other byte stays.
 pub fn put(out: &mut [u8], i: usize, e: Entry)
-    requires { ⌜ (i < 512) × (placeOf (i + 1) ≤ length (now out)) ⌝ }
-    ensures { λ _. ⌜ now (out .exit) ≡ sets (now (out .entry)) (placeOf i) (entryBytes e) ⌝ }
+    requires { ⌜ (i < 512) × (entryStart (i + 1) ≤ length (now out)) ⌝ }
+    ensures { λ _. ⌜ now (out .exit) ≡ sets (now (out .entry)) (entryStart i) (entryBytes e) ⌝ }
 {
     let at = 10 + 12 * i;
     put_entry(&mut out[at..at + 12], e);
@@ -125,8 +125,8 @@ fn skip_entry(skip: u16, n: usize) -> Entry
 
 // Writes a binary operator as the entry `end`, and the skip, if it has one, as the entry `from`, before its right side.
 pub fn put_operator(out: &mut [u8], k: u8, from: usize, end: usize)
-    requires { ⌜ (from < end) × (end < 512) × (placeOf (end + 1) ≤ length (now out)) ⌝ }
-    ensures { λ _. ⌜ now (out .exit) ≡ sets (sets (now (out .entry)) (placeOf from) (entriesBytes (skipEntries k (end - from - 1)))) (placeOf end) (entryBytes (entry k 0 0)) ⌝ }
+    requires { ⌜ (from < end) × (end < 512) × (entryStart (end + 1) ≤ length (now out)) ⌝ }
+    ensures { λ _. ⌜ now (out .exit) ≡ sets (sets (now (out .entry)) (entryStart from) (entriesBytes (skipEntries k (end - from - 1)))) (entryStart end) (entryBytes (entry k 0 0)) ⌝ }
 {
     let skip = skip_op(k);
     if skip == 0 {

@@ -39,7 +39,7 @@ fn level(
     let first = prefix(text, kinds, starts, out, at, i, pool);
     let mut next = first.next;
     let mut end = first.end;
-    let mut names = first.pool;
+    let mut pool_end = first.pool;
     loop {
         let k = stream::kind(kinds, next);
         let r = stream::rank(k);
@@ -47,23 +47,23 @@ fn level(
             return Emitted {
                 next: next,
                 end: end,
-                pool: names,
+                pool: pool_end,
             };
         }
         if 11 <= r {
             return Emitted {
                 next: next,
                 end: end,
-                pool: names,
+                pool: pool_end,
             };
         }
         let from = entry::after_skip(k, end);
-        let right = level(text, kinds, starts, out, next + 1, r + 1, from, names);
+        let right = level(text, kinds, starts, out, next + 1, r + 1, from, pool_end);
         let last = right.end;
         entry::put_operator(out, k, end, last);
         next = right.next;
         end = last + 1;
-        names = right.pool;
+        pool_end = right.pool;
     }
 }
 
@@ -150,20 +150,20 @@ fn arguments(
     }
     let mut next = at + 2;
     let mut end = i;
-    let mut names = pool;
+    let mut pool_end = pool;
     let mut count: usize = 0;
     loop {
-        let arg = level(text, kinds, starts, out, next, 0, end, names);
+        let arg = level(text, kinds, starts, out, next, 0, end, pool_end);
         let after = arg.next;
         end = arg.end;
-        names = arg.pool;
+        pool_end = arg.pool;
         count += 1;
         if stream::kind(kinds, after) == 10 {
             entry::put(out, end, entry::call_entry(function, count));
             return Emitted {
                 next: after + 1,
                 end: end + 1,
-                pool: names,
+                pool: pool_end,
             };
         }
         next = after + 1;
@@ -171,29 +171,22 @@ fn arguments(
 }
 
 // "u32 length of all after it; u16 kind 2; u16 entry count N ..; u16 pool length .."
-fn put_header(out: &mut [u8], entries: usize, names: usize)
-    requires { ⌜ (entries ≤ 512) × (names ≤ 4096) × (10 ≤ length (now out)) ⌝ }
-    ensures { λ _. ⌜ now (out .exit) ≡ sets (now (out .entry)) 0 (headerBytes entries names) ⌝ }
+fn put_header(out: &mut [u8], entries: usize, pool: usize)
+    requires { ⌜ (entries ≤ 512) × (pool ≤ 4096) × (10 ≤ length (now out)) ⌝ }
+    ensures { λ _. ⌜ now (out .exit) ≡ sets (now (out .entry)) 0 (headerBytes entries pool) ⌝ }
 {
-    word::write_u32(out, 0, (6 + 12 * entries + names) as u32);
+    word::write_u32(out, 0, (6 + 12 * entries + pool) as u32);
     word::write_u16(out, 4, 2);
     word::write_u16(out, 6, entries as u16);
-    word::write_u16(out, 8, names as u16);
+    word::write_u16(out, 8, pool as u16);
 }
 
 // The whole table: header, entries, pool.
-fn put_table(
-    text: &[u8],
-    kinds: &[u8],
-    starts: &[u16],
-    out: &mut [u8],
-    entries: usize,
-    names: usize,
-)
-    requires { ⌜ (length (now text) ≤ 4096) × (length (now kinds) ≤ 4096) × Judged (tokensIn (now text) (now kinds) (now starts)) entries names (length (now out)) ⌝ }
+fn put_table(text: &[u8], kinds: &[u8], starts: &[u16], out: &mut [u8], entries: usize, pool: usize)
+    requires { ⌜ (length (now text) ≤ 4096) × (length (now kinds) ≤ 4096) × Judged (tokensIn (now text) (now kinds) (now starts)) entries pool (length (now out)) ⌝ }
     ensures { λ _. ⌜ Filled (tokensIn (now (text .entry)) (now (kinds .entry)) (now (starts .entry))) (now (out .entry)) (now (out .exit)) ⌝ }
 {
-    put_header(out, entries, names);
+    put_header(out, entries, pool);
     level(text, kinds, starts, out, 0, 0, 0, 0);
     pool::put_pool(text, kinds, starts, out, 10 + 12 * entries);
 }
@@ -256,17 +249,17 @@ fn accepted(
     starts: &[u16],
     buffer: &mut [u8],
     entries: usize,
-    names: usize,
+    pool: usize,
 ) -> Translated
-    requires { ⌜ (length (now text) ≤ 4096) × (length (now kinds) ≤ 4096) × Judged (tokensIn (now text) (now kinds) (now starts)) entries names (length (now buffer)) ⌝ }
-    ensures { λ r. ⌜ r ≡ tableAnswer entries names ⌝ }
+    requires { ⌜ (length (now text) ≤ 4096) × (length (now kinds) ≤ 4096) × Judged (tokensIn (now text) (now kinds) (now starts)) entries pool (length (now buffer)) ⌝ }
+    ensures { λ r. ⌜ r ≡ tableAnswer entries pool ⌝ }
     ensures { λ _. ⌜ Filled (tokensIn (now (text .entry)) (now (kinds .entry)) (now (starts .entry))) (now (buffer .entry)) (now (buffer .exit)) ⌝ }
 {
-    put_table(text, kinds, starts, buffer, entries, names);
+    put_table(text, kinds, starts, buffer, entries, pool);
     Translated {
         number: 0,
         place: 0,
-        length: 10 + 12 * entries + names,
+        length: 10 + 12 * entries + pool,
     }
 }
 

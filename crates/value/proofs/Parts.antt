@@ -11,7 +11,7 @@ use lib.ListN.{length, take, drop, getD, length-drop, length-take, drop-of-lengt
 use lib.Seq.{take-all, take-nil, drop-length}
 use Rattle.octets.specs.Octets.{folded}
 use Rattle.octets.proofs.Theorems.{folded-twice, not-folded}
-use Rattle.word.specs.Word.{le}
+use Rattle.word.specs.Word.{wordAt}
 
 -- a part that starts past the end is empty, one that ends past the end is the rest, and any other is as long as it says
 pub past : (s : List ℕ) (start len : ℕ) → length s ≤ start → take (length s - length s) (drop (length s) s) ≡ take len (drop start s)
@@ -41,18 +41,18 @@ length-folded m [] = refl
 length-folded m (x ∷ xs) = ap suc (length-folded m xs)
 
 -- a word of which bytes are not there
-past-end : (k : ℕ) (s : List ℕ) (at : ℕ) → length s ≤ at → le k s at ≡ 0
-unfolding le
+past-end : (k : ℕ) (s : List ℕ) (at : ℕ) → length s ≤ at → wordAt k s at ≡ 0
+unfolding wordAt
 past-end zero s at h = refl
 past-end (suc k) s at h = rw (List·getD-eq-default s 0 h, past-end k s (suc at) (omega arith))
 
-cut : (n k : ℕ) (s : List ℕ) (at : ℕ) → length s ≤ at + n → le (n + k) s at ≡ le n s at
-unfolding le
+cut : (n k : ℕ) (s : List ℕ) (at : ℕ) → length s ≤ at + n → wordAt (n + k) s at ≡ wordAt n s at
+unfolding wordAt
 cut zero k s at h = rw zero-add (past-end k s at (omega arith))
 cut (suc n) k s at h = rw suc-add (ap (λ (v : ℕ). getD s at 0 + 256 * v) (cut n k s (suc at) (omega arith)))
 
-pub short-word : (k : ℕ) (s : List ℕ) → length s < k → le (length s) s 0 ≡ le k s 0
-short-word k s h = sym (ap (λ (n : ℕ). le n s 0) e ∙ cut (length s) (k - length s) s 0 (omega arith))
+pub short-word : (k : ℕ) (s : List ℕ) → length s < k → wordAt (length s) s 0 ≡ wordAt k s 0
+short-word k s h = sym (ap (λ (n : ℕ). wordAt n s 0) e ∙ cut (length s) (k - length s) s 0 (omega arith))
   where
     e : k ≡ length s + (k - length s)
     e = omega arith

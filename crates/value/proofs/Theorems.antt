@@ -40,7 +40,7 @@ use Rattle.notice.specs.Field.{Field}
 use Rattle.notice.specs.Layout.{fieldsOf}
 use Rattle.notice.specs.Lookup.{lookupOf, fieldNamed, FoundIs}
 use Rattle.notice.proofs.Theorems.{lookup}
-use Rattle.value.specs.Value.{Value, missing, opaque, Item, logic, value, numberOf, valueOf, typeOf, isText, textIn, equalValues, combineNumbers, combineOf, compareOf, fitOf, allTexts, anyFits, anyFit, anyEqual, fitValues, truthIn, valueIn, strictOr, tallyOf, startOf, fieldValue, foundValue, namedValue, valueNamed, inPool, int32, int64, real, text}
+use Rattle.value.specs.Value.{Value, bottom, opaque, Item, logic, value, numberOf, valueOf, typeOf, isText, textIn, equalValues, combineNumbers, combineOf, compareOf, fitOf, allTexts, anyFits, anyFit, anyEqual, fitValues, truthIn, valueIn, strictOr, tallyOf, startOf, fieldValue, foundValue, namedValue, valueNamed, inPool, int32, int64, real, text}
 use Rattle.value.specs.Theorems.{UnaryKind, BinaryKind, ManyKind, LoadKind, StrictUnary, StrictBinary, StrictMany, LaterNoText, EqualsTrue, FalseAnd, TrueOr, EqualOtherwise, Tally, ValueNamed, LoadInt32, LoadInt64, LoadReal64, LoadText, LoadName}
 
 pub unary-kind : UnaryKind
@@ -89,50 +89,50 @@ and-false : (t : Bool) → (t && false) ≡ false
 and-false true = refl
 and-false false = refl
 
-missing-equal : (v : Value) → (equalValues missing v ≡ Bottom) × (equalValues v missing ≡ Bottom)
-missing-equal v = (none-equal (numberOf v) .0, rw (and-false (isText v)) (none-equal (numberOf v) .1))
+bottom-equal : (v : Value) → (equalValues bottom v ≡ Bottom) × (equalValues v bottom ≡ Bottom)
+bottom-equal v = (none-equal (numberOf v) .0, rw (and-false (isText v)) (none-equal (numberOf v) .1))
 
-missing-compare : (o : Compare) (v : Value) → (compareOf o missing v ≡ Bottom) × (compareOf o v missing ≡ Bottom)
-missing-compare Compare.Equal v = missing-equal v
-missing-compare Compare.NotEqual v = (rw (missing-equal v .0), rw (missing-equal v .1))
-missing-compare (Compare.Order o) v =
+bottom-compare : (o : Compare) (v : Value) → (compareOf o bottom v ≡ Bottom) × (compareOf o v bottom ≡ Bottom)
+bottom-compare Compare.Equal v = bottom-equal v
+bottom-compare Compare.NotEqual v = (rw (bottom-equal v .0), rw (bottom-equal v .1))
+bottom-compare (Compare.Order o) v =
     (left-none (numberOf v) Arithmetic.Add Bitwise.And Shift.Left o .4, right-none (numberOf v) Arithmetic.Add Bitwise.And Shift.Left o .4)
 
--- where either side is missing, nothing else need be known
-is-missing : (v : Value) → eqb (typeOf v) 0 ≡ true → v ≡ missing
-is-missing missing e = refl
-is-missing (int32 z) e = true-false (sym e)
-is-missing (int64 z) e = true-false (sym e)
-is-missing (real x) e = true-false (sym e)
-is-missing (text s) e = true-false (sym e)
-is-missing (opaque s) e = true-false (sym e)
+-- where either side is bottom, nothing else need be known
+is-bottom : (v : Value) → eqb (typeOf v) 0 ≡ true → v ≡ bottom
+is-bottom bottom e = refl
+is-bottom (int32 z) e = true-false (sym e)
+is-bottom (int64 z) e = true-false (sym e)
+is-bottom (real x) e = true-false (sym e)
+is-bottom (text s) e = true-false (sym e)
+is-bottom (opaque s) e = true-false (sym e)
 
-which-missing : (v w : Value) → (eqb (typeOf v) 0 || eqb (typeOf w) 0) ≡ true → (v ≡ missing) ⊎ (w ≡ missing)
-which-missing missing w e = inl refl
-which-missing (int32 z) w e = inr (is-missing w e)
-which-missing (int64 z) w e = inr (is-missing w e)
-which-missing (real x) w e = inr (is-missing w e)
-which-missing (text s) w e = inr (is-missing w e)
-which-missing (opaque s) w e = inr (is-missing w e)
+which-bottom : (v w : Value) → (eqb (typeOf v) 0 || eqb (typeOf w) 0) ≡ true → (v ≡ bottom) ⊎ (w ≡ bottom)
+which-bottom bottom w e = inl refl
+which-bottom (int32 z) w e = inr (is-bottom w e)
+which-bottom (int64 z) w e = inr (is-bottom w e)
+which-bottom (real x) w e = inr (is-bottom w e)
+which-bottom (text s) w e = inr (is-bottom w e)
+which-bottom (opaque s) w e = inr (is-bottom w e)
 
-pub compare-missing : (o : Compare) (v w : Value) → (eqb (typeOf v) 0 || eqb (typeOf w) 0) ≡ true → Bottom ≡ compareOf o v w
-compare-missing o v w e = go (which-missing v w e)
+pub compare-bottom : (o : Compare) (v w : Value) → (eqb (typeOf v) 0 || eqb (typeOf w) 0) ≡ true → Bottom ≡ compareOf o v w
+compare-bottom o v w e = go (which-bottom v w e)
   where
-    go : (v ≡ missing) ⊎ (w ≡ missing) → Bottom ≡ compareOf o v w
-    go (inl m) = rw m (sym (missing-compare o w .0))
-    go (inr m) = rw m (sym (missing-compare o v .1))
+    go : (v ≡ bottom) ⊎ (w ≡ bottom) → Bottom ≡ compareOf o v w
+    go (inl m) = rw m (sym (bottom-compare o w .0))
+    go (inr m) = rw m (sym (bottom-compare o v .1))
 
-pub combine-missing : (o : Combine) (v w : Value) → (eqb (typeOf v) 0 || eqb (typeOf w) 0) ≡ true → missing ≡ combineOf o v w
-combine-missing o v w e = go (which-missing v w e)
+pub combine-bottom : (o : Combine) (v w : Value) → (eqb (typeOf v) 0 || eqb (typeOf w) 0) ≡ true → bottom ≡ combineOf o v w
+combine-bottom o v w e = go (which-bottom v w e)
   where
-    go : (v ≡ missing) ⊎ (w ≡ missing) → missing ≡ combineOf o v w
+    go : (v ≡ bottom) ⊎ (w ≡ bottom) → bottom ≡ combineOf o v w
     go (inl m) = rw m (ap valueOf (sym (none-combine o (numberOf w) .0)))
     go (inr m) = rw m (ap valueOf (sym (none-combine o (numberOf v) .1)))
 
 pub strict-binary : StrictBinary
 strict-binary (Binary.Combine o) x e =
     let n = none-combine o (numberOf (valueIn x)) in (ap (λ (n : Number). value (valueOf n)) (n .0), ap (λ (n : Number). value (valueOf n)) (n .1))
-strict-binary (Binary.Compare o) x e = let c = missing-compare o (valueIn x) in (ap logic (c .0), ap logic (c .1))
+strict-binary (Binary.Compare o) x e = let c = bottom-compare o (valueIn x) in (ap logic (c .0), ap logic (c .1))
 strict-binary (Binary.Connect Connective.And) x e = true-false (sym e)
 strict-binary (Binary.Connect Connective.Xor) x e = ends (truthIn x)
   where
@@ -146,13 +146,13 @@ bottom-or : (t : Truth) → (t ≡ False) ⊎ (t ≡ Bottom) → orOf Bottom t �
 bottom-or t (inl e) = rw e
 bottom-or t (inr e) = rw e
 
-missing-any : (ws : List Value) → (anyEqual missing ws ≡ False) ⊎ (anyEqual missing ws ≡ Bottom)
-missing-any [] = inl refl
-missing-any (w ∷ ws) = inr (rw (missing-equal w .0) (bottom-or (anyEqual missing ws) (missing-any ws)))
+bottom-any : (ws : List Value) → (anyEqual bottom ws ≡ False) ⊎ (anyEqual bottom ws ≡ Bottom)
+bottom-any [] = inl refl
+bottom-any (w ∷ ws) = inr (rw (bottom-equal w .0) (bottom-or (anyEqual bottom ws) (bottom-any ws)))
 
 pub strict-many : StrictMany
 strict-many (Many.Fit f) y ys = refl
-strict-many Many.Equals y ys = ap logic (rw (missing-equal (valueIn y) .0) (bottom-or (anyEqual missing (map valueIn ys)) (missing-any (map valueIn ys))))
+strict-many Many.Equals y ys = ap logic (rw (bottom-equal (valueIn y) .0) (bottom-or (anyEqual bottom (map valueIn ys)) (bottom-any (map valueIn ys))))
 
 no-text : (y : Item) (ys zs : List Item) → isText (valueIn y) ≡ false → allTexts (map valueIn (ys ++ (y ∷ zs))) ≡ false
 no-text y [] zs e = rw e

@@ -8,7 +8,7 @@ use Rattle.value.specs.declared.Origin.{Origin}
 use Rattle.value.specs.declared.Piece.{Piece}
 use Rattle.value.specs.declared.Typed.{Typed}
 use Rattle.value.specs.declared.Held.{Held}
-use Rattle.value.specs.Value.{Value, missing, int32, int64, real, text, opaque, Item, logic, value}
+use Rattle.value.specs.Value.{Value, bottom, int32, int64, real, text, opaque, Item, logic, value}
 
 abbrev pub sourceOf : List ℕ → List ℕ → Origin → List ℕ
 sourceOf pool notice Origin.Pool = pool
@@ -23,7 +23,7 @@ abbrev pub textOf : List ℕ → List ℕ → Piece → List ℕ
 textOf pool notice p = folded (p .folded) (partOf pool notice p)
 
 abbrev pub typedOf : List ℕ → List ℕ → Typed → Value
-typedOf pool notice Typed.Missing = missing
+typedOf pool notice Typed.Bottom = bottom
 typedOf pool notice (Typed.Int32 x) = int32 x
 typedOf pool notice (Typed.Int64 x) = int64 x
 typedOf pool notice (Typed.Real x) = real x

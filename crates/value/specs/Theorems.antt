@@ -22,7 +22,7 @@ use Rattle.opcode.specs.declared.Many.{Many}
 use Rattle.number.specs.declared.Number.{Number}
 use Rattle.notice.specs.Layout.{fieldsOf}
 use Rattle.notice.specs.Lookup.{fieldNamed}
-use Rattle.value.specs.Value.{Value, missing, int32, int64, real, text, Item, logic, value, numberOf, isText, equalValues, truthIn, valueIn, unaryOf, binaryOf, manyItems, kindOf, bottomOf, isStrict, startOf, tallyOf, valueNamed, namedValue, loadOf}
+use Rattle.value.specs.Value.{Value, bottom, int32, int64, real, text, Item, logic, value, numberOf, isText, equalValues, truthIn, valueIn, unaryOf, binaryOf, manyItems, kindOf, bottomOf, isStrict, startOf, tallyOf, valueNamed, namedValue, loadOf}
 
 -- The kind of each answer is the operator's, whatever the operands are.
 abbrev pub UnaryKind : Type 0
@@ -47,9 +47,9 @@ StrictBinary =
     (o : Binary) (x : Item) → isStrict o ≡ true
     → (binaryOf o (bottomOf (binaryTakes o)) x ≡ bottomOf (binaryGives o)) × (binaryOf o x (bottomOf (binaryTakes o)) ≡ bottomOf (binaryGives o))
 
--- .. and every operator of several does so where the first is missing.
+-- .. and every operator of several does so where the first is bottom.
 abbrev pub StrictMany : Type 0
-StrictMany = (o : Many) (y : Item) (ys : List Item) → manyItems o (value missing) (y ∷ ys) ≡ logic Bottom
+StrictMany = (o : Many) (y : Item) (ys : List Item) → manyItems o (value bottom) (y ∷ ys) ≡ logic Bottom
 
 -- "In 56..58 a later operand that is no string gives bottom", whatever fitted before it.
 abbrev pub LaterNoText : Type 0
@@ -74,7 +74,7 @@ EqualOtherwise = (v w : Value) → (isText v && isText w) ≡ false → (numberO
 abbrev pub Tally : Type 0
 Tally = (o : Many) (x : Item) (ys : List Item) → logic (tallyOf o x (startOf o x) ys) ≡ manyItems o x ys
 
--- A name's value is that of the field that has the name, and missing where none has.
+-- A name's value is that of the field that has the name, and bottom where none has.
 abbrev pub ValueNamed : Type 0
 ValueNamed = (notice name : List ℕ) → valueNamed notice name ≡ namedValue (fieldNamed name (fieldsOf notice))
 

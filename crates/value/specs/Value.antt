@@ -1,5 +1,5 @@
 -- Values and items, and what each operator and function gives on them. Document 01, "Meaning" and "Table".
--- `missing` is bottom among the values. A text is its bytes, a folded one already folded.
+-- `bottom` stands for a name that is missing and for every value that there is not. A text is its bytes, a folded one already folded.
 use Prim.Native.Nat.{ℕ, _%_, _^_}
 use mathlib.Core.Bool.{Bool, true, false, cond, _&&_, _||_}
 use mathlib.Core.List.{List, [], _∷_, map}
@@ -10,7 +10,7 @@ use lib.ListN.{length, take, drop}
 use lib.Ieee.{Float, binary64, isNan, ofBits}
 use mir.Syntax.{w32, w64}
 use mir.Val.{toZ}
-use Rattle.word.specs.Word.{le}
+use Rattle.word.specs.Word.{wordAt}
 use Rattle.truth.specs.declared.Truth.{Truth}
 use Rattle.truth.specs.declared.Truth.the-variants.{False, Bottom, True}
 use Rattle.truth.specs.Truth.{notOf, andOf, xorOf, orOf, ofBool}
@@ -34,7 +34,7 @@ use Rattle.notice.specs.Layout.{pick}
 use Rattle.notice.specs.Lookup.{lookupOf}
 
 pub data Value : Type 0 where
-  missing : Value
+  bottom : Value
   int32 : ℤ → Value
   int64 : ℤ → Value
   real : Float → Value
@@ -48,7 +48,7 @@ pub data Item : Type 0 where
 
 -- The number that a value is, and the value that a number is; what is no number is bottom.
 abbrev pub numberOf : Value → Number
-numberOf missing = Number.None
+numberOf bottom = Number.None
 numberOf (int32 z) = Number.Int32 z
 numberOf (int64 z) = Number.Int64 z
 numberOf (real x) = Number.Real x
@@ -59,11 +59,11 @@ abbrev pub valueOf : Number → Value
 valueOf (Number.Int32 z) = int32 z
 valueOf (Number.Int64 z) = int64 z
 valueOf (Number.Real x) = real x
-valueOf Number.None = missing
+valueOf Number.None = bottom
 
--- The type of a value by the number of "Kinds: 1 int32 .., 2 int64 .., 3 real64 .., 4 string, 5 opaque", 0 where it is missing.
+-- The type of a value by the number of "Kinds: 1 int32 .., 2 int64 .., 3 real64 .., 4 string, 5 opaque", 0 where it is bottom.
 abbrev pub typeOf : Value → ℕ
-typeOf missing = 0
+typeOf bottom = 0
 typeOf (int32 z) = 1
 typeOf (int64 z) = 2
 typeOf (real x) = 3
@@ -75,7 +75,7 @@ isText v = eqb (typeOf v) 4
 
 -- the bytes of a text, and none of what is no text
 abbrev pub textIn : Value → List ℕ
-textIn missing = []
+textIn bottom = []
 textIn (int32 z) = []
 textIn (int64 z) = []
 textIn (real x) = []
@@ -84,14 +84,14 @@ textIn (opaque s) = []
 
 -- "`fold-case` turns A..Z to a..z and keeps other bytes; bottom for a non-string."
 abbrev pub foldCaseOf : Value → Value
-foldCaseOf v = cond (isText v) (text (folded true (textIn v))) missing
+foldCaseOf v = cond (isText v) (text (folded true (textIn v))) bottom
 
 -- "`size` is the length in bytes of a string or opaque, as int32; else bottom."
 abbrev pub sizeOf : Value → Value
-sizeOf missing = missing
-sizeOf (int32 z) = missing
-sizeOf (int64 z) = missing
-sizeOf (real x) = missing
+sizeOf bottom = bottom
+sizeOf (int32 z) = bottom
+sizeOf (int64 z) = bottom
+sizeOf (real x) = bottom
 sizeOf (text s) = int32 (pos (length s))
 sizeOf (opaque s) = int32 (pos (length s))
 
@@ -101,7 +101,7 @@ changeOf Change.FoldCase v = foldCaseOf v
 changeOf Change.Size v = sizeOf v
 changeOf Change.Complement v = valueOf (complementOf (numberOf v))
 
--- what holds of a present value, and bottom of a missing one
+-- what holds of a present value, and bottom of bottom
 abbrev pub ifPresent : Value → Truth → Truth
 ifPresent v t = cond (eqb (typeOf v) 0) Bottom t
 
@@ -111,7 +111,7 @@ typeTest type v = ifPresent v (ofBool (eqb (typeOf v) type))
 
 -- "`nan`: false for other present values."
 abbrev pub nanOf : Value → Truth
-nanOf missing = Bottom
+nanOf bottom = Bottom
 nanOf (int32 z) = False
 nanOf (int64 z) = False
 nanOf (real x) = ofBool (isNan x)
@@ -187,7 +187,7 @@ truthIn (logic t) = t
 truthIn (value v) = Bottom
 
 abbrev pub valueIn : Item → Value
-valueIn (logic t) = missing
+valueIn (logic t) = bottom
 valueIn (value v) = v
 
 abbrev pub unaryOf : Unary → Item → Item
@@ -210,7 +210,7 @@ kindOf (value v) = Kind.value
 -- bottom of either kind
 abbrev pub bottomOf : Kind → Item
 bottomOf Kind.logic = logic Bottom
-bottomOf Kind.value = value missing
+bottomOf Kind.value = value bottom
 
 -- the operators of two operands that bottom on either side makes bottom: all but `&&` and `||`
 abbrev pub isStrict : Binary → Bool
@@ -255,15 +255,15 @@ tallyOf o x known (y ∷ ys) = tallyOf o x (moreOf o x known y) ys
 -- A field's value. "Kinds: 1 int32 (4 bytes), 2 int64 (8), 3 real64 (8, bits), 4 string, 5 opaque"; a byte that is not there counts as 0.
 abbrev pub fieldValue : ℕ → List ℕ → Value
 fieldValue kind bytes =
-    pick (eqb kind 1) (λ _. int32 (toZ w32 (le 4 bytes 0)))
-    (λ _. pick (eqb kind 2) (λ _. int64 (toZ w64 (le 8 bytes 0)))
-    (λ _. pick (eqb kind 3) (λ _. real (ofBits binary64 (le 8 bytes 0)))
+    pick (eqb kind 1) (λ _. int32 (toZ w32 (wordAt 4 bytes 0)))
+    (λ _. pick (eqb kind 2) (λ _. int64 (toZ w64 (wordAt 8 bytes 0)))
+    (λ _. pick (eqb kind 3) (λ _. real (ofBits binary64 (wordAt 8 bytes 0)))
     (λ _. pick (eqb kind 4) (λ _. text bytes)
-    (λ _. pick (eqb kind 5) (λ _. opaque bytes) (λ _. missing)))))
+    (λ _. pick (eqb kind 5) (λ _. opaque bytes) (λ _. bottom)))))
 
 abbrev pub foundValue : List ℕ → Found → Value
 foundValue notice (Found.At kind start len) = fieldValue kind (take len (drop start notice))
-foundValue notice Found.Nothing = missing
+foundValue notice Found.Nothing = bottom
 
 -- "5 the field's or bottom"; "A missing name is bottom"
 abbrev pub valueNamed : List ℕ → List ℕ → Value
@@ -271,7 +271,7 @@ valueNamed notice name = foundValue notice (lookupOf notice name)
 
 -- the same of a list of fields
 abbrev pub namedValue : Option Field → Value
-namedValue none = missing
+namedValue none = bottom
 namedValue (some f) = fieldValue (f .kind) (f .value)
 
 -- "4 string, 5 name (a length, b pool offset ..)": an offset has 16 bits

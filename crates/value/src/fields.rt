@@ -3,7 +3,7 @@ ghost use mathlib.Core.Path.{_≡_};
 ghost use mathlib.Core.List.{List};
 ghost use Prim.Native.Nat.{ℕ, _≤_, _<_, _^_};
 ghost use lib.ListN.{take, drop};
-ghost use Rattle.word.specs.Word.{le};
+ghost use Rattle.word.specs.Word.{wordAt};
 ghost use Rattle.value.specs.Value.{fieldValue, valueNamed};
 ghost use Rattle.value.specs.Held.{partOf, noticed, typedOf};
 use crate::Origin;
@@ -15,7 +15,7 @@ use notice::Found;
 // The number that the first k bytes stand for; a byte that is not there counts as 0. No field's number has more than 8.
 fn first_word(s: &[u8], k: usize) -> u64
     requires { ⌜ k ≤ 8 ⌝ }
-    ensures { λ r. ⌜ (r ≡ le k (now (s .entry)) 0) × (r < 256 ^ k) ⌝ }
+    ensures { λ r. ⌜ (r ≡ wordAt k (now (s .entry)) 0) × (r < 256 ^ k) ⌝ }
 {
     let n = s.len();
     if n < k {
@@ -35,7 +35,7 @@ fn field_value(notice: &[u8], kind: u16, start: u16, len: u16) -> Typed
         3 => Typed::Real(number::real_of_bits(first_word(s, 8))),
         4 => Typed::Text(in_notice(start, len)),
         5 => Typed::Opaque(in_notice(start, len)),
-        _ => Typed::Missing,
+        _ => Typed::Bottom,
     }
 }
 
@@ -58,6 +58,6 @@ pub fn named<'a>(pool: &'a [u8], notice: &'a [u8], name: Piece) -> Typed
     let found = notice::lookup(notice, key);
     match found {
         Found::At { kind, start, len } => field_value(notice, kind, start, len),
-        Found::Nothing => Typed::Missing,
+        Found::Nothing => Typed::Bottom,
     }
 }

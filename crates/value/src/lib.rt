@@ -37,7 +37,7 @@ pub struct Piece {
 }
 
 pub enum Typed {
-    Missing,
+    Bottom,
     Int32(i32),
     Int64(i64),
     Real(f64),
@@ -69,7 +69,7 @@ fn value_in(h: Held) -> Typed
     ensures { λ r. ⌜ ((p : List ℕ) → (q : List ℕ) → typedOf p q r ≡ valueIn (itemOf p q h)) ⌝ }
 {
     match h {
-        Held::Logic(_) => Typed::Missing,
+        Held::Logic(_) => Typed::Bottom,
         Held::Value(v) => v,
     }
 }

@@ -24,7 +24,7 @@ fn number_of(v: Typed) -> Number
     ensures { λ r. ⌜ ((p : List ℕ) → (q : List ℕ) → r ≡ numberOf (typedOf p q v)) ⌝ }
 {
     match v {
-        Typed::Missing => Number::None,
+        Typed::Bottom => Number::None,
         Typed::Int32(x) => Number::Int32(x),
         Typed::Int64(x) => Number::Int64(x),
         Typed::Real(x) => Number::Real(x),
@@ -40,16 +40,16 @@ fn value_of(n: Number) -> Typed
         Number::Int32(x) => Typed::Int32(x),
         Number::Int64(x) => Typed::Int64(x),
         Number::Real(x) => Typed::Real(x),
-        Number::None => Typed::Missing,
+        Number::None => Typed::Bottom,
     }
 }
 
-// The type's number among the kinds of fields, 0 where the value is missing.
+// The type's number among the kinds of fields, 0 where it is bottom.
 fn type_of(v: Typed) -> u8
     ensures { λ r. ⌜ ((p : List ℕ) → (q : List ℕ) → r ≡ typeOf (typedOf p q v)) ⌝ }
 {
     match v {
-        Typed::Missing => 0,
+        Typed::Bottom => 0,
         Typed::Int32(_) => 1,
         Typed::Int64(_) => 2,
         Typed::Real(_) => 3,
@@ -69,7 +69,7 @@ fn text_in(v: Typed) -> Piece
     ensures { λ r. ⌜ ((p : List ℕ) → (q : List ℕ) → textOf p q r ≡ textIn (typedOf p q v)) ⌝ }
 {
     match v {
-        Typed::Missing => no_text(),
+        Typed::Bottom => no_text(),
         Typed::Int32(_) => no_text(),
         Typed::Int64(_) => no_text(),
         Typed::Real(_) => no_text(),
@@ -106,12 +106,12 @@ fn fold_case(v: Typed) -> Typed
     ensures { λ r. ⌜ ((p : List ℕ) → (q : List ℕ) → typedOf p q r ≡ foldCaseOf (typedOf p q v)) ⌝ }
 {
     match v {
-        Typed::Missing => Typed::Missing,
-        Typed::Int32(_) => Typed::Missing,
-        Typed::Int64(_) => Typed::Missing,
-        Typed::Real(_) => Typed::Missing,
+        Typed::Bottom => Typed::Bottom,
+        Typed::Int32(_) => Typed::Bottom,
+        Typed::Int64(_) => Typed::Bottom,
+        Typed::Real(_) => Typed::Bottom,
         Typed::Text(p) => Typed::Text(fold_piece(p)),
-        Typed::Opaque(_) => Typed::Missing,
+        Typed::Opaque(_) => Typed::Bottom,
     }
 }
 
@@ -120,10 +120,10 @@ fn size<'a>(pool: &'a [u8], notice: &'a [u8], v: Typed) -> Typed
     ensures { λ r. ⌜ typedOf (now (pool .entry)) (now (notice .entry)) r ≡ sizeOf (typedOf (now (pool .entry)) (now (notice .entry)) v) ⌝ }
 {
     match v {
-        Typed::Missing => Typed::Missing,
-        Typed::Int32(_) => Typed::Missing,
-        Typed::Int64(_) => Typed::Missing,
-        Typed::Real(_) => Typed::Missing,
+        Typed::Bottom => Typed::Bottom,
+        Typed::Int32(_) => Typed::Bottom,
+        Typed::Int64(_) => Typed::Bottom,
+        Typed::Real(_) => Typed::Bottom,
         Typed::Text(p) => Typed::Int32(texts::bytes_in(pool, notice, p)),
         Typed::Opaque(p) => Typed::Int32(texts::bytes_in(pool, notice, p)),
     }
@@ -158,7 +158,7 @@ fn nan(v: Typed) -> Truth
     ensures { λ r. ⌜ ((p : List ℕ) → (q : List ℕ) → r ≡ nanOf (typedOf p q v)) ⌝ }
 {
     match v {
-        Typed::Missing => Truth::Bottom,
+        Typed::Bottom => Truth::Bottom,
         Typed::Int32(_) => Truth::False,
         Typed::Int64(_) => Truth::False,
         Typed::Real(x) => truth::of_bool(number::is_nan(x)),
@@ -193,7 +193,7 @@ fn combine_numbers(op: Combine, a: Number, b: Number) -> Number
 }
 
 // "bottom in a value makes the enclosing value or comparison bottom": told first, since names are often missing and the operator then need not be looked at.
-fn any_missing(v: Typed, w: Typed) -> bool
+fn any_bottom(v: Typed, w: Typed) -> bool
     ensures { λ r. ⌜ ((p : List ℕ) → (q : List ℕ) → r ≡ (eqb (typeOf (typedOf p q v)) 0 || eqb (typeOf (typedOf p q w)) 0)) ⌝ }
 {
     (type_of(v) == 0) | (type_of(w) == 0)
@@ -203,8 +203,8 @@ fn any_missing(v: Typed, w: Typed) -> bool
 pub fn combine(op: Combine, v: Typed, w: Typed) -> Typed
     ensures { λ r. ⌜ ((p : List ℕ) → (q : List ℕ) → typedOf p q r ≡ combineOf op (typedOf p q v) (typedOf p q w)) ⌝ }
 {
-    if any_missing(v, w) {
-        return Typed::Missing;
+    if any_bottom(v, w) {
+        return Typed::Bottom;
     }
     value_of(combine_numbers(op, number_of(v), number_of(w)))
 }
@@ -233,7 +233,7 @@ pub fn equals<'a>(pool: &'a [u8], notice: &'a [u8], v: Typed, w: Typed) -> Truth
 pub fn compare<'a>(pool: &'a [u8], notice: &'a [u8], op: Compare, v: Typed, w: Typed) -> Truth
     ensures { λ r. ⌜ r ≡ compareOf op (typedOf (now (pool .entry)) (now (notice .entry)) v) (typedOf (now (pool .entry)) (now (notice .entry)) w) ⌝ }
 {
-    if any_missing(v, w) {
+    if any_bottom(v, w) {
         return Truth::Bottom;
     }
     let mut negated = false;

@@ -42,7 +42,7 @@ fn put_piece<'a>(pool: &'a [u8], notice: &'a [u8], p: Piece) {
 
 fn put_value<'a>(pool: &'a [u8], notice: &'a [u8], v: Typed) {
     match v {
-        Typed::Missing => put(b"bottom"),
+        Typed::Bottom => put(b"bottom"),
         Typed::Int32(x) => {
             put(b"int32 ");
             put_bits(word::bits_of_i32(x) as u64);

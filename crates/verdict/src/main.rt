@@ -1,140 +1,116 @@
-// The program `verdict`. Document 01, "Examples": "reads records (u32 length, u16 kind) from standard input". Only reading and writing is here; what is answered is `session::serve`.
+// The program `verdict`. Document 01, "Examples": "reads records (u32 length, u16 kind) from standard input". Only reading and writing is here; what is answered is `session::turn`.
+ghost use mathlib.Core.Bool.{false};
 ghost use mathlib.Core.Path.{_≡_};
-ghost use Prim.Native.Nat.{_+_, _≤_};
-ghost use lib.ListN.{length, take};
-ghost use Rattle.session.specs.Session.{Sound};
-ghost use Rattle.verdict.specs.State.{Ready};
+ghost use Prim.Native.Nat.{ℕ, _-_, _≤_, _<_};
+ghost use lib.IntN.{pos};
+ghost use lib.ListN.{length};
+ghost use Rattle.libc.specs.Io.{Moved};
+ghost use Rattle.session.specs.State.{Stands, Ready, Reads};
+ghost use Rattle.verdict.specs.Reading.{BroughtBy};
+ghost use Rattle.verdict.specs.Going.{Answered, ReadOn, Goes};
+use libc::EAGAIN;
+use libc::EINTR;
 use libc::STDIN_FILENO;
 use libc::STDOUT_FILENO;
-use session::Served;
-use session::Stop;
+use session::Brought;
+use session::Next;
+use session::State;
 
-// What is kept from turn to turn: where the input that is not answered yet stands in its buffer, the length of the table, whether the input has ended, and whether to go on.
-struct State {
-    from: usize,
-    end: usize,
-    held: usize,
-    last: bool,
+// Whether a read is repeated: it failed since a signal came first, or since nothing had come and standard input does not wait. Then it is asked again at once, since nothing here can wait for more.
+fn is_repeated(got: isize) -> bool
+    ensures { λ r. ⌜ ((n : ℕ) → got ≡ pos n → r ≡ false) ⌝ }
+{
+    if got < 0 {
+        let error = os::errno();
+        (error == EINTR) | (error == EAGAIN)
+    } else {
+        false
+    }
+}
+
+// What the answer of a read behind `end` means. Any other failure counts as the end of the input, since nothing more can come.
+fn brought(got: isize, input: &[u8], end: usize) -> Brought
+    requires { ⌜ (end ≤ length (now input)) × Moved (length (now input) - end) got ⌝ }
+    ensures { λ r. ⌜ BroughtBy got end r ⌝ }
+{
+    if is_repeated(got) {
+        return Brought::Again;
+    }
+    let n = io::count(got, &input[end..]);
+    Brought::UpTo(end + n)
+}
+
+// Reads once, to the buffer's end from `end` on. No contract can say which bytes come.
+fn read_on(input: &mut [u8], end: usize) -> Brought
+    requires { ⌜ end < length (now input) ⌝ }
+    ensures { λ r. ⌜ Reads (now (input .entry)) end (now (input .exit)) r ⌝ }
+{
+    let got = libc::read(STDIN_FILENO, &mut input[end..]);
+    brought(got, input, end)
+}
+
+// Reads behind what is not answered yet.
+fn more(input: &mut [u8], s: State) -> State
+    requires { ⌜ Stands (now input) s × (s .next ≡ Next.Read) ⌝ }
+    ensures { λ r. ⌜ ReadOn (now (input .entry)) s (now (input .exit)) r ⌝ }
+{
+    let ready = session::make_room(input, s);
+    let came = read_on(input, ready.end);
+    session::received(ready, came)
+}
+
+// What the program has come to, and whether it goes on.
+struct Stage {
+    state: State,
     going: bool,
 }
 
-// Reads once, to the buffer's end from `end` on. Answers how many bytes came, 0 at the end of the input. No contract can say which.
-fn read_on(input: &mut [u8], end: usize) -> usize
-    requires { ⌜ end ≤ length (now input) ⌝ }
-    ensures { λ r. ⌜ end + r ≤ length (now (input .entry)) ⌝ }
+// Answers what is there and writes the lines. Nothing is left to do where they cannot be written.
+fn answer(input: &[u8], table: &mut [u8], out: &mut [u8], s: State) -> Stage
+    requires { ⌜ Ready (now input) (now table) s × (s .next ≡ Next.Answer) ⌝ }
+    ensures { λ r. ⌜ Answered (now (input .entry)) (now (table .entry)) s (now (table .exit)) (now (out .exit)) (r .state) ⌝ }
 {
-    let got = libc::read(STDIN_FILENO, &mut input[end..]);
-    io::count(got, &input[end..])
+    let after = session::turn(input, table, out, s);
+    let lines = session::lines(out, after);
+    Stage {
+        state: after,
+        going: io::write_all(STDOUT_FILENO, lines),
+    }
 }
 
-// Reads behind what is not answered yet. That is moved to the buffer's start first where a longest record would have no room behind it: then three quarters of the buffer have been answered, so each byte is moved seldom.
-fn more(input: &mut [u8; 65536], s: State) -> State
-    requires { ⌜ Ready s ⌝ }
-    ensures { λ r. ⌜ Ready r × (r .held ≡ s .held) ⌝ }
+fn step(input: &mut [u8], table: &mut [u8], out: &mut [u8], s: State) -> Stage
+    requires { ⌜ Ready (now input) (now table) s ⌝ }
+    ensures { λ r. ⌜ Goes (now (input .entry)) (now (table .entry)) s (now (input .exit)) (now (table .exit)) (r .state) ⌝ }
 {
-    let from = s.from;
-    let end = s.end;
-    if 49152 < end {
-        record::move_down(input, from, end);
-        let rest = end - from;
-        let n = read_on(input, rest);
-        return State {
-            from: 0,
-            end: rest + n,
-            held: s.held,
-            last: n == 0,
+    let next = s.next;
+    match next {
+        Next::Answer => answer(input, table, out, s),
+        Next::Read => Stage {
+            state: more(input, s),
             going: true,
-        };
-    }
-    let n = read_on(input, end);
-    State {
-        from: from,
-        end: end + n,
-        held: s.held,
-        last: n == 0,
-        going: true,
+        },
+        Next::Done => Stage {
+            state: s,
+            going: false,
+        },
     }
 }
 
-fn answer(
-    input: &[u8],
-    from: usize,
-    end: usize,
-    last: bool,
-    table: &mut [u8],
-    held: usize,
-    out: &mut [u8],
-) -> Served
-    requires { ⌜ (from ≤ end) × (end ≤ length (now input)) × (held ≤ length (now table)) × Sound (take held (now table)) ⌝ }
-    ensures { λ r. ⌜ (from + r .taken ≤ end) × (r .held ≤ length (now (table .entry))) × (r .written ≤ length (now (out .entry))) × Sound (take (r .held) (now (table .exit))) ⌝ }
-{
-    session::serve(&input[from..end], last, table, held, out)
-}
-
-fn put(out: &[u8], n: usize) -> bool
-    requires { ⌜ n ≤ length (now out) ⌝ }
-{
-    io::write_all(STDOUT_FILENO, &out[0..n])
-}
-
-// Answers what is there, writes the lines, and reads on where the next record has not come whole.
-fn turn(input: &mut [u8; 65536], table: &mut [u8; 10250], out: &mut [u8; 65536], s: State) -> State
-    requires { ⌜ Ready s × Sound (take (s .held) (now table)) ⌝ }
-    ensures { λ r. ⌜ Ready r × Sound (take (r .held) (now (table .exit))) ⌝ }
-{
-    let from = s.from;
-    let end = s.end;
-    let served = answer(input, from, end, s.last, table, s.held, out);
-    let is_written = put(out, served.written);
-    let next = State {
-        from: from + served.taken,
-        end: end,
-        held: served.held,
-        last: s.last,
-        going: is_written,
-    };
-    let stop = served.stop;
-    match stop {
-        Stop::Full => next,
-        Stop::Waiting => {
-            if s.last | !is_written {
-                halted(next)
-            } else {
-                more(input, next)
-            }
-        }
-        Stop::Ended => halted(next),
-    }
-}
-
-fn halted(s: State) -> State
-    requires { ⌜ Ready s ⌝ }
-    ensures { λ r. ⌜ Ready r × (r .held ≡ s .held) ⌝ }
-{
-    State {
-        from: s.from,
-        end: s.end,
-        held: s.held,
-        last: s.last,
-        going: false,
-    }
-}
-
-// Nothing says that the input ends, so the turns are counted down, from a number that no run uses up.
+// Nothing says that the input ends, so the steps are counted down, from a number that no run uses up.
 fn main() {
-    let mut input = [0u8; 65536];
-    let mut table = [0u8; 10250];
-    let mut out = [0u8; 65536];
-    let mut state = State {
-        from: 0,
-        end: 0,
-        held: 0,
-        last: false,
+    let mut input_space = [0u8; 65536];
+    let mut table_space = [0u8; 10250];
+    let mut out_space = [0u8; 65536];
+    let input: &mut [u8] = &mut input_space;
+    let table: &mut [u8] = &mut table_space;
+    let out: &mut [u8] = &mut out_space;
+    let mut at = Stage {
+        state: session::start(),
         going: true,
     };
-    let mut turns = u64::MAX;
-    while 0 < turns && state.going {
-        state = turn(&mut input, &mut table, &mut out, state);
-        turns -= 1;
+    let mut left = u64::MAX;
+    while 0 < left && at.going {
+        at = step(input, table, out, at.state);
+        left -= 1;
     }
 }

@@ -10,19 +10,15 @@ use Rattle.grammar.proofs.parse.Reads as reads
 use Rattle.grammar.proofs.parse.Lts as lts
 use Rattle.grammar.proofs.level.Reads as level-reads
 
--- src/lib.rt:137:11
 level-requires : tie.Need-level-requires
 level-requires c κs = search needs
 
--- src/lib.rt:138:23
 enum-known-n : tie.Need-enum-known-n
 enum-known-n c = search needs
 
--- src/lib.rt:145:24
 enum-known-p : tie.Need-enum-known-p
 enum-known-p c = search needs
 
--- src/lib.rt:133:1
 returns : tie.Need-returns
 returns c =
     let a = c .before .before .before .before .before .before .before .before .args in
@@ -30,7 +26,6 @@ returns c =
     let s = seen-level (a .text .now) (a .kinds .now) (a .starts .now) (c .before .before .before .before .before .before .before .before .pre .0) 0 0 (omega arith) (c .before .before .before .before .level .ensures) (c .before .before .n .given .1) in
     all-whole s (c .if1 .taken ∙ sym len)
 
--- src/lib.rt:133:1
 returns-2 : tie.Need-returns-2
 returns-2 c =
     let a = c .before .before .before .before .before .before .before .before .args in
@@ -38,7 +33,6 @@ returns-2 c =
     let s = seen-level (a .text .now) (a .kinds .now) (a .starts .now) (c .before .before .before .before .before .before .before .before .pre .0) 0 0 (omega arith) (c .before .before .before .before .level .ensures) (c .before .before .n .given .1) in
     all-more s (λ e. c .if1 .left (e ∙ len))
 
--- src/lib.rt:133:1
 returns-3 : tie.Need-returns-3
 returns-3 c = all-bad _ (is-bad _ (c .before .before .before .level .ensures) (c .before .p .given .1))
 

@@ -19,46 +19,37 @@ Inv-loop kinds opened₀ row₀ i₀ opened row i = (i ≤ length kinds) × (ope
 abbrev μ-loop : tie.MeasureT-loop
 μ-loop kinds opened₀ row₀ i₀ opened row i = length kinds - i
 
--- src/lib.rt:156:5
 loop-holds : tie.Need-loop-holds Inv-loop μ-loop
 unfolding tooDeep
 loop-holds c = (omega arith, omega arith, omega arith, refl)
 
--- src/lib.rt:157:17
 shared-slice-read-k : tie.Need-shared-slice-read-k Inv-loop μ-loop
 shared-slice-read-k c = search needs
 
--- src/lib.rt:158:9
 open-after-requires : tie.Need-open-after-requires Inv-loop μ-loop
 open-after-requires c κs = search needs
 
--- src/lib.rt:159:9
 row-after-requires : tie.Need-row-after-requires Inv-loop μ-loop
 row-after-requires c κs = search needs
 
--- src/lib.rt:161:13
 returns : tie.Need-returns Inv-loop μ-loop
 returns c =
     let l = c .before .before .before .before .before .loop in
     deep-opened (c .before .before .before .before .before .before .before .args .kinds .now) (l .i) (l .opened) (l .row) (omega arith)
     (rw (c .before .before .open-after .ensures) at (c .if1 .taken)) ∙ l .inv .3
 
--- src/lib.rt:164:13
 returns-2 : tie.Need-returns-2 Inv-loop μ-loop
 returns-2 c =
     let l = c .before .before .before .before .before .before .loop in
     deep-row (c .before .before .before .before .before .before .before .before .args .kinds .now) (l .i) (l .opened) (l .row) (omega arith)
     (rw (c .before .before .row-after .ensures) at (c .if2 .taken)) ∙ l .inv .3
 
--- src/lib.rt:166:9
 add-i : tie.Need-add-i Inv-loop μ-loop
 add-i c = search needs
 
--- src/lib.rt:156:5
 loop-less : tie.Need-loop-less Inv-loop μ-loop
 loop-less c = search needs
 
--- src/lib.rt:156:5
 loop-again : tie.Need-loop-again Inv-loop μ-loop
 loop-again c =
     let l = c .before .before .before .before .before .before .loop in
@@ -71,7 +62,6 @@ loop-again c =
           (rw e at (c .before .if1 .left)) (rw f at (c .if2 .left)) ∙ l .inv .3),
     )
 
--- src/lib.rt:150:1
 returns-3 : tie.Need-returns-3 Inv-loop μ-loop
 returns-3 c =
     let l = c .before .loop in

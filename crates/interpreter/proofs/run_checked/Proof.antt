@@ -1,4 +1,5 @@
--- `interpreter::run_checked` meets its contract: at each turn the machine is sound for its table, and what the visits that are left make of it is what the whole budget makes of the start.
+-- `interpreter::run_checked` meets its contract. The loop's invariant is document 01's sentence, `Follows`: at each turn, so after each visit, the machine's next entry and whole stack are those of the rule after as many visits as
+-- it has counted. Where the visits are as many as the budget, or no entry is left, this is the promise.
 -- The inner loop's invariant: what is known with the later operands below j, and with those that are left, is the whole. Assumes nothing.
 use Prim.Native.Nat.{ℕ, _+_, _-_, _<_, _≤_}
 use mathlib.Core.Path.{_≡_, refl, sym, ap, ap₂, _∙_}
@@ -15,7 +16,7 @@ use Rattle.opcode.specs.declared.Binary.{Binary}
 use Rattle.opcode.specs.declared.Many.{Many}
 use Rattle.opcode.specs.declared.Skip.{Skip}
 use Rattle.opcode.specs.declared.Op.{Op}
-use Rattle.table.specs.Table.{entryAt, decode}
+use Rattle.table.specs.Table.{entryAt}
 use Rattle.table.specs.declared.Entry.{Entry}
 use Rattle.table.proofs.Theorems.{checked-layout}
 use Rattle.table.proofs.Laid.{laid}
@@ -24,10 +25,9 @@ use Rattle.value.specs.Held.{itemOf}
 use Rattle.value.specs.declared.Held.{Held}
 use Rattle.value.specs.declared.Slot.{Slot}
 use Rattle.interpreter.specs.declared.Machine.{Machine}
-use Rattle.interpreter.specs.Run.{State, after}
 use Rattle.interpreter.specs.Machine.{blank, stackOf}
 use Rattle.interpreter.proofs.Stack.{stack-up}
-use Rattle.interpreter.proofs.Visits.{Left, Within, heldAt, begin, spent, ended, low, few, entry-fits, counted, room, many-room, skip-room, load-law, unary-law, binary-law, many-law, skip-law, no-unknown, some-left, within}
+use Rattle.interpreter.proofs.Visits.{Going, Within, heldAt, begin, spent, ended, low, few, entry-fits, counted, room, many-room, skip-room, load-law, unary-law, binary-law, many-law, skip-law, no-unknown, within}
 use Rattle.interpreter.proofs.run_checked.Statement.{statement}
 use Rattle.interpreter.proofs.run_checked.Tie as tie
 
@@ -45,7 +45,7 @@ abbrev μ-loop2 : tie.MeasureT-loop2
 
 abbrev Inv-loop : tie.InvT-loop
 Inv-loop table notice budget n pool stack₀ next₀ depth₀ steps₀ stack next depth steps =
-    Within table pool notice n (after (decode table) notice budget) budget (machine stack next depth steps)
+    Within table pool notice n budget (machine stack next depth steps)
 
 abbrev μ-loop : tie.MeasureT-loop
 μ-loop table notice budget n pool stack₀ next₀ depth₀ steps₀ stack next depth steps = budget - steps
@@ -78,11 +78,11 @@ entry d = entryAt (table d) (at d .next)
 
 -- a machine that the turn may end in
 abbrev Ends : Turn → Machine → Type 0
-Ends d m = Within (table d) (pool d) (notice d) (count d) (after (decode (table d)) (notice d) (budget d)) (budget d) m
+Ends d m = Within (table d) (pool d) (notice d) (count d) (budget d) m
 
 module _ (d : Turn) where
-  -- what is left of the visits, from the turn's machine on
-  going : Left (table d) (pool d) (notice d) (count d) (after (decode (table d)) (notice d) (budget d)) (at d) (budget d - at d .steps)
+  -- the turn's machine follows the rule
+  going : Going (table d) (pool d) (notice d) (count d) (at d)
   going = d .before .before .before .before .loop .inv .0
 
   low-steps : at d .steps ≤ budget d
@@ -117,14 +117,14 @@ module _ (d : Turn) where
   -- the machine that each group's arm leaves is the rule's next
   load-ends : {k : Load} (h : Held) → d .op-of .result ≡ Op.Load k → itemOf (pool d) (notice d) h ≡ loadOf (pool d) (notice d) k (entry d .a) (entry d .b)
       → Ends d (machine (set (at d .stack) (at d .depth) (record { held = h })) (at d .next + 1) (at d .depth + 1) (at d .steps + 1))
-  load-ends h e q = rw sub-zero at (within low-steps unspent (load-law going more (some-left low-steps unspent) h (op-is e) q) refl)
+  load-ends h e q = rw sub-zero at (within low-steps unspent (load-law going more h (op-is e) q) refl)
 
   unary-ends : {k : Unary} (h : Held) → d .op-of .result ≡ Op.Unary k → itemOf (pool d) (notice d) h ≡ unaryOf k (heldAt (pool d) (notice d) (at d) (at d .depth - 1))
       → Ends d (machine (set (at d .stack) (at d .depth - 1) (record { held = h })) (at d .next + 1) (at d .depth) (at d .steps + 1))
   unary-ends h e q =
       let f = unary-fits e in
       let k : at d .depth - 1 + 1 ≡ at d .depth = omega arith in
-      rw k at (within low-steps unspent (unary-law going more (some-left low-steps unspent) h (op-is e) q) refl)
+      rw k at (within low-steps unspent (unary-law going more h (op-is e) q) refl)
 
   binary-ends : {k : Binary} (h : Held) → d .op-of .result ≡ Op.Binary k
       → itemOf (pool d) (notice d) h ≡ binaryOf k (heldAt (pool d) (notice d) (at d) (at d .depth - 2)) (heldAt (pool d) (notice d) (at d) (at d .depth - 1))
@@ -132,7 +132,7 @@ module _ (d : Turn) where
   binary-ends h e q =
       let f = binary-fits e in
       let k : at d .depth - 2 + 1 ≡ at d .depth - 1 = omega arith in
-      rw k at (within low-steps unspent (binary-law going more (some-left low-steps unspent) h (op-is e) q) refl)
+      rw k at (within low-steps unspent (binary-law going more h (op-is e) q) refl)
 
 count-requires : tie.Need-count-requires Inv-loop2 μ-loop2 Inv-loop μ-loop
 count-requires c κs = laid (c .before .before .args .table .now) (checked-layout _ (c .before .before .pre)) .head
@@ -144,10 +144,10 @@ pool-requires c κs =
 
 loop-holds : tie.Need-loop-holds Inv-loop2 μ-loop2 Inv-loop μ-loop
 loop-holds c =
-    (rw sub-zero (begin (c .before .before .before .before .args .notice .now) (c .before .count .result) (c .before .before .before .before .args .budget) (c .before .before .before .before .pre) (c .before .count .ensures .0) (c .pool .ensures)), omega arith)
+    (begin (c .before .before .before .before .args .notice .now) (c .before .count .result) (c .before .before .before .before .pre) (c .before .count .ensures .0) (c .pool .ensures), omega arith)
 
 returns : tie.Need-returns Inv-loop2 μ-loop2 Inv-loop μ-loop
-returns c = let l = c .before .before .loop .inv .0 in (spent l (omega (arith, c .if1 .taken)), low l)
+returns c = spent (c .before .before .loop .inv .0) (c .if1 .taken)
 
 add-steps : tie.Need-add-steps Inv-loop2 μ-loop2 Inv-loop μ-loop
 add-steps c = omega (arith, counted (c .before .before .loop .inv .0) (c .before .loop-test .taken))
@@ -568,7 +568,7 @@ loop-again-12 c =
     let o = c .before .before .before .before .before .before .op4 .given .1 in
     let f = many-fits (c .before .before .before .before .before .before .before .before) (c .before .before .before .before .a-at3 .ensures) (c .before .before .before .before .before .before .op4 .given .1) in
     let none : at d .depth - c .before .loop2 .j ≡ 0 = omega (arith, c .before .loop2 .inv .1, c .loop2-test .left) in
-    within (low-steps d) (unspent d) (many-law (going d) (more d) (some-left (low-steps d) (unspent d)) (a .result) (a .ensures) (op-is d o) (rw none at (c .before .loop2 .inv .2))) refl
+    within (low-steps d) (unspent d) (many-law (going d) (more d) (a .result) (a .ensures) (op-is d o) (rw none at (c .before .loop2 .inv .2))) refl
 
 enum-known-op-5 : tie.Need-enum-known-op-5 Inv-loop2 μ-loop2 Inv-loop μ-loop
 enum-known-op-5 c = search needs
@@ -598,7 +598,7 @@ loop-again-13 : tie.Need-loop-again-13 Inv-loop2 μ-loop2 Inv-loop μ-loop
 loop-again-13 c =
     let d = c .before .before .before .before .before .before in
     rw (c .stride .ensures .0 (pool d) (notice d), c .before .a-at4 .ensures)
-    (within (low-steps d) (unspent d) (skip-law (going d) (more d) (some-left (low-steps d) (unspent d)) (op-is d (c .before .before .before .before .op5 .given .1))) refl)
+    (within (low-steps d) (unspent d) (skip-law (going d) (more d) (op-is d (c .before .before .before .before .op5 .given .1))) refl)
 
 enum-told-7 : tie.Need-enum-told-7 Inv-loop2 μ-loop2 Inv-loop μ-loop
 enum-told-7 c = search needs
@@ -610,7 +610,7 @@ loop-again-14 : tie.Need-loop-again-14 Inv-loop2 μ-loop2 Inv-loop μ-loop
 loop-again-14 c = absurd (no-unknown (going (c .before .before)) (more (c .before .before)) (op-is (c .before .before) (c .enum-told7 .given .1)))
 
 returns-2 : tie.Need-returns-2 Inv-loop2 μ-loop2 Inv-loop μ-loop
-returns-2 c = let l = c .before .loop .inv .0 in (ended l (c .loop-test .left), low l)
+returns-2 c = let l = c .before .loop .inv in ended (l .0) (l .1) (c .loop-test .left)
 
 pub run-checked-spec : {M : Type 1} → statement M
 run-checked-spec =

@@ -22,7 +22,7 @@ truth-in-requires c κs = search needs
 returns : tie.Need-returns
 returns c =
     let a = c .before .before .before .before .before .before .args in
-    answer-is (a .table .now) (a .notice .now) (c .before .before .run-checked .result) (c .before .before .before .count .result) (c .before .before .before .before .before .before .pre) (c .before .before .before .count .ensures .0) (c .before .before .run-checked .ensures .0)
+    answer-is (a .table .now) (a .notice .now) (c .before .before .run-checked .result) (c .before .before .before .count .result) (c .before .before .before .before .before .before .pre) (c .before .before .before .count .ensures .0) (c .before .before .run-checked .ensures .state)
     (c .truth-in .result) (c .truth-in .ensures (poolOf (a .table .now)) (a .notice .now))
 
 pub run-whole-spec : {M : Type 1} → statement M

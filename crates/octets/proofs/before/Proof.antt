@@ -17,34 +17,27 @@ Inv-loop s s-mark t t-mark i₀ i = (i ≤ length s) × (beforeFrom (fold s-mark
 abbrev μ-loop : tie.MeasureT-loop
 μ-loop s s-mark t t-mark i₀ i = length s - i
 
--- src/lib.rt:40:5
 loop-holds : tie.Need-loop-holds Inv-loop μ-loop
 loop-holds c = (omega arith, refl)
 
--- src/lib.rt:42:13
 returns : tie.Need-returns Inv-loop μ-loop
 returns c =
     let a = c .before .before .before .before .before .args in
     let l = c .before .before .loop in
     longer (fold (a .s-mark)) (fold (a .t-mark)) (a .s .now) (a .t .now) (l .i) (omega arith) (c .if1 .taken) ∙ l .inv .1
 
--- src/lib.rt:44:30
 shared-slice-read-fold : tie.Need-shared-slice-read-fold Inv-loop μ-loop
 shared-slice-read-fold c = search needs
 
--- src/lib.rt:44:13
 fold-requires : tie.Need-fold-requires Inv-loop μ-loop
 fold-requires c κs = search needs
 
--- src/lib.rt:45:30
 shared-slice-read-fold-2 : tie.Need-shared-slice-read-fold-2 Inv-loop μ-loop
 shared-slice-read-fold-2 c = search needs
 
--- src/lib.rt:45:13
 fold-requires-2 : tie.Need-fold-requires-2 Inv-loop μ-loop
 fold-requires-2 c κs = search needs
 
--- src/lib.rt:47:13
 returns-2 : tie.Need-returns-2 Inv-loop μ-loop
 returns-2 c =
     let a = c .before .before .before .before .before .before .before .before .before .before .args in
@@ -52,7 +45,6 @@ returns-2 c =
     less (fold (a .s-mark)) (fold (a .t-mark)) (a .s .now) (a .t .now) (l .i) (omega arith) (omega arith)
     (rw (c .before .before .before .fold .ensures, c .before .fold2 .ensures) at (c .if2 .taken)) ∙ l .inv .1
 
--- src/lib.rt:50:13
 returns-3 : tie.Need-returns-3 Inv-loop μ-loop
 returns-3 c =
     let a = c .before .before .before .before .before .before .before .before .before .before .before .args in
@@ -60,15 +52,12 @@ returns-3 c =
     more (fold (a .s-mark)) (fold (a .t-mark)) (a .s .now) (a .t .now) (l .i) (omega arith) (omega arith)
     (rw (c .before .before .before .before .fold .ensures, c .before .before .fold2 .ensures) at (c .if3 .taken)) ∙ l .inv .1
 
--- src/lib.rt:52:9
 add-i : tie.Need-add-i Inv-loop μ-loop
 add-i c = search needs
 
--- src/lib.rt:40:5
 loop-less : tie.Need-loop-less Inv-loop μ-loop
 loop-less c = search needs
 
--- src/lib.rt:40:5
 loop-again : tie.Need-loop-again Inv-loop μ-loop
 loop-again c =
     let a = c .before .before .before .before .before .before .before .before .before .before .before .args in
@@ -79,7 +68,6 @@ loop-again c =
           (rw (c .before .before .before .before .fold .ensures, c .before .before .fold2 .ensures) at (c .before .if2 .left)) ∙ l .inv .1,
     )
 
--- src/lib.rt:36:1
 returns-4 : tie.Need-returns-4 Inv-loop μ-loop
 returns-4 c =
     let a = c .before .before .before .before .args in

@@ -19,27 +19,21 @@ Inv-loop s s-mark p p-mark i₀ i =
 abbrev μ-loop : tie.MeasureT-loop
 μ-loop s s-mark p p-mark i₀ i = length s - i
 
--- src/lib.rt:71:5
 loop-holds : tie.Need-loop-holds Inv-loop μ-loop
 loop-holds c = (omega arith, refl)
 
--- src/lib.rt:72:19
 sub-begins : tie.Need-sub-begins Inv-loop μ-loop
 sub-begins c = search needs
 
--- src/lib.rt:72:19
 part-begins-start : tie.Need-part-begins-start Inv-loop μ-loop
 part-begins-start c = search needs
 
--- src/lib.rt:72:19
 part-begins-end : tie.Need-part-begins-end Inv-loop μ-loop
 part-begins-end c = search needs
 
--- src/lib.rt:72:12
 begins-requires : tie.Need-begins-requires Inv-loop μ-loop
 begins-requires c κs = search needs
 
--- src/lib.rt:73:13
 returns : tie.Need-returns Inv-loop μ-loop
 returns c =
     let a = c .before .before .before .before .before .before .before .args in
@@ -47,15 +41,12 @@ returns c =
     found (fold (a .s-mark)) (a .s .now) (folded (a .p-mark) (a .p .now)) (l .i) (omega arith)
     (sym (rw (rest (a .s .now) (l .i)) at (c .before .begins .ensures)) ∙ c .if1 .taken) ∙ l .inv .1
 
--- src/lib.rt:75:9
 add-i : tie.Need-add-i Inv-loop μ-loop
 add-i c = search needs
 
--- src/lib.rt:71:5
 loop-less : tie.Need-loop-less Inv-loop μ-loop
 loop-less c = search needs
 
--- src/lib.rt:71:5
 loop-again : tie.Need-loop-again Inv-loop μ-loop
 loop-again c =
     let a = c .before .before .before .before .before .before .before .args in
@@ -65,7 +56,6 @@ loop-again c =
           (sym (rw (rest (a .s .now) (l .i)) at (c .before .begins .ensures)) ∙ c .if1 .left) ∙ l .inv .1,
     )
 
--- src/lib.rt:67:1
 returns-2 : tie.Need-returns-2 Inv-loop μ-loop
 returns-2 c =
     let a = c .before .before .before .before .args in

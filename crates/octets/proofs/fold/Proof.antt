@@ -5,23 +5,18 @@ use Rattle.octets.proofs.fold.Tie as tie
 use Rattle.octets.proofs.fold.Reads as reads
 use Rattle.octets.proofs.fold.Lts as lts
 
--- src/lib.rt:10:13
 returns : tie.Need-returns
 returns c = simp (c .before .if1 .taken, lt-leb _ _ (c .if2 .taken))
 
--- src/lib.rt:13:20
 add-result : tie.Need-add-result
 add-result c = search needs
 
--- src/lib.rt:13:13
 returns-2 : tie.Need-returns-2
 returns-2 c = simp (c .before .before .if1 .taken, le-leb _ _ (c .before .if2 .left), le-leb _ _ (c .if3 .taken))
 
--- src/lib.rt:15:9
 returns-3 : tie.Need-returns-3
 returns-3 c = simp (c .before .before .if1 .taken, le-leb _ _ (c .before .if2 .left), lt-leb _ _ (c .if3 .left))
 
--- src/lib.rt:5:1
 returns-4 : tie.Need-returns-4
 returns-4 c = search needs
 

@@ -17,32 +17,25 @@ Inv-loop s s-mark t t-mark i₀ i = (i ≤ length s) × (sameFrom (fold s-mark) 
 abbrev μ-loop : tie.MeasureT-loop
 μ-loop s s-mark t t-mark i₀ i = length s - i
 
--- src/lib.rt:24:9
 returns : tie.Need-returns Inv-loop μ-loop
 returns c =
     lengths-differ (fold (c .before .before .before .args .s-mark)) (fold (c .before .before .before .args .t-mark)) (c .before .before .before .args .s .now) (c .before .before .before .args .t .now) (c .if1 .taken)
 
--- src/lib.rt:27:5
 loop-holds : tie.Need-loop-holds Inv-loop μ-loop
 loop-holds c = (omega arith, refl)
 
--- src/lib.rt:28:25
 shared-slice-read-fold : tie.Need-shared-slice-read-fold Inv-loop μ-loop
 shared-slice-read-fold c = search needs
 
--- src/lib.rt:28:12
 fold-requires : tie.Need-fold-requires Inv-loop μ-loop
 fold-requires c κs = search needs
 
--- src/lib.rt:28:47
 shared-slice-read-fold-2 : tie.Need-shared-slice-read-fold-2 Inv-loop μ-loop
 shared-slice-read-fold-2 c = search needs
 
--- src/lib.rt:28:34
 fold-requires-2 : tie.Need-fold-requires-2 Inv-loop μ-loop
 fold-requires-2 c κs = search needs
 
--- src/lib.rt:29:13
 returns-2 : tie.Need-returns-2 Inv-loop μ-loop
 returns-2 c =
     let a = c .before .before .before .before .before .before .before .before .before .before .args in
@@ -50,15 +43,12 @@ returns-2 c =
     same-stop (fold (a .s-mark)) (fold (a .t-mark)) (a .s .now) (a .t .now) (l .i) (omega arith) (omega arith)
     (λ e. c .if2 .taken (c .before .before .before .fold .ensures ∙ e ∙ sym (c .before .fold2 .ensures))) ∙ l .inv .1
 
--- src/lib.rt:31:9
 add-i : tie.Need-add-i Inv-loop μ-loop
 add-i c = search needs
 
--- src/lib.rt:27:5
 loop-less : tie.Need-loop-less Inv-loop μ-loop
 loop-less c = search needs
 
--- src/lib.rt:27:5
 loop-again : tie.Need-loop-again Inv-loop μ-loop
 loop-again c =
     let a = c .before .before .before .before .before .before .before .before .before .before .args in
@@ -68,7 +58,6 @@ loop-again c =
           (sym (c .before .before .before .fold .ensures) ∙ c .if2 .left ∙ c .before .fold2 .ensures) ∙ l .inv .1,
     )
 
--- src/lib.rt:20:1
 returns-3 : tie.Need-returns-3 Inv-loop μ-loop
 returns-3 c =
     let a = c .before .before .before .before .before .args in

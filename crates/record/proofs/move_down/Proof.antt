@@ -18,35 +18,27 @@ Inv-loop buffer₀ from end n i₀ buffer i =
 abbrev μ-loop : tie.MeasureT-loop
 μ-loop buffer₀ from end n i₀ buffer i = n - i
 
--- src/lib.rt:71:13
 sub-n : tie.Need-sub-n Inv-loop μ-loop
 sub-n c = search needs
 
--- src/lib.rt:73:5
 loop-holds : tie.Need-loop-holds Inv-loop μ-loop
 loop-holds c = (omega arith, refl, λ j h. refl, refl)
 
--- src/lib.rt:74:28
 add-buffer : tie.Need-add-buffer Inv-loop μ-loop
 add-buffer c = search needs
 
--- src/lib.rt:74:21
 slice-read-buffer : tie.Need-slice-read-buffer Inv-loop μ-loop
 slice-read-buffer c = search needs
 
--- src/lib.rt:74:9
 slice-write-buffer : tie.Need-slice-write-buffer Inv-loop μ-loop
 slice-write-buffer c = search needs
 
--- src/lib.rt:75:9
 add-i : tie.Need-add-i Inv-loop μ-loop
 add-i c = search needs
 
--- src/lib.rt:73:5
 loop-less : tie.Need-loop-less Inv-loop μ-loop
 loop-less c = search needs
 
--- src/lib.rt:73:5
 loop-again : tie.Need-loop-again Inv-loop μ-loop
 loop-again c =
     let a = c .before .before .before .args in
@@ -57,11 +49,9 @@ loop-again c =
       move-one (l .buffer) (a .buffer .now) (a .from) (a .end - a .from) (l .i) (c .before .loop-test .taken) (omega arith) (l .inv .2) ∙ l .inv .3,
     )
 
--- src/lib.rt:67:1
 same-length : tie.Need-same-length Inv-loop μ-loop
 same-length c = search needs
 
--- src/lib.rt:67:1
 returns : tie.Need-returns Inv-loop μ-loop
 returns c =
     let a = c .before .before .args in

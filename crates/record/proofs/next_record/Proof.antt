@@ -8,47 +8,37 @@ use Rattle.record.proofs.next_record.Lts as lts
 use Rattle.word.proofs.read_u16.Reads as read-u16-reads
 use Rattle.word.proofs.read_u32.Reads as read-u32-reads
 
--- src/lib.rt:30:9
 returns : tie.Need-returns
 returns c = found-end (c .before .before .args .s .now) (c .if1 .taken)
 
--- src/lib.rt:33:9
 returns-2 : tie.Need-returns-2
 returns-2 c = found-short (c .before .before .before .args .s .now) (c .before .if1 .left) (c .if2 .taken)
 
--- src/lib.rt:35:15
 read-u32-requires : tie.Need-read-u32-requires
 read-u32-requires c κs = search needs
 
--- src/lib.rt:35:15
 cast-len : tie.Need-cast-len
 cast-len c = search needs
 
--- src/lib.rt:37:9
 returns-3 : tie.Need-returns-3
 returns-3 c =
     found-low (c .before .before .before .before .before .args .s .now) (c .before .before .if2 .left) (c .before .read-u32 .result) (c .before .read-u32 .ensures) (c .if3 .taken)
 
--- src/lib.rt:40:9
 returns-4 : tie.Need-returns-4
 returns-4 c =
     found-high (c .before .before .before .before .before .before .args .s .now) (c .before .before .before .if2 .left) (c .before .before .read-u32 .result) (c .before .before .read-u32 .ensures) (c .if4 .taken)
 
--- src/lib.rt:42:16
 add-size : tie.Need-add-size
 add-size c = search needs
 
--- src/lib.rt:45:19
 read-u16-requires : tie.Need-read-u16-requires
 read-u16-requires c κs = search needs
 
--- src/lib.rt:25:1
 returns-5 : tie.Need-returns-5
 returns-5 c =
     found-whole (c .before .before .before .before .before .before .before .before .args .s .now) (c .before .before .before .before .before .if2 .left) (c .before .before .before .before .read-u32 .result) (c .before .before .before .before .read-u32 .ensures)
     (c .read-u16 .result) (c .read-u16 .ensures) (c .before .before .before .if3 .left) (c .before .before .if4 .left) (c .before .if5 .taken)
 
--- src/lib.rt:25:1
 returns-6 : tie.Need-returns-6
 returns-6 c =
     found-cut (c .before .before .before .before .before .before .before .args .s .now) (c .before .before .before .before .if2 .left) (c .before .before .before .read-u32 .result) (c .before .before .before .read-u32 .ensures)

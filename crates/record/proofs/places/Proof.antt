@@ -17,23 +17,18 @@ Inv-loop n rest₀ k₀ rest k = (k + length (decimalOf rest) ≡ suc (length (d
 abbrev μ-loop : tie.MeasureT-loop
 μ-loop n rest₀ k₀ rest k = rest
 
--- src/lib.rt:93:5
 loop-holds : tie.Need-loop-holds Inv-loop μ-loop
 loop-holds c = let h = twenty (c .args .n) (c .fits .n .fits) in (omega arith, h)
 
--- src/lib.rt:95:9
 add-k : tie.Need-add-k Inv-loop μ-loop
 add-k c = search needs
 
--- src/lib.rt:93:5
 loop-less : tie.Need-loop-less Inv-loop μ-loop
 loop-less c = search needs
 
--- src/lib.rt:93:5
 loop-again : tie.Need-loop-again Inv-loop μ-loop
 loop-again c = let e = length-more (c .before .loop .rest) (c .loop-test .taken) in (omega arith, c .before .loop .inv .1)
 
--- src/lib.rt:88:1
 returns : tie.Need-returns Inv-loop μ-loop
 returns c = let e = length-small (c .before .loop .rest) (c .loop-test .left) in omega arith
 

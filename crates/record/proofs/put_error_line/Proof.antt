@@ -9,19 +9,15 @@ use Rattle.record.proofs.put_error_line.Reads as reads
 use Rattle.record.proofs.put_error_line.Lts as lts
 use Rattle.record.proofs.put_byte.Reads as put-byte-reads
 
--- src/lib.rt:176:9
 put-byte-requires : tie.Need-put-byte-requires
 put-byte-requires c κs = search needs
 
--- src/lib.rt:177:5
 put-byte-requires-2 : tie.Need-put-byte-requires-2
 put-byte-requires-2 c κs = search needs
 
--- src/lib.rt:172:1
 same-length : tie.Need-same-length
 same-length c = search needs
 
--- src/lib.rt:172:1
 returns : tie.Need-returns
 returns c =
     (joined (69 ∷ []) lineEnd (c .before .before .before .before .before .before .put-byte .ensures) (c .before .before .put-byte2 .ensures), omega arith)

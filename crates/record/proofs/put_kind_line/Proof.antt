@@ -10,23 +10,18 @@ use Rattle.record.proofs.put_kind_line.Lts as lts
 use Rattle.record.proofs.put_byte.Reads as put-byte-reads
 use Rattle.record.proofs.put_number.Reads as put-number-reads
 
--- src/lib.rt:166:9
 put-byte-requires : tie.Need-put-byte-requires
 put-byte-requires c κs = search needs
 
--- src/lib.rt:167:9
 put-number-requires : tie.Need-put-number-requires
 put-number-requires c κs = search needs
 
--- src/lib.rt:168:5
 put-byte-requires-2 : tie.Need-put-byte-requires-2
 put-byte-requires-2 c κs = search needs
 
--- src/lib.rt:162:1
 same-length : tie.Need-same-length
 same-length c = search needs
 
--- src/lib.rt:162:1
 returns : tie.Need-returns
 returns c =
     let k = spaced (c .before .before .before .before .before .before .before .before .before .before .before .before .before .args .kind) in (

@@ -10,19 +10,15 @@ use Rattle.record.proofs.put_number.Lts as lts
 use Rattle.record.proofs.put_byte.Reads as put-byte-reads
 use Rattle.record.proofs.put_decimal.Reads as put-decimal-reads
 
--- src/lib.rt:121:9
 put-byte-requires : tie.Need-put-byte-requires
 put-byte-requires c κs = search needs
 
--- src/lib.rt:122:5
 put-decimal-requires : tie.Need-put-decimal-requires
 put-decimal-requires c κs = search needs
 
--- src/lib.rt:117:1
 same-length : tie.Need-same-length
 same-length c = search needs
 
--- src/lib.rt:117:1
 returns : tie.Need-returns
 returns c =
     (joined (32 ∷ []) (decimalOf (c .before .before .before .before .before .before .before .before .before .args .n)) (c .before .before .before .before .before .before .put-byte .ensures) (c .before .before .put-decimal .ensures .0), omega arith)

@@ -10,65 +10,50 @@ use Rattle.record.proofs.put_verdict.Reads as reads
 use Rattle.record.proofs.put_verdict.Lts as lts
 use Rattle.record.proofs.put_bytes.Reads as put-bytes-reads
 
--- src/lib.rt:130:34
 enum-told : tie.Need-enum-told
 enum-told c = search needs
 
--- src/lib.rt:130:43
 slice-aggregate-put-bytes : tie.Need-slice-aggregate-put-bytes
 slice-aggregate-put-bytes c = search needs
 
--- src/lib.rt:130:24
 put-bytes-requires : tie.Need-put-bytes-requires
 put-bytes-requires c κs = search needs
 
--- src/lib.rt:131:35
 enum-told-2 : tie.Need-enum-told-2
 enum-told-2 c = search needs
 
--- src/lib.rt:131:44
 slice-aggregate-put-bytes-2 : tie.Need-slice-aggregate-put-bytes-2
 slice-aggregate-put-bytes-2 c = search needs
 
--- src/lib.rt:131:25
 put-bytes-requires-2 : tie.Need-put-bytes-requires-2
 put-bytes-requires-2 c κs = search needs
 
--- src/lib.rt:132:36
 enum-told-3 : tie.Need-enum-told-3
 enum-told-3 c = search needs
 
--- src/lib.rt:132:45
 slice-aggregate-put-bytes-3 : tie.Need-slice-aggregate-put-bytes-3
 slice-aggregate-put-bytes-3 c = search needs
 
--- src/lib.rt:132:26
 put-bytes-requires-3 : tie.Need-put-bytes-requires-3
 put-bytes-requires-3 c κs = search needs
 
--- src/lib.rt:125:1
 same-length : tie.Need-same-length
 same-length c = search needs
 
--- src/lib.rt:125:1
 returns : tie.Need-returns
 returns c =
     spelled (verdictOf True) (verdictOf (c .before .before .before .before .before .before .before .before .args .t)) (sym (ap verdictOf (c .before .before .before .before .before .enum-told .given .1))) (omega arith) (c .before .before .put-bytes .ensures)
 
--- src/lib.rt:125:1
 same-length-2 : tie.Need-same-length-2
 same-length-2 c = search needs
 
--- src/lib.rt:125:1
 returns-2 : tie.Need-returns-2
 returns-2 c =
     spelled (verdictOf False) (verdictOf (c .before .before .before .before .before .before .before .before .args .t)) (sym (ap verdictOf (c .before .before .before .before .before .enum-told2 .given .1))) (omega arith) (c .before .before .put-bytes2 .ensures)
 
--- src/lib.rt:125:1
 same-length-3 : tie.Need-same-length-3
 same-length-3 c = search needs
 
--- src/lib.rt:125:1
 returns-3 : tie.Need-returns-3
 returns-3 c =
     spelled (verdictOf Bottom) (verdictOf (c .before .before .before .before .before .before .before .before .args .t)) (sym (ap verdictOf (c .before .before .before .before .before .enum-told3 .given .1))) (omega arith) (c .before .before .put-bytes3 .ensures)

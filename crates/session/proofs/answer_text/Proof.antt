@@ -8,39 +8,30 @@ use Rattle.session.proofs.answer_text.Lts as lts
 use Rattle.record.proofs.put_text_line.Reads as put-text-line-reads
 use Rattle.translator.proofs.translate.Reads as translate-reads
 
--- src/lib.rt:24:35
 sub-translate : tie.Need-sub-translate
 sub-translate c = search needs
 
--- src/lib.rt:24:35
 part-translate-start : tie.Need-part-translate-start
 part-translate-start c = search needs
 
--- src/lib.rt:24:35
 part-translate-end : tie.Need-part-translate-end
 part-translate-end c = search needs
 
--- src/lib.rt:24:9
 translate-requires : tie.Need-translate-requires
 translate-requires c κs = search needs
 
--- src/lib.rt:25:47
 cast-put-text-line : tie.Need-cast-put-text-line
 cast-put-text-line c = search needs
 
--- src/lib.rt:25:9
 put-text-line-requires : tie.Need-put-text-line-requires
 put-text-line-requires c κs = search needs
 
--- src/lib.rt:20:1
 same-length : tie.Need-same-length
 same-length c = search needs
 
--- src/lib.rt:20:1
 same-length-2 : tie.Need-same-length-2
 same-length-2 c = search needs
 
--- src/lib.rt:20:1
 returns : tie.Need-returns
 returns c =
     λ t. text-answers (c .before .before .before .before .before .before .before .before .before .before .before .before .before .args .bytes .now) t (c .before .before .before .before .before .before .before .before .before .before .before .before .before .args .table .now) (c .before .before .before .before .before .before .before .before .before .before .before .before .before .args .out .now) _ _ _ (c .before .before .before .before .before .before .before .before .before .before .before .before .before .args .at) (c .before .before .put-text-line .result)

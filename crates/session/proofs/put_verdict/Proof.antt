@@ -9,23 +9,18 @@ use Rattle.session.proofs.put_verdict.Lts as lts
 use Rattle.session.proofs.run_kept.Reads as run-kept-reads
 use Rattle.record.proofs.put_notice_line.Reads as put-notice-line-reads
 
--- src/lib.rt:37:9
 run-kept-requires : tie.Need-run-kept-requires
 run-kept-requires c κs = search needs
 
--- src/lib.rt:39:38
 cast-put-notice-line : tie.Need-cast-put-notice-line
 cast-put-notice-line c = search needs
 
--- src/lib.rt:39:5
 put-notice-line-requires : tie.Need-put-notice-line-requires
 put-notice-line-requires c κs = search needs
 
--- src/lib.rt:33:1
 same-length : tie.Need-same-length
 same-length c = search needs
 
--- src/lib.rt:33:1
 returns : tie.Need-returns
 returns c =
     (renamed (ap ranLine (c .before .before .before .before .before .run-kept .ensures)) (c .before .before .put-notice-line .ensures .0), c .before .before .put-notice-line .ensures .1)

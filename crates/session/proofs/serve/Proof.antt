@@ -43,63 +43,49 @@ lies c =
     let d = length-drop at s in
     (l .0, omega (arith, l .2, c .before .before .before .before .before .before .before .before .loop .inv .placed))
 
--- src/lib.rt:93:5
 loop-holds : tie.Need-loop-holds Inv-loop μ-loop
 loop-holds c =
     let a = c .before .before .before .args in along-first (a .input .now) (a .last) (a .table .now) (a .held) (a .out .now) (length (a .out .now) / 80) (c .before .before .before .pre .0) (c .before .before .before .pre .1) (omega arith)
 
--- src/lib.rt:94:41
 sub-next-record : tie.Need-sub-next-record Inv-loop μ-loop
 sub-next-record c = omega (arith, c .before .loop .inv .placed)
 
--- src/lib.rt:94:41
 part-next-record-start : tie.Need-part-next-record-start Inv-loop μ-loop
 part-next-record-start c = omega (arith, c .before .loop .inv .placed)
 
--- src/lib.rt:94:41
 part-next-record-end : tie.Need-part-next-record-end Inv-loop μ-loop
 part-next-record-end c = omega (arith, c .before .loop .inv .placed)
 
--- src/lib.rt:94:13
 next-record-requires : tie.Need-next-record-requires Inv-loop μ-loop
 next-record-requires c κs = search needs
 
--- src/lib.rt:95:12
 waits-requires : tie.Need-waits-requires Inv-loop μ-loop
 waits-requires c κs = search needs
 
--- src/lib.rt:96:13
 same-length : tie.Need-same-length Inv-loop μ-loop
 same-length c = c .before .before .before .before .before .loop .inv .same-buffer
 
--- src/lib.rt:96:13
 same-length-2 : tie.Need-same-length-2 Inv-loop μ-loop
 same-length-2 c = c .before .before .before .before .before .loop .inv .same-out
 
--- src/lib.rt:96:13
 returns : tie.Need-returns Inv-loop μ-loop
 returns c =
     along-waits (c .before .before .before .before .before .loop .inv) (c .before .before .before .before .loop-test .taken)
     (ap (λ (r : Record). waitsOf r (c .before .before .before .before .before .before .before .before .before .args .last)) (sym (found (c .before .before))) ∙ sym (c .before .waits .ensures) ∙ c .if1 .taken)
 
--- src/lib.rt:103:29
 enum-known-found : tie.Need-enum-known-found Inv-loop μ-loop
 enum-known-found c = search needs
 
--- src/lib.rt:104:17
 put-error-line-requires : tie.Need-put-error-line-requires Inv-loop μ-loop
 put-error-line-requires c κs = omega (arith, c .before .before .before .before .before .before .before .loop .inv .room)
 
--- src/lib.rt:105:13
 same-length-3 : tie.Need-same-length-3 Inv-loop μ-loop
 same-length-3 c = c .before .before .before .before .before .before .before .before .before .before .loop .inv .same-buffer
 
--- src/lib.rt:105:13
 same-length-4 : tie.Need-same-length-4 Inv-loop μ-loop
 same-length-4 c =
     c .before .before .put-error-line .kept .0 ∙ c .before .before .before .before .before .before .before .before .before .before .loop .inv .same-out
 
--- src/lib.rt:105:13
 returns-2 : tie.Need-returns-2 Inv-loop μ-loop
 returns-2 c =
     along-error (c .before .before .before .before .before .before .before .before .before .before .loop .inv) _ (c .before .before .put-error-line .result) (c .before .before .before .before .before .before .before .before .before .loop-test .taken)
@@ -107,42 +93,34 @@ returns-2 c =
     (not-whole (tagOf the-type) (λ k n. refl) (recordOf (drop (c .before .before .before .before .before .before .before .before .before .before .loop .at) (c .before .before .before .before .before .before .before .before .before .before .before .before .before .before .args .input .now))) (c .before .before .before .before .before .before .before .next-record .result) (c .before .before .before .before .match .keys2) (found (c .before .before .before .before .before .before .before)))
     (c .before .before .put-error-line .kept .0) (c .before .before .put-error-line .ensures .1) (c .before .before .put-error-line .ensures .0)
 
--- src/lib.rt:112:20
 add-next : tie.Need-add-next Inv-loop μ-loop
 add-next c =
     omega (arith, lies c, c .before .before .before .before .before .before .before .before .before .before .before .before .good)
 
--- src/lib.rt:113:27
 sub-answer : tie.Need-sub-answer Inv-loop μ-loop
 sub-answer c =
     omega arith
 
--- src/lib.rt:113:27
 part-answer-start : tie.Need-part-answer-start Inv-loop μ-loop
 part-answer-start c =
     omega arith
 
--- src/lib.rt:113:27
 part-answer-end : tie.Need-part-answer-end Inv-loop μ-loop
 part-answer-end c =
     omega (arith, lies c)
 
--- src/lib.rt:113:13
 answer-requires : tie.Need-answer-requires Inv-loop μ-loop
 answer-requires c κs =
     let k = c .before .before .before in
     let n = between-length (c .before .before .before .before .before .before .before .before .before .before .before .before .before .before .before .args .input .now) (c .before .before .before .before .before .before .before .before .before .before .before .loop .at) (k .before .found .given .0 .1 .0) (lies k .1) in
     (omega (arith, lies k, n), c .before .before .before .before .before .before .before .before .before .before .before .loop .inv .within, c .before .before .before .before .before .before .before .before .before .before .before .loop .inv .sound, omega (arith, c .before .before .before .before .before .before .before .before .before .before .before .loop .inv .room, c .before .before .before .before .before .before .before .before .before .before .loop-test .taken))
 
--- src/lib.rt:117:9
 sub-left : tie.Need-sub-left Inv-loop μ-loop
 sub-left c = omega arith
 
--- src/lib.rt:93:5
 loop-less : tie.Need-loop-less Inv-loop μ-loop
 loop-less c = omega arith
 
--- src/lib.rt:93:5
 loop-again : tie.Need-loop-again Inv-loop μ-loop
 loop-again c =
     let k = c .before .before .before .before .before .before .before .before in
@@ -152,15 +130,12 @@ loop-again c =
     along-more _ _ _ (k .before .found .given .0 .0) size (a .result) (c .before .before .before .before .before .before .before .before .before .before .before .before .before .before .before .before .loop .inv) (c .before .before .before .before .before .before .before .before .before .before .before .before .before .before .before .loop-test .taken) (whole k) (lies k .1)
     (between (c .before .before .before .before .before .before .before .before .before .before .before .before .before .before .before .before .before .before .before .before .args .input .now) at size) (a .kept .1 .1 .0) (a .kept .1 .1 .1 .1 .0) (a .ensures)
 
--- src/lib.rt:85:1
 same-length-5 : tie.Need-same-length-5 Inv-loop μ-loop
 same-length-5 c = c .before .loop .inv .same-buffer
 
--- src/lib.rt:85:1
 same-length-6 : tie.Need-same-length-6 Inv-loop μ-loop
 same-length-6 c = c .before .loop .inv .same-out
 
--- src/lib.rt:85:1
 returns-3 : tie.Need-returns-3 Inv-loop μ-loop
 returns-3 c = along-full (c .before .loop .inv) (c .loop-test .left)
 

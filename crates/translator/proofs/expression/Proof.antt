@@ -14,32 +14,26 @@ use Rattle.translator.proofs.first_refusal.Reads as first-refusal-reads
 use Rattle.translator.proofs.accepted.Reads as accepted-reads
 use Rattle.translator.proofs.refused.Reads as refused-reads
 
--- src/lib.rt:250:9
 first-refusal-requires : tie.Need-first-refusal-requires
 first-refusal-requires c κs =
     omega (arith, c .before .before .before .before .pre .2 .small, ap (λ (f : Found). f .pool) (c .before .before .before .before .pre .2 .has))
 
--- src/lib.rt:252:9
 refused-requires : tie.Need-refused-requires
 refused-requires c κs = search needs
 
--- src/lib.rt:252:9
 returns : tie.Need-returns
 returns c =
     let a = c .before .before .before .before .before .before .before .args in
     answers-refused (c .before .before .before .before .before .before .before .pre .2) (length (a .buffer .now)) (c .before .before .first-refusal .ensures) (length (a .text .now)) (a .starts .now) (c .before .if1 .taken) (c .refused .ensures)
 
--- src/lib.rt:282:5
 accepted-requires : tie.Need-accepted-requires
 accepted-requires c κs =
     let a = c .before .before .before .before .before .before .before .args in
     (c .before .before .before .before .before .before .before .pre .0, c .before .before .before .before .before .before .before .pre .1, judged (c .before .before .before .before .before .before .before .pre .2) (length (a .buffer .now)) (c .before .before .first-refusal .ensures) (c .before .if1 .left))
 
--- src/lib.rt:274:1
 same-length : tie.Need-same-length
 same-length c = search needs
 
--- src/lib.rt:274:1
 returns-2 : tie.Need-returns-2
 returns-2 c =
     let a = c .before .before .before .before .before .before .before .before .before .before .args in

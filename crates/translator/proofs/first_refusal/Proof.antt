@@ -1,48 +1,39 @@
 use native.Mathlib.Omega.{arith}
-use Rattle.translator.proofs.Filling.{by-5, by-7, by-8, by-9, by-0}
+use Rattle.translator.proofs.Filling.{by-4, by-5, by-7, by-8, by-9, by-0}
 use borrow.Author.Needs.{needs}
 use Rattle.translator.proofs.first_refusal.Statement.{statement}
 use Rattle.translator.proofs.first_refusal.Tie as tie
 use Rattle.translator.proofs.first_refusal.Reads as reads
 use Rattle.translator.proofs.first_refusal.Lts as lts
 
--- src/lib.rt:200:9
 returns : tie.Need-returns
-returns c = search needs
+returns c = by-4 (c .before .before .args .f) (c .before .before .args .room) (c .if1 .taken)
 
--- src/lib.rt:203:9
 returns-2 : tie.Need-returns-2
 returns-2 c =
     by-5 (c .before .before .before .before .args .f) (c .before .before .before .before .args .room) (c .before .before .if1 .left) (c .if2 .taken)
 
--- src/lib.rt:206:9
 returns-3 : tie.Need-returns-3
 returns-3 c =
     by-7 (c .before .before .before .before .before .before .args .f) (c .before .before .before .before .before .before .args .room) (c .before .before .before .before .if1 .left) (c .before .before .if2 .left) (c .if3 .taken)
 
--- src/lib.rt:209:9
 returns-4 : tie.Need-returns-4
 returns-4 c =
     by-8 (c .before .before .before .before .before .before .before .before .args .f) (c .before .before .before .before .before .before .before .before .args .room) (c .before .before .before .before .before .before .if1 .left) (c .before .before .before .before .if2 .left) (c .before .before .if3 .left) (c .if4 .taken)
 
--- src/lib.rt:211:20
 mul-if5 : tie.Need-mul-if5
 mul-if5 c = search needs
 
--- src/lib.rt:211:15
 add-if5 : tie.Need-add-if5
 add-if5 c = search needs
 
--- src/lib.rt:211:15
 add-if5-2 : tie.Need-add-if5-2
 add-if5-2 c = search needs
 
--- src/lib.rt:212:9
 returns-5 : tie.Need-returns-5
 returns-5 c =
     by-9 (c .before .before .before .before .before .before .before .before .before .before .before .args .f) (c .before .before .before .before .before .before .before .before .before .before .before .args .room) (c .before .before .before .before .before .before .before .before .before .if1 .left) (c .before .before .before .before .before .before .before .if2 .left) (c .before .before .before .before .before .if3 .left) (c .before .before .before .if4 .left) (c .if5 .taken)
 
--- src/lib.rt:195:1
 returns-6 : tie.Need-returns-6
 returns-6 c =
     by-0 (c .before .before .before .before .before .before .before .before .before .before .before .args .f) (c .before .before .before .before .before .before .before .before .before .before .before .args .room) (c .before .before .before .before .before .before .before .before .before .if1 .left) (c .before .before .before .before .before .before .before .if2 .left) (c .before .before .before .before .before .if3 .left) (c .before .before .before .if4 .left) (c .if5 .left)

@@ -9,16 +9,13 @@ use Rattle.translator.proofs.place_of.Reads as reads
 use Rattle.translator.proofs.place_of.Lts as lts
 use Rattle.grammar.proofs.stream.start.Reads as start-reads
 
--- src/lib.rt:239:9
 start-requires : tie.Need-start-requires
 start-requires c κs = search needs
 
--- src/lib.rt:235:1
 returns : tie.Need-returns
 returns c =
     c .start .ensures ∙ within (c .before .before .before .before .args .starts .now) (c .before .before .before .before .args .p) 0 (length (c .before .before .before .before .args .text .now)) (c .before .if1 .taken)
 
--- src/lib.rt:235:1
 returns-2 : tie.Need-returns-2
 returns-2 c =
     sym (List·getD-eq-default (c .before .before .before .args .starts .now) (length (c .before .before .before .args .text .now)) (c .if1 .left))

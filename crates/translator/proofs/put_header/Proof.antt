@@ -9,55 +9,43 @@ use Rattle.translator.proofs.put_header.Lts as lts
 use Rattle.word.proofs.write_u16.Reads as write-u16-reads
 use Rattle.word.proofs.write_u32.Reads as write-u32-reads
 
--- src/lib.rt:178:34
 mul-write-u32 : tie.Need-mul-write-u32
 mul-write-u32 c = search needs
 
--- src/lib.rt:178:30
 add-write-u32 : tie.Need-add-write-u32
 add-write-u32 c = search needs
 
--- src/lib.rt:178:30
 add-write-u32-2 : tie.Need-add-write-u32-2
 add-write-u32-2 c = search needs
 
--- src/lib.rt:178:29
 cast-write-u32 : tie.Need-cast-write-u32
 cast-write-u32 c = search needs
 
--- src/lib.rt:178:5
 write-u32-requires : tie.Need-write-u32-requires
 write-u32-requires c κs = search needs
 
--- src/lib.rt:179:5
 write-u16-requires : tie.Need-write-u16-requires
 write-u16-requires c κs = search needs
 
--- src/lib.rt:180:29
 cast-write-u16 : tie.Need-cast-write-u16
 cast-write-u16 c = search needs
 
--- src/lib.rt:180:5
 write-u16-requires-2 : tie.Need-write-u16-requires-2
 write-u16-requires-2 c κs = search needs
 
--- src/lib.rt:181:29
 cast-write-u16-2 : tie.Need-cast-write-u16-2
 cast-write-u16-2 c = search needs
 
--- src/lib.rt:181:5
 write-u16-requires-3 : tie.Need-write-u16-requires-3
 write-u16-requires-3 c κs = search needs
 
--- src/lib.rt:174:1
 same-length : tie.Need-same-length
 same-length c = search needs
 
--- src/lib.rt:174:1
 returns : tie.Need-returns
 returns c =
     let s = c .before .before .before .before .before .before .before .before .before .before .before .before .before .before .before .before .before in
-    header-written (s .args .out .now) (c .before .before .before .before .before .before .before .before .before .before .before .before .before .before .write-u32 .last .0) (c .before .before .before .before .before .before .before .before .before .before .write-u16 .last .0) (c .before .before .before .before .before .before .write-u162 .last .0) (c .before .before .write-u163 .last .0) _ (s .args .entries) (s .args .names) refl (c .before .before .before .before .before .before .before .before .before .before .before .before .before .before .write-u32 .ensures) (c .before .before .before .before .before .before .before .before .before .before .write-u16 .ensures) (c .before .before .before .before .before .before .write-u162 .ensures) (c .before .before .write-u163 .ensures)
+    header-written (s .args .out .now) (c .before .before .before .before .before .before .before .before .before .before .before .before .before .before .write-u32 .last .0) (c .before .before .before .before .before .before .before .before .before .before .write-u16 .last .0) (c .before .before .before .before .before .before .write-u162 .last .0) (c .before .before .write-u163 .last .0) _ (s .args .entries) (s .args .pool) refl (c .before .before .before .before .before .before .before .before .before .before .before .before .before .before .write-u32 .ensures) (c .before .before .before .before .before .before .before .before .before .before .write-u16 .ensures) (c .before .before .before .before .before .before .write-u162 .ensures) (c .before .before .write-u163 .ensures)
 
 pub put-header-spec : {M : Type 1} → statement M
 put-header-spec =

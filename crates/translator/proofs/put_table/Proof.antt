@@ -19,44 +19,37 @@ use Rattle.translator.proofs.level.Reads as level-reads
 use Rattle.translator.proofs.pool.put_pool.Reads as put-pool-reads
 use Rattle.translator.proofs.put_header.Reads as put-header-reads
 
--- src/lib.rt:189:5
 put-header-requires : tie.Need-put-header-requires
 put-header-requires c κs =
     (c .before .before .before .before .before .pre .2 .few, c .before .before .before .before .before .pre .2 .small, header-fits (c .before .before .before .before .before .pre .2))
 
--- src/lib.rt:190:5
 level-requires : tie.Need-level-requires
 level-requires c κs =
     let a = c .before .before .before .before .before .before .before .before .before .args in
-    let long = sym (kept-by (a .out .now) _ 0 (headerBytes (a .entries) (a .names)) (c .before .before .before .put-header .ensures)) in
-    (c .before .before .before .before .before .before .before .before .before .pre .0, c .before .before .before .before .before .before .before .before .before .pre .1, omega arith, level-accepts (subst (λ (n : ℕ). Judged (tokensIn (a .text .now) (a .kinds .now) (a .starts .now)) (a .entries) (a .names) n) long (c .before .before .before .before .before .before .before .before .before .pre .2)))
+    let long = sym (kept-by (a .out .now) _ 0 (headerBytes (a .entries) (a .pool)) (c .before .before .before .put-header .ensures)) in
+    (c .before .before .before .before .before .before .before .before .before .pre .0, c .before .before .before .before .before .before .before .before .before .pre .1, omega arith, level-accepts (subst (λ (n : ℕ). Judged (tokensIn (a .text .now) (a .kinds .now) (a .starts .now)) (a .entries) (a .pool) n) long (c .before .before .before .before .before .before .before .before .before .pre .2)))
 
--- src/lib.rt:191:51
 mul-put-pool : tie.Need-mul-put-pool
 mul-put-pool c =
     omega (arith, c .before .before .before .before .before .before .before .before .before .before .before .before .before .pre .2 .few)
 
--- src/lib.rt:191:46
 add-put-pool : tie.Need-add-put-pool
 add-put-pool c =
     omega (arith, c .before .before .before .before .before .before .before .before .before .before .before .before .before .pre .2 .few)
 
--- src/lib.rt:191:5
 put-pool-requires : tie.Need-put-pool-requires
 put-pool-requires c κs =
     let a = c .before .before .before .before .before .before .before .before .before .before .before .before .before .args in
     let ks = tokensIn (a .text .now) (a .kinds .now) (a .starts .now) in
     let len = length-tokens (a .text .now) (a .kinds .now) (a .starts .now) in
-    let long = sym (kept (c .before .before .before .level .ensures) ∙ kept-by (a .out .now) _ 0 (headerBytes (a .entries) (a .names)) (c .before .before .before .before .before .before .before .put-header .ensures)) in
-    let j = subst (λ (n : ℕ). Judged ks (a .entries) (a .names) n) long (c .before .before .before .before .before .before .before .before .before .before .before .before .before .pre .2) in
+    let long = sym (kept (c .before .before .before .level .ensures) ∙ kept-by (a .out .now) _ 0 (headerBytes (a .entries) (a .pool)) (c .before .before .before .before .before .before .before .put-header .ensures)) in
+    let j = subst (λ (n : ℕ). Judged ks (a .entries) (a .pool) n) long (c .before .before .before .before .before .before .before .before .before .before .before .before .before .pre .2) in
     omega (arith, pool-fits j, ap (λ (n : ℕ). length (broughtFrom ks 0 n)) len)
 
--- src/lib.rt:185:1
 same-length : tie.Need-same-length
 same-length c =
     ap length (c .before .before .put-pool .ensures) ∙ simp length-sets (kept (c .before .before .before .before .before .before .level .ensures) ∙ ap length (c .before .before .before .before .before .before .before .before .before .before .put-header .ensures) ∙ simp length-sets)
 
--- src/lib.rt:185:1
 returns : tie.Need-returns
 returns c =
     let a = c .before .before .before .before .before .before .before .before .before .before .before .before .before .before .before .before .args in

@@ -15,57 +15,45 @@ use Rattle.translator.proofs.expression.Reads as expression-reads
 use Rattle.translator.proofs.place_of.Reads as place-of-reads
 use Rattle.translator.proofs.refused.Reads as refused-reads
 
--- src/lib.rt:269:8
 too-deep-requires : tie.Need-too-deep-requires
 too-deep-requires c κs = search needs
 
--- src/lib.rt:270:9
 refused-requires : tie.Need-refused-requires
 refused-requires c κs = search needs
 
--- src/lib.rt:270:9
 returns : tie.Need-returns
 returns c =
     let a = c .before .before .before .before .before .before .before .args in
     answers-deep (length (a .text .now)) (a .kinds .now) (a .starts .now) (length (a .buffer .now)) (tokensIn (a .text .now) (a .kinds .now) (a .starts .now)) (c .before .before .too-deep .ensures) (c .before .if1 .taken) (c .refused .ensures)
 
--- src/lib.rt:272:11
 parse-requires : tie.Need-parse-requires
 parse-requires c κs = search needs
 
--- src/lib.rt:273:26
 enum-known-f : tie.Need-enum-known-f
 enum-known-f c = search needs
 
--- src/lib.rt:273:32
 expression-requires : tie.Need-expression-requires
 expression-requires c κs =
     let a = c .before .before .before .before .before .before .before .before .before .before .before .args in
     (c .before .before .before .before .before .before .before .before .before .before .before .pre .0, c .before .before .before .before .before .before .before .before .before .before .before .pre .1, known (tokensIn (a .text .now) (a .kinds .now) (a .starts .now)) (c .before .before .before .before .before .before .before .before .before .before .before .pre .2) (c .before .before .before .before .parse .ensures) (c .before .before .f .given .1))
 
--- src/lib.rt:274:24
 enum-known-p : tie.Need-enum-known-p
 enum-known-p c = search needs
 
--- src/lib.rt:274:41
 place-of-requires : tie.Need-place-of-requires
 place-of-requires c κs = search needs
 
--- src/lib.rt:274:30
 refused-requires-2 : tie.Need-refused-requires-2
 refused-requires-2 c κs = search needs
 
--- src/lib.rt:265:1
 same-length : tie.Need-same-length
 same-length c = search needs
 
--- src/lib.rt:265:1
 returns-2 : tie.Need-returns-2
 returns-2 c =
     let a = c .before .before .before .before .before .before .before .before .before .before .before .before .before .before .args in
     answers-parsed (length (a .text .now)) (a .kinds .now) (a .starts .now) (length (a .buffer .now)) (tokensIn (a .text .now) (a .kinds .now) (a .starts .now)) (c .before .before .before .before .before .before .before .before .before .too-deep .ensures) (c .before .before .before .before .before .before .before .before .if1 .left) (c .before .before .expression .ensures)
 
--- src/lib.rt:265:1
 returns-3 : tie.Need-returns-3
 returns-3 c =
     let a = c .before .before .before .before .before .before .before .before .before .before .before .before .args in

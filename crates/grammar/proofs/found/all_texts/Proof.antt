@@ -6,15 +6,12 @@ use Rattle.grammar.proofs.found.all_texts.Reads as reads
 use Rattle.grammar.proofs.found.all_texts.Lts as lts
 use Rattle.grammar.proofs.found.is_text.Reads as is-text-reads
 
--- src/found.rt:162:43
 is-text-requires : tie.Need-is-text-requires
 is-text-requires c κs = search needs
 
--- src/found.rt:159:1
 returns : tie.Need-returns
 returns c = rw (eq-eqb _ _ (c .if1 .taken))
 
--- src/found.rt:159:1
 returns-2 : tie.Need-returns-2
 returns-2 c = rw (ne-eqb _ _ (c .before .if1 .left), c .is-text .ensures)
 

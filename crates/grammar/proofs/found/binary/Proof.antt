@@ -8,43 +8,33 @@ use Rattle.grammar.proofs.found.larger.Reads as larger-reads
 use Rattle.grammar.proofs.found.operand_right.Reads as operand-right-reads
 use Rattle.grammar.proofs.found.operator_entries.Reads as operator-entries-reads
 
--- src/found.rt:128:18
 add-t4 : tie.Need-add-t4
 add-t4 c = search needs
 
--- src/found.rt:128:42
 operator-entries-requires : tie.Need-operator-entries-requires
 operator-entries-requires c κs = search needs
 
--- src/found.rt:128:18
 add-t6 : tie.Need-add-t6
 add-t6 c = search needs
 
--- src/found.rt:129:15
 add-t7 : tie.Need-add-t7
 add-t7 c = search needs
 
--- src/found.rt:130:32
 add-larger : tie.Need-add-larger
 add-larger c = search needs
 
--- src/found.rt:130:16
 larger-requires : tie.Need-larger-requires
 larger-requires c κs = search needs
 
--- src/found.rt:132:16
 gives-logic-requires : tie.Need-gives-logic-requires
 gives-logic-requires c κs = search needs
 
--- src/found.rt:134:27
 operand-right-requires : tie.Need-operand-right-requires
 operand-right-requires c κs = search needs
 
--- src/found.rt:134:67
 operand-right-requires-2 : tie.Need-operand-right-requires-2
 operand-right-requires-2 c κs = search needs
 
--- src/found.rt:123:1
 returns : tie.Need-returns
 returns c =
     rw (

@@ -7,23 +7,18 @@ use Rattle.grammar.proofs.found.call_form.Reads as call-form-reads
 use Rattle.grammar.proofs.found.call_right.Reads as call-right-reads
 use Rattle.grammar.proofs.found.gives_logic.Reads as gives-logic-reads
 
--- src/found.rt:251:9
 call-form-requires : tie.Need-call-form-requires
 call-form-requires c κs = search needs
 
--- src/found.rt:253:9
 call-right-requires : tie.Need-call-right-requires
 call-right-requires c κs = search needs
 
--- src/found.rt:255:18
 add-t6 : tie.Need-add-t6
 add-t6 c = search needs
 
--- src/found.rt:259:16
 gives-logic-requires : tie.Need-gives-logic-requires
 gives-logic-requires c κs = search needs
 
--- src/found.rt:247:1
 returns : tie.Need-returns
 returns c =
     rw (c .before .before .before .before .call-form .ensures, c .before .before .before .call-right .ensures, c .before .gives-logic .ensures)

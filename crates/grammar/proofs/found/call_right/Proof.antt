@@ -8,54 +8,42 @@ use Rattle.grammar.proofs.found.is_folding.Reads as is-folding-reads
 use Rattle.grammar.proofs.found.is_name.Reads as is-name-reads
 use Rattle.grammar.proofs.found.is_text.Reads as is-text-reads
 
--- src/found.rt:223:32
 is-name-requires : tie.Need-is-name-requires
 is-name-requires c κs = search needs
 
--- src/found.rt:223:49
 is-text-requires : tie.Need-is-text-requires
 is-text-requires c κs = search needs
 
--- src/found.rt:223:65
 is-folding-requires : tie.Need-is-folding-requires
 is-folding-requires c κs = search needs
 
--- src/found.rt:223:9
 returns : tie.Need-returns
 returns c =
     rw (eq-eqb _ _ (c .before .before .before .if1 .taken), c .before .before .is-name .ensures, c .before .is-text .ensures, c .is-folding .ensures)
 
--- src/found.rt:226:16
 is-name-requires-2 : tie.Need-is-name-requires-2
 is-name-requires-2 c κs = search needs
 
--- src/found.rt:226:9
 returns-2 : tie.Need-returns-2
 returns-2 c = rw (ne-eqb _ _ (c .before .before .if1 .left), eq-eqb _ _ (c .before .if2 .taken), c .is-name2 .ensures)
 
--- src/found.rt:229:17
 is-name-requires-3 : tie.Need-is-name-requires-3
 is-name-requires-3 c κs = search needs
 
--- src/found.rt:229:33
 is-folding-requires-2 : tie.Need-is-folding-requires-2
 is-folding-requires-2 c κs = search needs
 
--- src/found.rt:229:9
 returns-3 : tie.Need-returns-3
 returns-3 c =
     rw (ne-eqb _ _ (c .before .before .before .before .if1 .left), ne-eqb _ _ (c .before .before .before .if2 .left), c .before .before .if3 .taken, c .before .is-name3 .ensures, c .is-folding2 .ensures)
 
--- src/found.rt:232:31
 is-name-requires-4 : tie.Need-is-name-requires-4
 is-name-requires-4 c κs = search needs
 
--- src/found.rt:232:9
 returns-4 : tie.Need-returns-4
 returns-4 c =
     rw (ne-eqb _ _ (c .before .before .before .before .if1 .left), ne-eqb _ _ (c .before .before .before .if2 .left), c .before .before .if3 .left, c .before .if4 .taken, c .is-name4 .ensures)
 
--- src/found.rt:219:1
 returns-5 : tie.Need-returns-5
 returns-5 c =
     rw (ne-eqb _ _ (c .before .before .before .if1 .left), ne-eqb _ _ (c .before .before .if2 .left), c .before .if3 .left, c .if4 .left)

@@ -5,11 +5,9 @@ use Rattle.grammar.proofs.found.leaf.Reads as reads
 use Rattle.grammar.proofs.found.leaf.Lts as lts
 use Rattle.grammar.proofs.found.leaf_form.Reads as leaf-form-reads
 
--- src/found.rt:62:9
 leaf-form-requires : tie.Need-leaf-form-requires
 leaf-form-requires c κs = search needs
 
--- src/found.rt:59:1
 returns : tie.Need-returns
 returns c = rw (c .leaf-form .ensures)
 

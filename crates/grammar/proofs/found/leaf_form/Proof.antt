@@ -5,15 +5,12 @@ use Rattle.grammar.proofs.found.leaf_form.Tie as tie
 use Rattle.grammar.proofs.found.leaf_form.Reads as reads
 use Rattle.grammar.proofs.found.leaf_form.Lts as lts
 
--- src/found.rt:51:9
 returns : tie.Need-returns
 returns c = rw (eq-eqb _ _ (c .if1 .taken))
 
--- src/found.rt:54:9
 returns-2 : tie.Need-returns-2
 returns-2 c = rw (ne-eqb _ _ (c .before .if1 .left), eq-eqb _ _ (c .if2 .taken))
 
--- src/found.rt:47:1
 returns-3 : tie.Need-returns-3
 returns-3 c = rw (ne-eqb _ _ (c .before .if1 .left), ne-eqb _ _ (c .if2 .left))
 

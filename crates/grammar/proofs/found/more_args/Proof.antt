@@ -7,35 +7,27 @@ use Rattle.grammar.proofs.found.all_texts.Reads as all-texts-reads
 use Rattle.grammar.proofs.found.first_form.Reads as first-form-reads
 use Rattle.grammar.proofs.found.larger.Reads as larger-reads
 
--- src/found.rt:171:9
 first-form-requires : tie.Need-first-form-requires
 first-form-requires c κs = search needs
 
--- src/found.rt:172:9
 all-texts-requires : tie.Need-all-texts-requires
 all-texts-requires c κs = search needs
 
--- src/found.rt:174:16
 add-t7 : tie.Need-add-t7
 add-t7 c = search needs
 
--- src/found.rt:175:18
 add-t8 : tie.Need-add-t8
 add-t8 c = search needs
 
--- src/found.rt:176:15
 add-t9 : tie.Need-add-t9
 add-t9 c = search needs
 
--- src/found.rt:177:32
 add-larger : tie.Need-add-larger
 add-larger c = search needs
 
--- src/found.rt:177:16
 larger-requires : tie.Need-larger-requires
 larger-requires c κs = search needs
 
--- src/found.rt:165:1
 returns : tie.Need-returns
 returns c =
     rw (c .before .before .before .before .before .before .before .before .before .before .before .before .before .before .first-form .ensures, c .before .before .before .before .before .before .before .before .before .before .before .before .before .all-texts .ensures, c .before .before .before .before .before .larger .ensures)

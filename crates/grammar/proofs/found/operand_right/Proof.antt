@@ -5,11 +5,9 @@ use Rattle.grammar.proofs.found.operand_right.Tie as tie
 use Rattle.grammar.proofs.found.operand_right.Reads as reads
 use Rattle.grammar.proofs.found.operand_right.Lts as lts
 
--- src/found.rt:95:1
 returns : tie.Need-returns
 returns c = rw (le-leb _ _ (c .if1 .taken))
 
--- src/found.rt:95:1
 returns-2 : tie.Need-returns-2
 returns-2 c = rw (lt-leb _ _ (c .if1 .left))
 

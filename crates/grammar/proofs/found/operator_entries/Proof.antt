@@ -5,11 +5,9 @@ use Rattle.grammar.proofs.found.operator_entries.Tie as tie
 use Rattle.grammar.proofs.found.operator_entries.Reads as reads
 use Rattle.grammar.proofs.found.operator_entries.Lts as lts
 
--- src/found.rt:117:1
 returns : tie.Need-returns
 returns c = (rw (c .if1 .taken), omega arith)
 
--- src/found.rt:117:1
 returns-2 : tie.Need-returns-2
 returns-2 c = (rw (c .if1 .left), omega arith)
 

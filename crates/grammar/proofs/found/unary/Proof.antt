@@ -6,19 +6,15 @@ use Rattle.grammar.proofs.found.unary.Lts as lts
 use Rattle.grammar.proofs.found.gives_logic.Reads as gives-logic-reads
 use Rattle.grammar.proofs.found.operand_right.Reads as operand-right-reads
 
--- src/found.rt:106:18
 add-t3 : tie.Need-add-t3
 add-t3 c = search needs
 
--- src/found.rt:110:16
 gives-logic-requires : tie.Need-gives-logic-requires
 gives-logic-requires c κs = search needs
 
--- src/found.rt:112:26
 operand-right-requires : tie.Need-operand-right-requires
 operand-right-requires c κs = search needs
 
--- src/found.rt:101:1
 returns : tie.Need-returns
 returns c = rw (c .before .before .gives-logic .ensures, c .before .operand-right .ensures)
 

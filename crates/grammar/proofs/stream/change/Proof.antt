@@ -6,32 +6,25 @@ use Rattle.grammar.proofs.stream.change.Reads as reads
 use Rattle.grammar.proofs.stream.change.Lts as lts
 use Rattle.lexer.proofs.name_is.Reads as name-is-reads
 
--- src/stream.rt:95:33
 slice-aggregate-name-is : tie.Need-slice-aggregate-name-is
 slice-aggregate-name-is c = search needs
 
--- src/stream.rt:95:8
 name-is-requires : tie.Need-name-is-requires
 name-is-requires c κs = search needs
 
--- src/stream.rt:96:9
 returns : tie.Need-returns
 returns c = rw (sym (c .before .name-is .ensures) ∙ c .if1 .taken)
 
--- src/stream.rt:98:33
 slice-aggregate-name-is-2 : tie.Need-slice-aggregate-name-is-2
 slice-aggregate-name-is-2 c = search needs
 
--- src/stream.rt:98:8
 name-is-requires-2 : tie.Need-name-is-requires-2
 name-is-requires-2 c κs = search needs
 
--- src/stream.rt:99:9
 returns-2 : tie.Need-returns-2
 returns-2 c =
     rw (sym (c .before .before .before .before .name-is .ensures) ∙ c .before .before .before .if1 .left, sym (c .before .name-is2 .ensures) ∙ c .if2 .taken)
 
--- src/stream.rt:92:1
 returns-3 : tie.Need-returns-3
 returns-3 c =
     rw (sym (c .before .before .before .before .name-is .ensures) ∙ c .before .before .before .if1 .left, sym (c .before .name-is2 .ensures) ∙ c .if2 .left)

@@ -9,28 +9,22 @@ use Rattle.grammar.proofs.stream.change.Reads as change-reads
 use Rattle.grammar.proofs.stream.matching.Reads as matching-reads
 use Rattle.grammar.proofs.stream.test.Reads as test-reads
 
--- src/stream.rt:81:9
 change-requires : tie.Need-change-requires
 change-requires c κs = search needs
 
--- src/stream.rt:83:9
 returns : tie.Need-returns
 returns c = rw (← (c .before .change .ensures), ne-eqb _ _ (c .if1 .taken))
 
--- src/stream.rt:85:9
 test-requires : tie.Need-test-requires
 test-requires c κs = search needs
 
--- src/stream.rt:87:9
 returns-2 : tie.Need-returns-2
 returns-2 c =
     rw (← (c .before .before .before .change .ensures), eq-eqb _ _ (c .before .before .if1 .left), ← (c .before .test .ensures), ne-eqb _ _ (c .if2 .taken))
 
--- src/stream.rt:89:5
 matching-requires : tie.Need-matching-requires
 matching-requires c κs = search needs
 
--- src/stream.rt:78:1
 returns-3 : tie.Need-returns-3
 returns-3 c =
     rw (← (c .before .before .before .before .change .ensures), eq-eqb _ _ (c .before .before .before .if1 .left), ← (c .before .before .test .ensures), eq-eqb _ _ (c .before .if2 .left), ← (c .matching .ensures))

@@ -7,15 +7,12 @@ use Rattle.grammar.proofs.stream.kind.Tie as tie
 use Rattle.grammar.proofs.stream.kind.Reads as reads
 use Rattle.grammar.proofs.stream.kind.Lts as lts
 
--- src/stream.rt:22:27
 shared-slice-read-result : tie.Need-shared-slice-read-result
 shared-slice-read-result c = search needs
 
--- src/stream.rt:19:1
 returns : tie.Need-returns
 returns c = within (c .before .before .args .kinds .now) (c .before .before .args .at) 0 99 (c .before .if1 .taken)
 
--- src/stream.rt:19:1
 returns-2 : tie.Need-returns-2
 returns-2 c = sym (List·getD-eq-default (c .before .args .kinds .now) 99 (c .if1 .left))
 

@@ -10,47 +10,37 @@ use Rattle.grammar.proofs.stream.start.Reads as start-reads
 use Rattle.lexer.proofs.name_length.Reads as name-length-reads
 use Rattle.lexer.proofs.string_length.Reads as string-length-reads
 
--- src/stream.rt:66:9
 kind-requires : tie.Need-kind-requires
 kind-requires c κs = search needs
 
--- src/stream.rt:67:9
 start-requires : tie.Need-start-requires
 start-requires c κs = search needs
 
--- src/stream.rt:69:31
 name-length-requires : tie.Need-name-length-requires
 name-length-requires c κs = search needs
 
--- src/stream.rt:69:9
 leaf-requires : tie.Need-leaf-requires
 leaf-requires c κs = search needs
 
--- src/stream.rt:69:9
 returns : tie.Need-returns
 returns c =
     let a = c .before .before .before .before .before .before .before .before .args in
     leaf-name (a .text .now) (a .kinds .now) (a .starts .now) (a .at) (c .before .before .before .before .kind .ensures) (c .before .before .before .start .ensures) (c .before .before .if1 .taken) (c .before .name-length .ensures) (c .leaf .ensures)
 
--- src/stream.rt:72:31
 string-length-requires : tie.Need-string-length-requires
 string-length-requires c κs = search needs
 
--- src/stream.rt:72:9
 leaf-requires-2 : tie.Need-leaf-requires-2
 leaf-requires-2 c κs = search needs
 
--- src/stream.rt:72:9
 returns-2 : tie.Need-returns-2
 returns-2 c =
     let a = c .before .before .before .before .before .before .before .before .before .args in
     leaf-text (a .text .now) (a .kinds .now) (a .starts .now) (a .at) (c .before .before .before .before .before .kind .ensures) (c .before .before .before .before .start .ensures) (c .before .before .if2 .taken) (c .before .string-length .ensures) (c .leaf2 .ensures)
 
--- src/stream.rt:74:5
 leaf-requires-3 : tie.Need-leaf-requires-3
 leaf-requires-3 c κs = search needs
 
--- src/stream.rt:63:1
 returns-3 : tie.Need-returns-3
 returns-3 c =
     let a = c .before .before .before .before .before .before .before .before .args in

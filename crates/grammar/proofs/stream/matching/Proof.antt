@@ -6,58 +6,45 @@ use Rattle.grammar.proofs.stream.matching.Reads as reads
 use Rattle.grammar.proofs.stream.matching.Lts as lts
 use Rattle.lexer.proofs.name_is.Reads as name-is-reads
 
--- src/stream.rt:134:33
 slice-aggregate-name-is : tie.Need-slice-aggregate-name-is
 slice-aggregate-name-is c = search needs
 
--- src/stream.rt:134:8
 name-is-requires : tie.Need-name-is-requires
 name-is-requires c κs = search needs
 
--- src/stream.rt:135:9
 returns : tie.Need-returns
 returns c = rw (sym (c .before .name-is .ensures) ∙ c .if1 .taken)
 
--- src/stream.rt:137:33
 slice-aggregate-name-is-2 : tie.Need-slice-aggregate-name-is-2
 slice-aggregate-name-is-2 c = search needs
 
--- src/stream.rt:137:8
 name-is-requires-2 : tie.Need-name-is-requires-2
 name-is-requires-2 c κs = search needs
 
--- src/stream.rt:138:9
 returns-2 : tie.Need-returns-2
 returns-2 c =
     rw (sym (c .before .before .before .before .name-is .ensures) ∙ c .before .before .before .if1 .left, sym (c .before .name-is2 .ensures) ∙ c .if2 .taken)
 
--- src/stream.rt:140:33
 slice-aggregate-name-is-3 : tie.Need-slice-aggregate-name-is-3
 slice-aggregate-name-is-3 c = search needs
 
--- src/stream.rt:140:8
 name-is-requires-3 : tie.Need-name-is-requires-3
 name-is-requires-3 c κs = search needs
 
--- src/stream.rt:141:9
 returns-3 : tie.Need-returns-3
 returns-3 c =
     rw (sym (c .before .before .before .before .before .before .before .name-is .ensures) ∙ c .before .before .before .before .before .before .if1 .left, sym (c .before .before .before .before .name-is2 .ensures) ∙ c .before .before .before .if2 .left, sym (c .before .name-is3 .ensures) ∙ c .if3 .taken)
 
--- src/stream.rt:143:33
 slice-aggregate-name-is-4 : tie.Need-slice-aggregate-name-is-4
 slice-aggregate-name-is-4 c = search needs
 
--- src/stream.rt:143:8
 name-is-requires-4 : tie.Need-name-is-requires-4
 name-is-requires-4 c κs = search needs
 
--- src/stream.rt:144:9
 returns-4 : tie.Need-returns-4
 returns-4 c =
     rw (sym (c .before .before .before .before .before .before .before .before .before .before .name-is .ensures) ∙ c .before .before .before .before .before .before .before .before .before .if1 .left, sym (c .before .before .before .before .before .before .before .name-is2 .ensures) ∙ c .before .before .before .before .before .before .if2 .left, sym (c .before .before .before .before .name-is3 .ensures) ∙ c .before .before .before .if3 .left, sym (c .before .name-is4 .ensures) ∙ c .if4 .taken)
 
--- src/stream.rt:131:1
 returns-5 : tie.Need-returns-5
 returns-5 c =
     rw (sym (c .before .before .before .before .before .before .before .before .before .before .name-is .ensures) ∙ c .before .before .before .before .before .before .before .before .before .if1 .left, sym (c .before .before .before .before .before .before .before .name-is2 .ensures) ∙ c .before .before .before .before .before .before .if2 .left, sym (c .before .before .before .before .name-is3 .ensures) ∙ c .before .before .before .if3 .left, sym (c .before .name-is4 .ensures) ∙ c .if4 .left)

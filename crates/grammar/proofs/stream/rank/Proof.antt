@@ -10,16 +10,13 @@ use Rattle.grammar.proofs.stream.rank.Tie as tie
 use Rattle.grammar.proofs.stream.rank.Reads as reads
 use Rattle.grammar.proofs.stream.rank.Lts as lts
 
--- src/stream.rt:46:17
 array-read-result : tie.Need-array-read-result
 array-read-result c = search needs
 
--- src/stream.rt:42:1
 returns : tie.Need-returns
 unfolding ranks
 returns c = rank-low (c .before .args .k) (c .if1 .taken)
 
--- src/stream.rt:42:1
 returns-2 : tie.Need-returns-2
 returns-2 c = rank-high (c .before .args .k) (c .if1 .left)
 

@@ -6,19 +6,15 @@ use Rattle.grammar.proofs.stream.row_after.Reads as reads
 use Rattle.grammar.proofs.stream.row_after.Lts as lts
 use Rattle.grammar.proofs.stream.is_prefix.Reads as is-prefix-reads
 
--- src/stream.rt:170:8
 is-prefix-requires : tie.Need-is-prefix-requires
 is-prefix-requires c κs = search needs
 
--- src/stream.rt:170:23
 add-result : tie.Need-add-result
 add-result c = search needs
 
--- src/stream.rt:166:1
 returns : tie.Need-returns
 returns c = rw (sym (c .before .is-prefix .ensures) ∙ c .if1 .taken)
 
--- src/stream.rt:166:1
 returns-2 : tie.Need-returns-2
 returns-2 c = rw (sym (c .before .is-prefix .ensures) ∙ c .if1 .left)
 

@@ -7,23 +7,18 @@ use Rattle.grammar.proofs.stream.start.Reads as reads
 use Rattle.grammar.proofs.stream.start.Lts as lts
 use Rattle.grammar.proofs.stream.wide.Reads as wide-reads
 
--- src/stream.rt:28:33
 mul-wide : tie.Need-mul-wide
 mul-wide c = search needs
 
--- src/stream.rt:28:33
 shared-slice-read-wide : tie.Need-shared-slice-read-wide
 shared-slice-read-wide c = search needs
 
--- src/stream.rt:28:28
 wide-requires : tie.Need-wide-requires
 wide-requires c κs = search needs
 
--- src/stream.rt:25:1
 returns : tie.Need-returns
 returns c = search needs
 
--- src/stream.rt:25:1
 returns-2 : tie.Need-returns-2
 returns-2 c = sym (List·getD-eq-default (c .before .before .args .starts .now) 0 (c .if1 .left))
 

@@ -6,97 +6,75 @@ use Rattle.grammar.proofs.stream.test.Reads as reads
 use Rattle.grammar.proofs.stream.test.Lts as lts
 use Rattle.lexer.proofs.name_is.Reads as name-is-reads
 
--- src/stream.rt:107:33
 slice-aggregate-name-is : tie.Need-slice-aggregate-name-is
 slice-aggregate-name-is c = search needs
 
--- src/stream.rt:107:8
 name-is-requires : tie.Need-name-is-requires
 name-is-requires c κs = search needs
 
--- src/stream.rt:108:9
 returns : tie.Need-returns
 returns c = rw (sym (c .before .name-is .ensures) ∙ c .if1 .taken)
 
--- src/stream.rt:110:33
 slice-aggregate-name-is-2 : tie.Need-slice-aggregate-name-is-2
 slice-aggregate-name-is-2 c = search needs
 
--- src/stream.rt:110:8
 name-is-requires-2 : tie.Need-name-is-requires-2
 name-is-requires-2 c κs = search needs
 
--- src/stream.rt:111:9
 returns-2 : tie.Need-returns-2
 returns-2 c =
     rw (sym (c .before .before .before .before .name-is .ensures) ∙ c .before .before .before .if1 .left, sym (c .before .name-is2 .ensures) ∙ c .if2 .taken)
 
--- src/stream.rt:113:33
 slice-aggregate-name-is-3 : tie.Need-slice-aggregate-name-is-3
 slice-aggregate-name-is-3 c = search needs
 
--- src/stream.rt:113:8
 name-is-requires-3 : tie.Need-name-is-requires-3
 name-is-requires-3 c κs = search needs
 
--- src/stream.rt:114:9
 returns-3 : tie.Need-returns-3
 returns-3 c =
     rw (sym (c .before .before .before .before .before .before .before .name-is .ensures) ∙ c .before .before .before .before .before .before .if1 .left, sym (c .before .before .before .before .name-is2 .ensures) ∙ c .before .before .before .if2 .left, sym (c .before .name-is3 .ensures) ∙ c .if3 .taken)
 
--- src/stream.rt:116:33
 slice-aggregate-name-is-4 : tie.Need-slice-aggregate-name-is-4
 slice-aggregate-name-is-4 c = search needs
 
--- src/stream.rt:116:8
 name-is-requires-4 : tie.Need-name-is-requires-4
 name-is-requires-4 c κs = search needs
 
--- src/stream.rt:117:9
 returns-4 : tie.Need-returns-4
 returns-4 c =
     rw (sym (c .before .before .before .before .before .before .before .before .before .before .name-is .ensures) ∙ c .before .before .before .before .before .before .before .before .before .if1 .left, sym (c .before .before .before .before .before .before .before .name-is2 .ensures) ∙ c .before .before .before .before .before .before .if2 .left, sym (c .before .before .before .before .name-is3 .ensures) ∙ c .before .before .before .if3 .left, sym (c .before .name-is4 .ensures) ∙ c .if4 .taken)
 
--- src/stream.rt:119:33
 slice-aggregate-name-is-5 : tie.Need-slice-aggregate-name-is-5
 slice-aggregate-name-is-5 c = search needs
 
--- src/stream.rt:119:8
 name-is-requires-5 : tie.Need-name-is-requires-5
 name-is-requires-5 c κs = search needs
 
--- src/stream.rt:120:9
 returns-5 : tie.Need-returns-5
 returns-5 c =
     rw (sym (c .before .before .before .before .before .before .before .before .before .before .before .before .before .name-is .ensures) ∙ c .before .before .before .before .before .before .before .before .before .before .before .before .if1 .left, sym (c .before .before .before .before .before .before .before .before .before .before .name-is2 .ensures) ∙ c .before .before .before .before .before .before .before .before .before .if2 .left, sym (c .before .before .before .before .before .before .before .name-is3 .ensures) ∙ c .before .before .before .before .before .before .if3 .left, sym (c .before .before .before .before .name-is4 .ensures) ∙ c .before .before .before .if4 .left, sym (c .before .name-is5 .ensures) ∙ c .if5 .taken)
 
--- src/stream.rt:122:33
 slice-aggregate-name-is-6 : tie.Need-slice-aggregate-name-is-6
 slice-aggregate-name-is-6 c = search needs
 
--- src/stream.rt:122:8
 name-is-requires-6 : tie.Need-name-is-requires-6
 name-is-requires-6 c κs = search needs
 
--- src/stream.rt:123:9
 returns-6 : tie.Need-returns-6
 returns-6 c =
     rw (sym (c .before .before .before .before .before .before .before .before .before .before .before .before .before .before .before .before .name-is .ensures) ∙ c .before .before .before .before .before .before .before .before .before .before .before .before .before .before .before .if1 .left, sym (c .before .before .before .before .before .before .before .before .before .before .before .before .before .name-is2 .ensures) ∙ c .before .before .before .before .before .before .before .before .before .before .before .before .if2 .left, sym (c .before .before .before .before .before .before .before .before .before .before .name-is3 .ensures) ∙ c .before .before .before .before .before .before .before .before .before .if3 .left, sym (c .before .before .before .before .before .before .before .name-is4 .ensures) ∙ c .before .before .before .before .before .before .if4 .left, sym (c .before .before .before .before .name-is5 .ensures) ∙ c .before .before .before .if5 .left, sym (c .before .name-is6 .ensures) ∙ c .if6 .taken)
 
--- src/stream.rt:125:33
 slice-aggregate-name-is-7 : tie.Need-slice-aggregate-name-is-7
 slice-aggregate-name-is-7 c = search needs
 
--- src/stream.rt:125:8
 name-is-requires-7 : tie.Need-name-is-requires-7
 name-is-requires-7 c κs = search needs
 
--- src/stream.rt:126:9
 returns-7 : tie.Need-returns-7
 returns-7 c =
     rw (sym (c .before .before .before .before .before .before .before .before .before .before .before .before .before .before .before .before .before .before .before .name-is .ensures) ∙ c .before .before .before .before .before .before .before .before .before .before .before .before .before .before .before .before .before .before .if1 .left, sym (c .before .before .before .before .before .before .before .before .before .before .before .before .before .before .before .before .name-is2 .ensures) ∙ c .before .before .before .before .before .before .before .before .before .before .before .before .before .before .before .if2 .left, sym (c .before .before .before .before .before .before .before .before .before .before .before .before .before .name-is3 .ensures) ∙ c .before .before .before .before .before .before .before .before .before .before .before .before .if3 .left, sym (c .before .before .before .before .before .before .before .before .before .before .name-is4 .ensures) ∙ c .before .before .before .before .before .before .before .before .before .if4 .left, sym (c .before .before .before .before .before .before .before .name-is5 .ensures) ∙ c .before .before .before .before .before .before .if5 .left, sym (c .before .before .before .before .name-is6 .ensures) ∙ c .before .before .before .if6 .left, sym (c .before .name-is7 .ensures) ∙ c .if7 .taken)
 
--- src/stream.rt:104:1
 returns-8 : tie.Need-returns-8
 returns-8 c =
     rw (sym (c .before .before .before .before .before .before .before .before .before .before .before .before .before .before .before .before .before .before .before .name-is .ensures) ∙ c .before .before .before .before .before .before .before .before .before .before .before .before .before .before .before .before .before .before .if1 .left, sym (c .before .before .before .before .before .before .before .before .before .before .before .before .before .before .before .before .name-is2 .ensures) ∙ c .before .before .before .before .before .before .before .before .before .before .before .before .before .before .before .if2 .left, sym (c .before .before .before .before .before .before .before .before .before .before .before .before .before .name-is3 .ensures) ∙ c .before .before .before .before .before .before .before .before .before .before .before .before .if3 .left, sym (c .before .before .before .before .before .before .before .before .before .before .name-is4 .ensures) ∙ c .before .before .before .before .before .before .before .before .before .if4 .left, sym (c .before .before .before .before .before .before .before .name-is5 .ensures) ∙ c .before .before .before .before .before .before .if5 .left, sym (c .before .before .before .before .name-is6 .ensures) ∙ c .before .before .before .if6 .left, sym (c .before .name-is7 .ensures) ∙ c .if7 .left)

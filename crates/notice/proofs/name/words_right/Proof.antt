@@ -3,7 +3,7 @@ use mathlib.Core.Bool.{true}
 use Prim.Native.Nat.{ℕ, _+_, _-_, _≤_}
 use native.Mathlib.Omega.{arith}
 use lib.ListN.{length, take, drop}
-use Rattle.word.specs.Word.{leBytes, Bytes}
+use Rattle.word.specs.Word.{wordBytes, Bytes}
 use Rattle.notice.specs.Field.{printable}
 use Rattle.notice.proofs.Names.{overlap, start-wrong, next-right, word-bytes, end-word}
 use borrow.Author.Needs.{needs}
@@ -24,7 +24,7 @@ word-is : (c : tie.After-word-right Inv-loop μ-loop) → c .word-right .result 
 word-is c =
     let s = c .before .before .before .before .before .args .name .now in
     let i = c .before .before .before .loop in
-    c .word-right .ensures ∙ (ap (λ (x : ℕ). printable (leBytes 4 x)) (c .before .read-u32 .ensures)
+    c .word-right .ensures ∙ (ap (λ (x : ℕ). printable (wordBytes 4 x)) (c .before .read-u32 .ensures)
     ∙ (word-bytes 4 (i .i) s (bytes (c .before .before .before .before)) (omega arith) ∙ next-right (i .i) 4 s (i .inv .1)))
 
 sub-last : tie.Need-sub-last Inv-loop μ-loop
@@ -62,7 +62,7 @@ returns-2 : tie.Need-returns-2 Inv-loop μ-loop
 returns-2 c =
     let s = c .before .before .before .before .before .args .name .now in
     let i = c .before .before .before .loop in
-    c .word-right2 .ensures ∙ (ap (λ (x : ℕ). printable (leBytes 4 x)) (c .before .read-u322 .ensures)
+    c .word-right2 .ensures ∙ (ap (λ (x : ℕ). printable (wordBytes 4 x)) (c .before .read-u322 .ensures)
     ∙ (end-word 4 (length s - 4) s (bytes (c .before .before .before .before)) (omega arith) ∙ overlap (i .i) (length s - 4) s (omega arith) (i .inv .1)))
 
 pub words-right-spec : {M : Type 1} → statement M

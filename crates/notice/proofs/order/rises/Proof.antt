@@ -17,7 +17,7 @@ after-one : (c : tie.Else2) → c .before .before .before .args .last ≡ 0 → 
 after-one c =
     let a = c .before .before .before .args in
     let p = c .before .before .before .pre in
-    some-last (a .notice .now) (a .last) (a .at) (a .last-key) (a .key) (p .0) (p .1) (p .2) (c .before .if1 .left)
+    some-last (a .notice .now) (a .last) (a .at) (a .last-key) (a .key) (p .0) (p .1) (p .2) (omega (arith, c .before .if1 .left))
 
 lying-last : (c : tie.Else2) → Lies (c .before .before .before .args .notice .now) (c .before .before .before .args .last)
 lying-last c = lies-true (c .before .before .before .args .notice .now) (c .before .before .before .args .last) (c .before .before .before .pre .0 .lies (after-one c))

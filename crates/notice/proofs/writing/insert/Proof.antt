@@ -4,7 +4,7 @@ use native.Mathlib.Omega.{arith}
 use mathlib.Core.List.{List}
 use lib.ListN.{length, take, drop}
 use lib.Seq.{sets}
-use Rattle.word.specs.Word.{leBytes, Bytes}
+use Rattle.word.specs.Word.{wordBytes, Bytes}
 use Rattle.notice.specs.Layout.{countOf}
 use Rattle.notice.specs.Field.{Field}
 use Rattle.notice.specs.Render.{fieldBytes}
@@ -115,10 +115,10 @@ returns c =
     let size = fieldSize f in
     let at = c .before .before .before .before .before .before .before .before .before .before .before .before .before .before .before .before .before .before .before .place-for .result in
     c .before .before .write-u16 .ensures
-    ∙ (ap₂ (λ (t : List ℕ) (n : ℕ). sets t 6 (leBytes 2 (n + 1))) (c .before .before .before .before .before .before .write-u32 .ensures
-    ∙ ap (λ (t : List ℕ). sets t 0 (leBytes 4 (a .len + size - 4))) (c .before .before .before .before .before .before .before .before .before .before .put-field .ensures
+    ∙ (ap₂ (λ (t : List ℕ) (n : ℕ). sets t 6 (wordBytes 2 (n + 1))) (c .before .before .before .before .before .before .write-u32 .ensures
+    ∙ ap (λ (t : List ℕ). sets t 0 (wordBytes 4 (a .len + size - 4))) (c .before .before .before .before .before .before .before .before .before .before .put-field .ensures
     ∙ ap (λ (t : List ℕ). sets t at (fieldBytes f)) (c .before .before .before .before .before .before .before .before .before .before .before .before .before .before .move-up .ensures))) (count-is (c .before .before .before .before .before .before .before .before .before .before .before .before .before .before .before .before))
-    ∙ (ap (λ (i : ℕ). sets (sets (sets (sets b (i + size) (take (a .len - i) (drop i b))) i (fieldBytes f)) 0 (leBytes 4 (a .len + size - 4))) 6 (leBytes 2 (countOf (take (a .len) b) + 1))) (place-is (c .before .before .before .before .before .before .before .before .before .before .before .before .before .before .before .before .before .before .before))
+    ∙ (ap (λ (i : ℕ). sets (sets (sets (sets b (i + size) (take (a .len - i) (drop i b))) i (fieldBytes f)) 0 (wordBytes 4 (a .len + size - 4))) 6 (wordBytes 2 (countOf (take (a .len) b) + 1))) (place-is (c .before .before .before .before .before .before .before .before .before .before .before .before .before .before .before .before .before .before .before))
     ∙ inserted b (λ i. c .before .before .before .before .before .before .before .before .before .before .before .before .before .before .before .before .before .before .before .before .before .before .before .before .slice-known .given i .fits) (a .len) f (c .before .before .before .before .before .before .before .before .before .before .before .before .before .before .before .before .before .before .before .before .before .before .before .before .before .pre)))
 
 pub insert-spec : {M : Type 1} → statement M

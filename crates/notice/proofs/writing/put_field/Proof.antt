@@ -4,7 +4,7 @@ use native.Mathlib.Omega.{arith}
 use mathlib.Core.List.{List}
 use lib.ListN.{length, set, length-set}
 use lib.Seq.{sets}
-use Rattle.word.specs.Word.{leBytes}
+use Rattle.word.specs.Word.{wordBytes}
 use Rattle.notice.specs.Write.{field}
 use Rattle.notice.proofs.Stores.{field-stored}
 use borrow.Author.Needs.{needs}
@@ -70,7 +70,7 @@ returns c =
     c .before .before .copy-to2 .ensures
     ∙ (ap (λ (t : List ℕ). sets t (at + 5 + length name) (a .value .now)) (c .before .before .before .before .before .before .copy-to .ensures
     ∙ ap (λ (t : List ℕ). sets (set t (at + 4) (length name)) (at + 5) name) (c .before .before .before .before .before .before .before .before .before .before .write-u162 .ensures
-    ∙ ap (λ (t : List ℕ). sets t (at + 2) (leBytes 2 (a .kind))) (c .before .before .before .before .before .before .before .before .before .before .before .before .before .before .write-u16 .ensures)))
+    ∙ ap (λ (t : List ℕ). sets t (at + 2) (wordBytes 2 (a .kind))) (c .before .before .before .before .before .before .before .before .before .before .before .before .before .before .write-u16 .ensures)))
     ∙ field-stored (a .buffer .now) at (field (a .kind) name (a .value .now)))
 
 pub put-field-spec : {M : Type 1} → statement M

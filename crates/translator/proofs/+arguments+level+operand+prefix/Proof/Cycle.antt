@@ -68,16 +68,16 @@ abbrev pub prefix-below : ℕ → In 4 prefix-kinds.ps
 prefix-below t = and 4 prefix-kinds.ps (falls 4 prefix-kinds.ps _<_ μ-prefix t) prefix.Pre
 
 abbrev pub arguments-Inv-loop : arguments-lts.InvT-loop
-arguments-Inv-loop text kinds starts out₀ at i pool function next₀ end₀ names₀ count₀ out next end names count = Passing (tokensIn text kinds starts) at i pool out₀ out next end names count
+arguments-Inv-loop text kinds starts out₀ at i pool function next₀ end₀ pool-end₀ count₀ out next end pool-end count = Passing (tokensIn text kinds starts) at i pool out₀ out next end pool-end count
 
 abbrev pub arguments-μ-loop : arguments-lts.MeasureT-loop
-arguments-μ-loop text kinds starts out₀ at i pool function next₀ end₀ names₀ count₀ out next end names count = length kinds - next
+arguments-μ-loop text kinds starts out₀ at i pool function next₀ end₀ pool-end₀ count₀ out next end pool-end count = length kinds - next
 
 abbrev pub level-Inv-loop : level-lts.InvT-loop
-level-Inv-loop text kinds starts out₀ at l i pool next₀ end₀ names₀ out next end names = Emitting (tokensIn text kinds starts) at l i pool out₀ out next end names
+level-Inv-loop text kinds starts out₀ at l i pool next₀ end₀ pool-end₀ out next end pool-end = Emitting (tokensIn text kinds starts) at l i pool out₀ out next end pool-end
 
 abbrev pub level-μ-loop : level-lts.MeasureT-loop
-level-μ-loop text kinds starts out₀ at l i pool next₀ end₀ names₀ out next end names = length kinds - next
+level-μ-loop text kinds starts out₀ at l i pool next₀ end₀ pool-end₀ out next end pool-end = length kinds - next
 
 abbrev pub arguments-calls : ℕ → arguments-lts.Claims
 arguments-calls t = (start-reads.Asked, start-reads.Learnt, function-reads.Asked, function-reads.Learnt, kind-reads.Asked, kind-reads.Learnt, call-entry-reads.Asked, call-entry-reads.Learnt, put-reads.Asked, put-reads.Learnt, level-below t, level.Post)

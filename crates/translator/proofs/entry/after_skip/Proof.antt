@@ -7,20 +7,16 @@ use Rattle.translator.proofs.entry.after_skip.Reads as reads
 use Rattle.translator.proofs.entry.after_skip.Lts as lts
 use Rattle.translator.proofs.entry.skip_op.Reads as skip-op-reads
 
--- src/entry.rt:115:8
 skip-op-requires : tie.Need-skip-op-requires
 skip-op-requires c κs = search needs
 
--- src/entry.rt:115:37
 add-result : tie.Need-add-result
 add-result c = search needs
 
--- src/entry.rt:111:1
 returns : tie.Need-returns
 returns c =
     after-none (c .before .before .args .k) _ (c .before .before .args .i) (c .before .skip-op .ensures) (c .if1 .taken)
 
--- src/entry.rt:111:1
 returns-2 : tie.Need-returns-2
 returns-2 c =
     after-some (c .before .before .args .k) _ (c .before .before .args .i) (c .before .skip-op .ensures) (c .if1 .left)

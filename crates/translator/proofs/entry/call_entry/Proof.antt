@@ -8,33 +8,26 @@ use Rattle.translator.proofs.entry.call_entry.Lts as lts
 use Rattle.translator.proofs.entry.operator_entry.Reads as operator-entry-reads
 use Rattle.translator.proofs.entry.part_entry.Reads as part-entry-reads
 
--- src/entry.rt:89:9
 operator-entry-requires : tie.Need-operator-entry-requires
 operator-entry-requires c κs = search needs
 
--- src/entry.rt:89:9
 returns : tie.Need-returns
 returns c =
     call-plain (c .before .before .args .f) (c .before .before .args .count) (c .before .if1 .taken) (c .operator-entry .ensures)
 
--- src/entry.rt:92:9
 operator-entry-requires-2 : tie.Need-operator-entry-requires-2
 operator-entry-requires-2 c κs = search needs
 
--- src/entry.rt:92:9
 returns-2 : tie.Need-returns-2
 returns-2 c =
     call-empty (c .before .before .before .args .f) (c .before .before .before .args .count) (c .before .if2 .taken) (c .operator-entry2 .ensures)
 
--- src/entry.rt:94:26
 sub-part-entry : tie.Need-sub-part-entry
 sub-part-entry c = search needs
 
--- src/entry.rt:94:5
 part-entry-requires : tie.Need-part-entry-requires
 part-entry-requires c κs = search needs
 
--- src/entry.rt:84:1
 returns-3 : tie.Need-returns-3
 returns-3 c =
     call-counted (c .before .before .before .args .f) (c .before .before .before .args .count) (c .before .before .if1 .left) (c .part-entry .ensures)

@@ -22,79 +22,62 @@ use Rattle.translator.proofs.entry.literal_entry.Reads as literal-entry
 use Rattle.translator.proofs.entry.part_entry.Reads as part-entry-reads
 use Rattle.word.proofs.bits_of_i64.Reads as bits-of-i64-reads
 
--- src/entry.rt:50:9
 kind-requires : tie.Need-kind-requires
 kind-requires c κs = search needs
 
--- src/entry.rt:51:9
 start-requires : tie.Need-start-requires
 start-requires c κs = search needs
 
--- src/entry.rt:53:30
 name-length-requires : tie.Need-name-length-requires
 name-length-requires c κs = search needs
 
--- src/entry.rt:53:9
 part-entry-requires : tie.Need-part-entry-requires
 part-entry-requires c κs =
     omega (arith, c .name-length .ensures, name-small (c .before .before .before .before .before .before .before .args .text .now) (c .before .before .start .result), c .before .before .before .before .before .before .before .pre .0)
 
--- src/entry.rt:53:9
 returns : tie.Need-returns
 returns c =
     let a = c .before .before .before .before .before .before .before .before .args in
     name-made (a .text .now) (a .kinds .now) (a .starts .now) (a .at) (a .pool) (c .before .before .before .before .kind .ensures) (c .before .before .before .start .ensures) (c .before .before .if1 .taken) (c .before .name-length .ensures) (c .part-entry .ensures)
 
--- src/entry.rt:56:30
 string-length-requires : tie.Need-string-length-requires
 string-length-requires c κs = search needs
 
--- src/entry.rt:56:9
 part-entry-requires-2 : tie.Need-part-entry-requires-2
 part-entry-requires-2 c κs =
     omega (arith, c .string-length .ensures, string-small (c .before .before .before .before .before .before .before .before .args .text .now) (c .before .before .before .start .result), c .before .before .before .before .before .before .before .before .pre .0)
 
--- src/entry.rt:56:9
 returns-2 : tie.Need-returns-2
 returns-2 c =
     let a = c .before .before .before .before .before .before .before .before .before .args in
     string-made (a .text .now) (a .kinds .now) (a .starts .now) (a .at) (a .pool) (c .before .before .before .before .before .kind .ensures) (c .before .before .before .before .start .ensures) (c .before .before .if2 .taken) (c .before .string-length .ensures) (c .part-entry2 .ensures)
 
--- src/entry.rt:59:54
 real-value-requires : tie.Need-real-value-requires
 real-value-requires c κs = search needs
 
--- src/entry.rt:59:33
 bits-of-real-requires : tie.Need-bits-of-real-requires
 bits-of-real-requires c κs = search needs
 
--- src/entry.rt:59:9
 literal-entry-requires : tie.Need-literal-entry-requires
 literal-entry-requires c κs = search needs
 
--- src/entry.rt:59:9
 returns-3 : tie.Need-returns-3
 returns-3 c =
     let a = c .before .before .before .before .before .before .before .before .before .before .before .args in
     real-made (a .text .now) (a .kinds .now) (a .starts .now) (a .at) (a .pool) (c .before .before .before .before .before .before .before .kind .ensures) (c .before .before .before .before .before .before .start .ensures) (c .before .before .before .if3 .taken) (c .before .bits-of-real .ensures ∙ ap (toBits binary64) (c .before .before .real-value .ensures)) (c .literal-entry .ensures)
 
--- src/entry.rt:61:19
 cast-literal-entry : tie.Need-cast-literal-entry
 cast-literal-entry c = search needs
 
--- src/entry.rt:61:47
 int-value-requires : tie.Need-int-value-requires
 int-value-requires c κs = search needs
 
--- src/entry.rt:61:29
 bits-of-i64-requires : tie.Need-bits-of-i64-requires
 bits-of-i64-requires c κs = search needs
 
--- src/entry.rt:61:5
 literal-entry-requires-2 : tie.Need-literal-entry-requires-2
 literal-entry-requires-2 c κs = search needs
 
--- src/entry.rt:46:1
 returns-4 : tie.Need-returns-4
 returns-4 c =
     let a = c .before .before .before .before .before .before .before .before .before .before .before .args in

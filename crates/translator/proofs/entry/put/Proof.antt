@@ -10,39 +10,30 @@ use Rattle.translator.proofs.entry.put.Reads as reads
 use Rattle.translator.proofs.entry.put.Lts as lts
 use Rattle.translator.proofs.entry.put_entry.Reads as put-entry-reads
 
--- src/entry.rt:30:19
 mul-at : tie.Need-mul-at
 mul-at c = search needs
 
--- src/entry.rt:30:14
 add-at : tie.Need-add-at
 add-at c = search needs
 
--- src/entry.rt:31:28
 add-put-entry : tie.Need-add-put-entry
 add-put-entry c = search needs
 
--- src/entry.rt:31:15
 sub-put-entry : tie.Need-sub-put-entry
 sub-put-entry c = search needs
 
--- src/entry.rt:31:15
 part-put-entry-start : tie.Need-part-put-entry-start
 part-put-entry-start c = search needs
 
--- src/entry.rt:31:15
 part-put-entry-end : tie.Need-part-put-entry-end
 part-put-entry-end c = search needs
 
--- src/entry.rt:31:5
 put-entry-requires : tie.Need-put-entry-requires
 put-entry-requires c κs = search needs
 
--- src/entry.rt:26:1
 same-length : tie.Need-same-length
 same-length c = search needs
 
--- src/entry.rt:26:1
 returns : tie.Need-returns
 returns c =
     let a = c .before .before .before .before .before .args in

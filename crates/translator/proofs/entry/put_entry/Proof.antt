@@ -8,23 +8,18 @@ use Rattle.translator.proofs.entry.put_entry.Lts as lts
 use Rattle.word.proofs.write_u16.Reads as write-u16-reads
 use Rattle.word.proofs.write_u64.Reads as write-u64-reads
 
--- src/entry.rt:20:5
 write-u16-requires : tie.Need-write-u16-requires
 write-u16-requires c κs = search needs
 
--- src/entry.rt:21:5
 write-u16-requires-2 : tie.Need-write-u16-requires-2
 write-u16-requires-2 c κs = search needs
 
--- src/entry.rt:22:5
 write-u64-requires : tie.Need-write-u64-requires
 write-u64-requires c κs = search needs
 
--- src/entry.rt:16:1
 same-length : tie.Need-same-length
 same-length c = search needs
 
--- src/entry.rt:16:1
 returns : tie.Need-returns
 returns c =
     let s = c .before .before .before .before .before .before .before .before .before .before .before .before .before in

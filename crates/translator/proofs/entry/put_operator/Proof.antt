@@ -13,57 +13,44 @@ use Rattle.translator.proofs.entry.skip_entry.Reads as skip-entry-reads
 use Rattle.translator.proofs.entry.put.Reads as put-reads
 use Rattle.translator.proofs.entry.skip_op.Reads as skip-op-reads
 
--- src/entry.rt:123:9
 skip-op-requires : tie.Need-skip-op-requires
 skip-op-requires c κs = search needs
 
--- src/entry.rt:125:23
 operator-entry-requires : tie.Need-operator-entry-requires
 operator-entry-requires c κs = search needs
 
--- src/entry.rt:125:9
 put-requires : tie.Need-put-requires
 put-requires c κs = search needs
 
--- src/entry.rt:126:9
 same-length : tie.Need-same-length
 same-length c = search needs
 
--- src/entry.rt:126:9
 returns : tie.Need-returns
 returns c =
     let a = c .before .before .before .before .before .before .before .before .args in
     operator-alone (a .out .now) (a .k) _ (a .from) (a .end) (c .before .before .before .before .before .before .skip-op .ensures) (c .before .before .before .before .before .if1 .taken) (c .before .before .before .operator-entry .ensures) (c .before .before .put .ensures)
 
--- src/entry.rt:136:38
 sub-skip-entry : tie.Need-sub-skip-entry
 sub-skip-entry c = search needs
 
--- src/entry.rt:136:38
 sub-skip-entry-2 : tie.Need-sub-skip-entry-2
 sub-skip-entry-2 c = search needs
 
--- src/entry.rt:136:20
 skip-entry-requires : tie.Need-skip-entry-requires
 skip-entry-requires c κs = search needs
 
--- src/entry.rt:128:5
 put-requires-2 : tie.Need-put-requires-2
 put-requires-2 c κs = search needs
 
--- src/entry.rt:129:19
 operator-entry-requires-2 : tie.Need-operator-entry-requires-2
 operator-entry-requires-2 c κs = search needs
 
--- src/entry.rt:129:5
 put-requires-3 : tie.Need-put-requires-3
 put-requires-3 c κs = search needs
 
--- src/entry.rt:119:1
 same-length-2 : tie.Need-same-length-2
 same-length-2 c = search needs
 
--- src/entry.rt:119:1
 returns-2 : tie.Need-returns-2
 returns-2 c =
     let a = c .before .before .before .before .before .before .before .before .before .before .before .before .before .args in

@@ -5,15 +5,12 @@ use Rattle.translator.proofs.entry.skip_op.Tie as tie
 use Rattle.translator.proofs.entry.skip_op.Reads as reads
 use Rattle.translator.proofs.entry.skip_op.Lts as lts
 
--- src/entry.rt:102:9
 returns : tie.Need-returns
 returns c = skip-and (c .before .args .k) (c .if1 .taken)
 
--- src/entry.rt:105:9
 returns-2 : tie.Need-returns-2
 returns-2 c = skip-or (c .before .before .args .k) (c .if2 .taken)
 
--- src/entry.rt:98:1
 returns-3 : tie.Need-returns-3
 returns-3 c = skip-none (c .before .before .args .k) (c .before .if1 .left) (c .if2 .left)
 

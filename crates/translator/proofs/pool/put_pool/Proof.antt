@@ -16,34 +16,27 @@ Inv-loop text kinds starts out₀ from at₀ i₀ out at i = Copying (tokensIn t
 abbrev μ-loop : tie.MeasureT-loop
 μ-loop text kinds starts out₀ from at₀ i₀ out at i = length kinds - i
 
--- src/pool.rt:39:5
 loop-holds : tie.Need-loop-holds Inv-loop μ-loop
 loop-holds c = copy-start _ _ _ _
 
--- src/pool.rt:40:9
 put-brought-requires : tie.Need-put-brought-requires Inv-loop μ-loop
 put-brought-requires c κs =
     (c .before .loop-test .taken, copy-fits (c .before .before .loop .inv) (c .before .loop-test .taken) (c .before .before .before .before .before .before .before .pre))
 
--- src/pool.rt:41:9
 add-i : tie.Need-add-i Inv-loop μ-loop
 add-i c =
     omega (arith, c .before .before .before .before .loop-test .taken, c .before .before .before .before .before .before .before .before .before .before .good)
 
--- src/pool.rt:39:5
 loop-less : tie.Need-loop-less Inv-loop μ-loop
 loop-less c = omega (arith, c .before .before .before .before .loop-test .taken)
 
--- src/pool.rt:39:5
 loop-again : tie.Need-loop-again Inv-loop μ-loop
 loop-again c =
     copy-on (c .before .before .before .before .before .loop .inv) (c .before .before .before .before .loop-test .taken) (c .before .before .put-brought .ensures .0) (c .before .before .put-brought .ensures .1)
 
--- src/pool.rt:33:1
 same-length : tie.Need-same-length Inv-loop μ-loop
 same-length c = c .before .loop .inv .long
 
--- src/pool.rt:33:1
 returns : tie.Need-returns Inv-loop μ-loop
 returns c = copy-end (c .before .loop .inv) (c .loop-test .left)
 

@@ -6,7 +6,7 @@ use mir.Syntax.{w32, w64}
 use mir.Val.{toZ}
 use mir.ValLaws.{toZ-ofZ}
 use borrow.Author.Tests.{ne-eqb}
-use Rattle.word.specs.Word.{le}
+use Rattle.word.specs.Word.{wordAt}
 use Rattle.octets.proofs.Theorems.{not-folded}
 use Rattle.value.specs.Value.{int32, int64, real, text}
 use borrow.Author.Needs.{needs}
@@ -45,15 +45,15 @@ in-notice-requires-2 c κs = search needs
 
 returns : tie.Need-returns
 returns c =
-    λ p. rw (c .before .before .match .keys1) (ap int32 (toZ-ofZ w32 (c .i32-of-bits .result) (record { sfits = c .i32-of-bits .ok }) ∙ c .i32-of-bits .ensures ∙ ap (toZ w32) (c .before .first-word .ensures .0 ∙ ap (λ (s : List ℕ). le 4 s 0) (c .before .before .before .part .ensures))))
+    λ p. rw (c .before .before .match .keys1) (ap int32 (toZ-ofZ w32 (c .i32-of-bits .result) (record { sfits = c .i32-of-bits .ok }) ∙ c .i32-of-bits .ensures ∙ ap (toZ w32) (c .before .first-word .ensures .0 ∙ ap (λ (s : List ℕ). wordAt 4 s 0) (c .before .before .before .part .ensures))))
 
 returns-2 : tie.Need-returns-2
 returns-2 c =
-    λ p. rw (c .before .before .match .keys2) (ap int64 (toZ-ofZ w64 (c .i64-of-bits .result) (record { sfits = c .i64-of-bits .ok }) ∙ c .i64-of-bits .ensures ∙ ap (toZ w64) (c .before .first-word2 .ensures .0 ∙ ap (λ (s : List ℕ). le 8 s 0) (c .before .before .before .part .ensures))))
+    λ p. rw (c .before .before .match .keys2) (ap int64 (toZ-ofZ w64 (c .i64-of-bits .result) (record { sfits = c .i64-of-bits .ok }) ∙ c .i64-of-bits .ensures ∙ ap (toZ w64) (c .before .first-word2 .ensures .0 ∙ ap (λ (s : List ℕ). wordAt 8 s 0) (c .before .before .before .part .ensures))))
 
 returns-3 : tie.Need-returns-3
 returns-3 c =
-    λ p. rw (c .before .before .match .keys3) (ap real (c .real-of-bits .ensures ∙ ap (ofBits binary64) (c .before .first-word3 .ensures .0 ∙ ap (λ (s : List ℕ). le 8 s 0) (c .before .before .before .part .ensures))))
+    λ p. rw (c .before .before .match .keys3) (ap real (c .real-of-bits .ensures ∙ ap (ofBits binary64) (c .before .first-word3 .ensures .0 ∙ ap (λ (s : List ℕ). wordAt 8 s 0) (c .before .before .before .part .ensures))))
 
 returns-4 : tie.Need-returns-4
 returns-4 c = λ p. rw (c .before .match .keys4, c .in-notice .ensures) (ap text (not-folded _))

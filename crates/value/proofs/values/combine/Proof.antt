@@ -1,18 +1,18 @@
 use mathlib.Core.Path.{sym, ap, ap₂, _∙_}
 use Rattle.value.specs.Value.{valueOf, combineNumbers}
 use Rattle.value.specs.Held.{typedOf}
-use Rattle.value.proofs.Theorems.{combine-missing}
+use Rattle.value.proofs.Theorems.{combine-bottom}
 use borrow.Author.Needs.{needs}
 use Rattle.value.proofs.values.combine.Statement.{statement}
 use Rattle.value.proofs.values.combine.Tie as tie
 
-any-missing-requires : tie.Need-any-missing-requires
-any-missing-requires c κs = search needs
+any-bottom-requires : tie.Need-any-bottom-requires
+any-bottom-requires c κs = search needs
 
 returns : tie.Need-returns
 returns c =
     let a = c .before .before .args in
-    λ p q. combine-missing (a .op) (typedOf p q (a .v)) (typedOf p q (a .w)) (sym (c .before .any-missing .ensures p q) ∙ c .if1 .taken)
+    λ p q. combine-bottom (a .op) (typedOf p q (a .v)) (typedOf p q (a .w)) (sym (c .before .any-bottom .ensures p q) ∙ c .if1 .taken)
 
 number-of-requires : tie.Need-number-of-requires
 number-of-requires c κs = search needs
@@ -34,7 +34,7 @@ pub combine-spec : {M : Type 1} → statement M
 combine-spec =
     tie.close
     (tie.spec
-    any-missing-requires
+    any-bottom-requires
     returns
     number-of-requires
     number-of-requires-2

@@ -1,22 +1,22 @@
--- `value::values::compare` meets its contract: where no side is missing, after the `match` the operator is `==` or `!=`, as `negated` says. Assumes nothing.
+-- `value::values::compare` meets its contract: where no side is bottom, after the `match` the operator is `==` or `!=`, as `negated` says. Assumes nothing.
 use mathlib.Core.Path.{_≡_, sym, ap, ap₂, _∙_}
 use mathlib.Core.Bool.{Bool, true, false}
 use mathlib.Core.Logic.{⊎-elim}
 use Rattle.truth.specs.Truth.{notOf}
 use Rattle.number.specs.Number.{orderOf}
 use Rattle.value.specs.Held.{typedOf}
-use Rattle.value.proofs.Theorems.{compare-missing}
+use Rattle.value.proofs.Theorems.{compare-bottom}
 use borrow.Author.Needs.{needs}
 use Rattle.value.proofs.values.compare.Statement.{statement}
 use Rattle.value.proofs.values.compare.Tie as tie
 
-any-missing-requires : tie.Need-any-missing-requires
-any-missing-requires c κs = search needs
+any-bottom-requires : tie.Need-any-bottom-requires
+any-bottom-requires c κs = search needs
 
 returns : tie.Need-returns
 returns c =
     let a = c .before .before .before .before .args in let p = a .pool .now in let q = a .notice .now in
-    compare-missing (a .op) (typedOf p q (a .v)) (typedOf p q (a .w)) (sym (c .before .any-missing .ensures p q) ∙ c .if1 .taken)
+    compare-bottom (a .op) (typedOf p q (a .v)) (typedOf p q (a .w)) (sym (c .before .any-bottom .ensures p q) ∙ c .if1 .taken)
 
 enum-told : tie.Need-enum-told
 enum-told c = search needs
@@ -65,7 +65,7 @@ pub compare-spec : {M : Type 1} → statement M
 compare-spec =
     tie.close
     (tie.spec
-    any-missing-requires
+    any-bottom-requires
     returns
     enum-told
     enum-told-2

@@ -1,0 +1,19 @@
+//! The second implementation on the vectors of tests/vectors, whose answers are from elsewhere.
+
+use std::fs::read_to_string;
+
+#[test]
+fn the_vectors_agree() {
+    let folder = concat!(env!("CARGO_MANIFEST_DIR"), "/../tests/vectors");
+    let files = [
+        ("translate.txt", 1500),
+        ("run.txt", 1500),
+        ("read.txt", 700),
+        ("write.txt", 700),
+        ("program.txt", 150),
+    ];
+    for (file, cases) in files {
+        let lines = read_to_string(format!("{folder}/{file}")).expect(file);
+        assert_eq!(reference::vectors::agree(file, &lines), Ok(cases), "{file}");
+    }
+}
