@@ -2,9 +2,10 @@
  * Virentolex, a verified notification router core: the interface for C.
  * Link with librouter.a, which `rt staticlib router` writes to target/staticlib/.
  *
- * "Document 01" is the customer's paper. Each function answers its refusal number, or 0 if nothing
- * is refused. Each is proved, for all bytes, to keep its promise in crates/router/src/lib.rt; what
- * stands here is that promise in plain words. The numbers:
+ * "Document 01" and "document 02" are the customer's papers; docs/FORMATS.md has the layouts of what is
+ * lent. Each function answers its refusal number, or 0 if nothing is refused. Each is proved, for all
+ * bytes, to keep its promise in crates/router/src/lib.rt; what stands here is that promise in plain
+ * words. The numbers:
  *
  *    translating   10 text over 4,096 bytes
  *                   1 a token has no legal form      3 a number or name outside its limits
@@ -17,6 +18,8 @@
  *    reading       17 no field k
  *    writing       13 name breaks the rules         16 kind unknown, or size wrong for it
  *                  14 name already there            15 65th field, over 16,384 bytes, or no room
+ *    deciding      12 no decision                   21 needed number outside 1 to 8
+ *                  19 no right Staff field          20 a ninth person
  *
  * What every caller must see to, since nothing checks a caller in C:
  *
@@ -60,6 +63,10 @@ extern "C" {
 #define VIRENTOLEX_TEXT_MAX 4096
 #define VIRENTOLEX_TABLE_MAX 10250
 #define VIRENTOLEX_NOTICE_MAX 16384
+
+/* The bytes of a decision before its table, and the most bytes of a whole one. */
+#define VIRENTOLEX_DECISION_HEAD 528
+#define VIRENTOLEX_DECISION_MAX 10778
 
 /*
  * Translates a subscription text to a table.
@@ -127,6 +134,44 @@ uint8_t virentolex_write(uint8_t *buffer, size_t buffer_len, size_t length,
                          const uint8_t *name, size_t name_len, uint16_t kind,
                          const uint8_t *value, size_t value_len,
                          size_t *place, size_t *new_length);
+
+/*
+ * Opens a decision of the quorum counter at the start of a lent buffer: it keeps the table and the
+ * needed number of people, and nobody is counted yet. All that it is lies in these bytes, so that
+ * they may be moved, copied and kept; a router may have as many decisions as it has buffers.
+ *
+ * Answers 0, or the first that applies of: 12 if the table fails its check; 21 if needed is not 1
+ * to 8; 9 if decision_len < VIRENTOLEX_DECISION_HEAD + table_len.
+ * *place, *count, *reached   0, refused or not.
+ * decision   after 0 its first VIRENTOLEX_DECISION_HEAD + table_len bytes are the decision, and the
+ *            bytes after it are as they were. After a refusal every byte is as it was.
+ */
+uint8_t virentolex_quorum_open(uint8_t *decision, size_t decision_len,
+                               const uint8_t *table, size_t table_len, size_t needed,
+                               size_t *place, uint8_t *count, uint8_t *reached);
+
+/*
+ * Shows a notice to a decision: runs its table on the notice and, if the verdict is true, counts the
+ * value of the string field Staff, unless the same bytes were counted before in this decision.
+ * Everything is checked first, so any bytes may be passed as either.
+ *
+ * Answers 0, or the first that applies of: 12 unless the buffer begins with a decision whose table
+ * passes its check, whose needed number is 1 to 8, and which has at most 8 values, all different, of
+ * 1 to 64 bytes; 11 if the notice fails its layout; then, if the verdict is true, 19 if the field
+ * Staff is absent, no string or not of 1 to 64 bytes, and 20 for a ninth person.
+ * *place     after 11 as virentolex_check_notice says; else 0.
+ * *count     the people counted in this decision, after this notice: 0 to 8. A refusal leaves it as it
+ *            stood; after 12 it is 0.
+ * *reached   1 if *count is at least the needed number; else 0. After 12 it is 0.
+ * decision   after a refusal every byte is as it was; else only bytes of its first
+ *            VIRENTOLEX_DECISION_HEAD may have changed.
+ *
+ * As long as nobody else changes these bytes, *count is the number of different Staff values among all
+ * notices shown since the opening that were neither refused nor short of true.
+ */
+uint8_t virentolex_quorum_show(uint8_t *decision, size_t decision_len,
+                               const uint8_t *notice, size_t notice_len,
+                               size_t *place, uint8_t *count, uint8_t *reached);
 
 #ifdef __cplusplus
 }

@@ -6,6 +6,7 @@ mod agree;
 mod clock;
 mod load;
 mod program;
+mod quorum;
 
 use bench::{expert, ours, translate};
 use clock::{compare, Pace};
@@ -254,6 +255,7 @@ fn main() {
     );
     inner(pace);
     guarded(pace);
+    quorum::shows(pace);
     checks(pace);
     translation(pace);
     program::rates(records);

@@ -25,6 +25,37 @@ mod c {
             verdict: *mut u8,
             steps: *mut usize,
         ) -> u8;
+        pub fn virentolex_write(
+            buffer: *mut u8,
+            buffer_len: usize,
+            length: usize,
+            name: *const u8,
+            name_len: usize,
+            kind: u16,
+            value: *const u8,
+            value_len: usize,
+            place: *mut usize,
+            new_length: *mut usize,
+        ) -> u8;
+        pub fn virentolex_quorum_open(
+            decision: *mut u8,
+            decision_len: usize,
+            table: *const u8,
+            table_len: usize,
+            needed: usize,
+            place: *mut usize,
+            count: *mut u8,
+            reached: *mut u8,
+        ) -> u8;
+        pub fn virentolex_quorum_show(
+            decision: *mut u8,
+            decision_len: usize,
+            notice: *const u8,
+            notice_len: usize,
+            place: *mut usize,
+            count: *mut u8,
+            reached: *mut u8,
+        ) -> u8;
         pub fn repeat_run(
             table: *const u8,
             table_len: usize,
@@ -83,6 +114,70 @@ pub fn guarded(table: &[u8], notice: &[u8]) -> (u8, usize, u8, usize) {
         )
     };
     (number, place, verdict, steps)
+}
+
+/// Number, place and the notice's new length.
+pub fn write(
+    buffer: &mut [u8],
+    length: usize,
+    name: &[u8],
+    kind: u16,
+    value: &[u8],
+) -> (u8, usize, usize) {
+    let (mut place, mut new_length) = (0, 0);
+    // SAFETY: as above
+    let number = unsafe {
+        c::virentolex_write(
+            buffer.as_mut_ptr(),
+            buffer.len(),
+            length,
+            name.as_ptr(),
+            name.len(),
+            kind,
+            value.as_ptr(),
+            value.len(),
+            &mut place,
+            &mut new_length,
+        )
+    };
+    (number, place, new_length)
+}
+
+/// Number, place, count and whether it has reached the needed number.
+pub fn quorum_open(decision: &mut [u8], table: &[u8], needed: usize) -> (u8, usize, u8, bool) {
+    let (mut place, mut count, mut reached) = (0, 0, 0);
+    // SAFETY: as above
+    let number = unsafe {
+        c::virentolex_quorum_open(
+            decision.as_mut_ptr(),
+            decision.len(),
+            table.as_ptr(),
+            table.len(),
+            needed,
+            &mut place,
+            &mut count,
+            &mut reached,
+        )
+    };
+    (number, place, count, reached == 1)
+}
+
+/// The same, of a notice.
+pub fn quorum_show(decision: &mut [u8], notice: &[u8]) -> (u8, usize, u8, bool) {
+    let (mut place, mut count, mut reached) = (0, 0, 0);
+    // SAFETY: as above
+    let number = unsafe {
+        c::virentolex_quorum_show(
+            decision.as_mut_ptr(),
+            decision.len(),
+            notice.as_ptr(),
+            notice.len(),
+            &mut place,
+            &mut count,
+            &mut reached,
+        )
+    };
+    (number, place, count, reached == 1)
 }
 
 /// The inner run so many times: the sum of the runs' steps, each four times, and of their verdicts; 0 if the table fails the check.

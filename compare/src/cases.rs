@@ -14,7 +14,7 @@ use std::fmt::{Debug, Formatter};
 
 /// Bytes that print as hex.
 #[derive(Clone, PartialEq)]
-struct Hex(Vec<u8>);
+pub struct Hex(pub Vec<u8>);
 
 impl Debug for Hex {
     fn fmt(&self, f: &mut Formatter<'_>) -> std::fmt::Result {
@@ -33,10 +33,10 @@ pub struct Case<'a> {
     pub program: &'a str,
 }
 
-type Outcome = Result<(), String>;
+pub type Outcome = Result<(), String>;
 
 /// The inputs and both answers, if these differ.
-fn same<T: PartialEq + Debug>(
+pub fn same<T: PartialEq + Debug>(
     call: &str,
     inputs: &[(&str, &[u8])],
     answered: T,
@@ -56,10 +56,10 @@ fn same<T: PartialEq + Debug>(
 }
 
 /// Bytes kept before and after each lent buffer, which must stay.
-const GUARD: usize = 16;
+pub const GUARD: usize = 16;
 
 /// A buffer of that length with a pattern, between guards.
-fn patterned(length: usize, salt: usize) -> Vec<u8> {
+pub fn patterned(length: usize, salt: usize) -> Vec<u8> {
     (0..length + 2 * GUARD)
         .map(|at| (at * 7 + salt) as u8)
         .collect()
@@ -76,7 +76,7 @@ fn truth(verdict: virentolex::Verdict) -> Truth {
 /// The kinds in turn, by the case's number.
 const KINDS: [&str; 20] = [
     "text", "table", "notice", "write", "text", "operator", "text", "notice", "text", "table",
-    "text", "write", "text", "table", "notice", "text", "write", "text", "table", "text",
+    "text", "write", "text", "table", "notice", "text", "write", "text", "table", "quorum",
 ];
 /// So many operators are tried in one case of theirs.
 const OPERATORS: usize = 20;
@@ -99,6 +99,7 @@ impl Case<'_> {
             "table" => self.table(),
             "notice" => self.notice(),
             "write" => self.write(),
+            "quorum" => self.quorum(),
             "operator" => (0..OPERATORS).try_for_each(|_| self.operator()),
             _ => self.program(),
         }
@@ -307,7 +308,7 @@ impl Case<'_> {
         )
     }
 
-    fn count(&mut self, of: &'static str, met: impl IntoIterator<Item = String>) {
+    pub fn count(&mut self, of: &'static str, met: impl IntoIterator<Item = String>) {
         met.into_iter().for_each(|one| self.tally.count(of, one));
     }
 
@@ -395,7 +396,7 @@ impl Case<'_> {
             _ => 0,
         };
         let mut order: Vec<usize> = (0..count).collect();
-        (1..count).for_each(|at| order.swap(at, self.random.below(at + 1)));
+        self.random.shuffle(&mut order);
         let mut lent = patterned(notice.len().max(8), 0);
         lent[GUARD..GUARD + 8].copy_from_slice(&virentolex::EMPTY_NOTICE);
         let mut length = 8;
@@ -476,7 +477,7 @@ mod tests {
         kinds.dedup();
         assert_eq!(
             kinds,
-            ["notice", "operator", "program", "table", "text", "write"]
+            ["notice", "operator", "program", "quorum", "table", "text", "write"]
         );
     }
 }

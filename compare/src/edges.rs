@@ -70,6 +70,12 @@ pub const EDGES: [&str; 58] = [
     "output over 65536 bytes",
 ];
 
+/// The names of the edges that are met.
+pub fn met<const N: usize>(edges: [(bool, &str); N]) -> Vec<String> {
+    let those = edges.iter().filter(|(at, _)| *at);
+    those.map(|(_, edge)| edge.to_string()).collect()
+}
+
 /// The name of an edge: a size at its limit or one over, between its words.
 fn at_limit((before, size, after, limit): (&str, usize, &str, usize)) -> Option<String> {
     (size == limit || size == limit + 1).then(|| format!("{before} {size}{after}"))
@@ -239,12 +245,7 @@ pub fn of_write(buffer: usize, notice: &[u8], field: &Field, number: u8) -> Vec<
             "write with a byte too few",
         ),
     ];
-    found.extend(
-        places
-            .iter()
-            .filter(|(at, _)| *at)
-            .map(|(_, edge)| edge.to_string()),
-    );
+    found.extend(met(places));
     let told = |edge: &String| match number {
         0 => true,
         13 => edge.ends_with(" 65"),
@@ -293,8 +294,7 @@ pub fn of_input(input: &[u8], printed: &[u8]) -> Vec<String> {
         (over && wrong, "input wrong behind 65536 bytes"),
         (printed.len() > 65536, "output over 65536 bytes"),
     ];
-    let met = edges.iter().filter(|(at, _)| *at);
-    met.map(|(_, edge)| edge.to_string()).collect()
+    met(edges)
 }
 
 #[cfg(test)]

@@ -1,11 +1,12 @@
-//! Compares the static library and the program `verdict` with the second implementation of document 01
-//! on random cases. See `USAGE`.
+//! Compares the static library and the program `verdict` with the second implementation of documents
+//! 01 and 02 on random cases. See `USAGE`.
 //!
 //! Each case has its own generator, made of the seed and the case's number, so it can be run alone.
 
 mod about;
 mod cases;
 mod corners;
+mod decisions;
 mod edges;
 mod expressions;
 mod inputs;
@@ -14,6 +15,8 @@ mod operands;
 mod operations;
 mod pointed;
 mod program;
+mod quorum;
+mod quorum_edges;
 mod random;
 mod spellings;
 mod tables;

@@ -43,6 +43,10 @@ impl Random {
         from[self.below(from.len())]
     }
 
+    pub fn shuffle<T>(&mut self, all: &mut [T]) {
+        (1..all.len()).for_each(|at| all.swap(at, self.below(at + 1)));
+    }
+
     pub fn byte(&mut self) -> u8 {
         self.word() as u8
     }

@@ -1,7 +1,7 @@
 //! What occurred: how many cases of each kind, and each answer, op, verdict, limit and corner.
 
 use crate::edges::EDGES;
-use crate::{corners, spellings};
+use crate::{corners, quorum_edges, spellings};
 use reference::op::OPS;
 use std::collections::BTreeMap;
 
@@ -15,18 +15,22 @@ const MOST_NAMED: usize = 64;
 const RAREST: usize = 8;
 
 /// What must occur in a run of many cases.
-const NUMBERS: [(&str, &[u8]); 6] = [
+const NUMBERS: [(&str, &[u8]); 8] = [
     ("translate", &[0, 1, 2, 3, 4, 5, 6, 7, 8, 9, 10]),
     ("check", &[0, 12]),
     ("run", &[0, 11, 12]),
     ("check_notice", &[0, 11]),
     ("read", &[0, 11, 17]),
     ("write", &[0, 11, 13, 14, 15, 16]),
+    ("quorum open", &[0, 9, 12, 21]),
+    ("quorum show", &[0, 11, 12, 19, 20]),
 ];
-const WORDS: [(&str, &[&str]); 7] = [
+const WORDS: [(&str, &[&str]); 8] = [
     (
         "case",
-        &["text", "table", "operator", "notice", "write", "program"],
+        &[
+            "text", "table", "operator", "notice", "write", "program", "quorum",
+        ],
     ),
     ("verdict", &["True", "False", "Bottom"]),
     ("demand 3", &["True", "False", "Bottom"]),
@@ -47,6 +51,7 @@ const WORDS: [(&str, &[&str]); 7] = [
         ],
     ),
     ("edge", &EDGES),
+    ("quorum", &quorum_edges::EDGES),
 ];
 
 impl Tally {

@@ -1,6 +1,6 @@
-//! A second implementation of document 01 in plain Rust, written from the papers and not from the
-//! crates beside it. It is there to be compared with them; it is short rather than fast.
-//! Words in quotes are document 01's.
+//! A second implementation of document 01, and of document 02's requests, in plain Rust, written from
+//! the papers and not from the crates beside it. It is there to be compared with them; it is short
+//! rather than fast. Words in quotes are document 01's, where a module does not say otherwise.
 #![forbid(unsafe_code)]
 
 pub mod compile;
@@ -9,6 +9,7 @@ pub mod judge;
 pub mod meaning;
 pub mod notice;
 pub mod op;
+pub mod quorum;
 pub mod run;
 pub mod table;
 pub mod tokens;

@@ -6,7 +6,12 @@
 //! - `read.txt`: notice, k, number, place, kind, name, value
 //! - `write.txt`: buffer, named length, name, kind, value, number, place, new length, buffer afterwards
 //! - `program.txt`: standard input, standard output of `verdict`
+//! - `03-quorum.txt`: table, needed number, number of notices, the notices, `:`, then for the opening and
+//!   each notice number, place, count, reached, parted by `|`
+//! - `03-states.txt`: a decision (table, needed number, values parted by commas), a notice, then number,
+//!   place, count, reached
 
+use crate::quorum::{self, Decision, Shown};
 use crate::Truth;
 
 /// Whether the lines of the file of that name agree; the number of lines, or the first that differs.
@@ -29,6 +34,8 @@ fn answer(file: &str, words: &[&str]) -> Option<(usize, String)> {
         ("read.txt", 7) => Some((2, read(words)?)),
         ("write.txt", 9) => Some((5, write(words)?)),
         ("program.txt", 2) => Some((1, hex(&crate::verdict(&bytes(words[0])?)))),
+        ("03-quorum.txt", _) => quorum(words),
+        ("03-states.txt", 8) => Some((4, state(words)?)),
         _ => None,
     }
 }
@@ -84,6 +91,46 @@ fn write(words: &[&str]) -> Option<String> {
         answer.length,
         hex(&buffer)
     ))
+}
+
+/// A decision in a buffer of its size, opened and shown each notice. Between the number of no notices
+/// and `:` stands an empty word.
+fn quorum(words: &[&str]) -> Option<(usize, String)> {
+    let given = words.iter().position(|word| *word == ":")? + 1;
+    let (table, needed) = (bytes(words[0])?, words.get(1)?.parse().ok()?);
+    let mut notices = words.get(3..given - 1)?.to_vec();
+    notices.retain(|notice| !notice.is_empty());
+    if words[2].parse() != Ok(notices.len()) {
+        return None;
+    }
+    let mut buffer = vec![0; quorum::HEAD + table.len()];
+    let mut answers = vec![shown(quorum::open(&mut buffer, &table, needed))];
+    for notice in notices {
+        answers.push(shown(quorum::show(&mut buffer, &bytes(notice)?)));
+    }
+    Some((given, answers.join(" | ")))
+}
+
+/// A decision made by hand, which need not be right, shown one notice.
+fn state(words: &[&str]) -> Option<String> {
+    let values: Option<Vec<Vec<u8>>> = match words[2] {
+        "-" => Some(Vec::new()),
+        values => values.split(',').map(bytes).collect(),
+    };
+    let mut decision = Decision {
+        table: bytes(words[0])?,
+        needed: words[1].parse().ok()?,
+        values: values?,
+    };
+    Some(shown(decision.show(&bytes(words[3])?)))
+}
+
+fn shown(answer: Shown) -> String {
+    let reached = u8::from(answer.reached);
+    format!(
+        "{} {} {} {reached}",
+        answer.number, answer.place, answer.count
+    )
 }
 
 fn hex(bytes: &[u8]) -> String {

@@ -11,6 +11,8 @@ fn the_vectors_agree() {
         ("read.txt", 700),
         ("write.txt", 700),
         ("program.txt", 150),
+        ("03-quorum.txt", 250),
+        ("03-states.txt", 250),
     ];
     for (file, cases) in files {
         let lines = read_to_string(format!("{folder}/{file}")).expect(file);

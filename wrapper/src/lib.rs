@@ -1,8 +1,8 @@
 //! Safe Rust over the static library of Virentolex, a verified notification router core.
 //!
 //! Each function passes its slices to the function of the same name in `include/virentolex.h`, whose
-//! promise is proved for all bytes, and puts the numbers that come back into a struct. `number` is
-//! document 01's refusal number, 0 if nothing was refused. No function asks anything of its caller.
+//! promise is proved for all bytes, and puts the numbers that come back into a struct. `number` is the
+//! refusal's number in the customer's papers, 0 if nothing was refused. No function asks anything of its caller.
 #![deny(unsafe_op_in_unsafe_fn)]
 
 use std::fmt;
@@ -55,6 +55,25 @@ mod library {
             place: *mut usize,
             new_length: *mut usize,
         ) -> u8;
+        pub fn virentolex_quorum_open(
+            decision: *mut u8,
+            decision_len: usize,
+            table: *const u8,
+            table_len: usize,
+            needed: usize,
+            place: *mut usize,
+            count: *mut u8,
+            reached: *mut u8,
+        ) -> u8;
+        pub fn virentolex_quorum_show(
+            decision: *mut u8,
+            decision_len: usize,
+            notice: *const u8,
+            notice_len: usize,
+            place: *mut usize,
+            count: *mut u8,
+            reached: *mut u8,
+        ) -> u8;
     }
 }
 
@@ -64,6 +83,11 @@ pub const TEXT_MAX: usize = 4_096;
 pub const TABLE_MAX: usize = 10_250;
 /// The most bytes of a notice.
 pub const NOTICE_MAX: usize = 16_384;
+
+/// The bytes of a decision before its table.
+pub const DECISION_HEAD: usize = 528;
+/// The most bytes of a decision.
+pub const DECISION_MAX: usize = DECISION_HEAD + TABLE_MAX;
 
 /// The notice without fields, with which a new notice is begun.
 pub const EMPTY_NOTICE: [u8; 8] = [4, 0, 0, 0, 1, 0, 0, 0];
@@ -154,6 +178,16 @@ pub struct Written {
     pub number: u8,
     pub place: usize,
     pub length: usize,
+}
+
+/// What opening a decision and showing a notice to it answer: the people counted, and whether they are
+/// as many as needed. A refusal leaves both as they stood; at opening and with 12 they are 0 and false.
+#[derive(Debug, Clone, Copy, PartialEq, Eq)]
+pub struct Shown {
+    pub number: u8,
+    pub place: usize,
+    pub count: u8,
+    pub reached: bool,
 }
 
 /// Translates a subscription text to a table at the buffer's start. The bytes after the table stay,
@@ -275,6 +309,101 @@ pub fn write(buffer: &mut [u8], length: usize, name: &[u8], kind: u16, value: &[
         number,
         place,
         length: new_length,
+    }
+}
+
+/// A decision of the quorum counter, in a buffer that it owns (`Vec<u8>`) or borrows (`&mut [u8]`).
+#[derive(Debug, Clone, PartialEq, Eq)]
+pub struct Decision<B> {
+    buffer: B,
+}
+
+impl Decision<Vec<u8>> {
+    /// Opens a decision in a buffer of its own, just as long as it is: 12, then 21.
+    pub fn open(table: &[u8], needed: usize) -> Result<Self, u8> {
+        // a table that is longer than any that passes the check is refused before the room is asked
+        let room = DECISION_HEAD + table.len().min(TABLE_MAX);
+        Decision::open_in(vec![0; room], table, needed)
+    }
+}
+
+impl<B: AsRef<[u8]> + AsMut<[u8]>> Decision<B> {
+    /// Opens a decision at the start of a buffer: 12, then 21 for a needed number outside 1 to 8, then
+    /// 9 for a buffer too short. The bytes after it stay, and a refusal changes no byte.
+    pub fn open_in(mut buffer: B, table: &[u8], needed: usize) -> Result<Self, u8> {
+        match quorum_open(buffer.as_mut(), table, needed).number {
+            0 => Ok(Decision { buffer }),
+            number => Err(number),
+        }
+    }
+
+    /// A buffer in which a decision was kept. Nothing is asked of it: `show` checks it, and refuses what
+    /// holds no decision by 12.
+    pub fn kept(buffer: B) -> Self {
+        Decision { buffer }
+    }
+
+    /// Shows a notice: 12, 11, then, if the verdict is true, 19 for no right Staff, 20 for a ninth person.
+    pub fn show(&mut self, notice: &[u8]) -> Shown {
+        quorum_show(self.buffer.as_mut(), notice)
+    }
+
+    /// The buffer's bytes, the decision first.
+    pub fn bytes(&self) -> &[u8] {
+        self.buffer.as_ref()
+    }
+
+    /// The buffer, to be kept.
+    pub fn into_buffer(self) -> B {
+        self.buffer
+    }
+}
+
+/// Opens a decision at the start of the buffer, as `Decision::open_in` does.
+pub fn quorum_open(decision: &mut [u8], table: &[u8], needed: usize) -> Shown {
+    let (mut place, mut count, mut reached) = (0, 0, 0);
+    // SAFETY: each pointer and length come from one slice, an empty one's pointer is not null; the
+    // decision and the three results are borrowed here alone, so that they overlap nothing.
+    let number = unsafe {
+        library::virentolex_quorum_open(
+            decision.as_mut_ptr(),
+            decision.len(),
+            table.as_ptr(),
+            table.len(),
+            needed,
+            &mut place,
+            &mut count,
+            &mut reached,
+        )
+    };
+    Shown {
+        number,
+        place,
+        count,
+        reached: reached == 1,
+    }
+}
+
+/// Shows a notice to the decision at the start of the buffer, as `Decision::show` does.
+pub fn quorum_show(decision: &mut [u8], notice: &[u8]) -> Shown {
+    let (mut place, mut count, mut reached) = (0, 0, 0);
+    // SAFETY: as above.
+    let number = unsafe {
+        library::virentolex_quorum_show(
+            decision.as_mut_ptr(),
+            decision.len(),
+            notice.as_ptr(),
+            notice.len(),
+            &mut place,
+            &mut count,
+            &mut reached,
+        )
+    };
+    Shown {
+        number,
+        place,
+        count,
+        reached: reached == 1,
     }
 }
 

@@ -1,4 +1,4 @@
-//! Document 01's examples through the library. Every expected number is the paper's.
+//! Document 01's examples and document 02's cases through the library. Every expected number is the papers'.
 use super::*;
 
 const OP42: [u8; 19] = [
@@ -208,4 +208,151 @@ fn an_empty_slice_may_have_a_null_pointer() {
     assert_eq!((number, place, length), (2, 0, 0));
     // SAFETY: a slice of length 0 may have any pointer.
     assert_eq!(unsafe { library::virentolex_check(null, 0) }, 12);
+}
+
+/// A notice of string fields, their names rising.
+fn strings(fields: &[(&str, &str)]) -> Vec<u8> {
+    let mut buffer = vec![0; NOTICE_MAX];
+    let mut length = EMPTY_NOTICE.len();
+    buffer[..length].copy_from_slice(&EMPTY_NOTICE);
+    for (name, value) in fields {
+        let w = write(
+            &mut buffer,
+            length,
+            name.as_bytes(),
+            kind::STRING,
+            value.as_bytes(),
+        );
+        assert_eq!(w.number, 0, "{name}");
+        length = w.length;
+    }
+    buffer.truncate(length);
+    buffer
+}
+
+fn shown(number: u8, place: usize, count: u8, reached: bool) -> Shown {
+    Shown {
+        number,
+        place,
+        count,
+        reached,
+    }
+}
+
+#[test]
+fn two_people_are_two_staff_numbers() {
+    let mut d = Decision::open(&table("Approve == \"payout\""), 2).unwrap();
+    let first = strings(&[("Approve", "payout"), ("Staff", "417")]);
+    let nameless = strings(&[("Approve", "payout")]);
+    let second = strings(&[("Approve", "payout"), ("Staff", "502")]);
+    let other = strings(&[("Approve", "door"), ("Staff", "600")]);
+    let undecided = strings(&[("Staff", "601")]);
+    // "counted unless those bytes were counted before in this decision"; "19 if Staff is absent"
+    assert_eq!(d.show(&first), shown(0, 0, 1, false));
+    assert_eq!(d.show(&nameless), shown(19, 0, 1, false));
+    assert_eq!(d.show(&first), shown(0, 0, 1, false));
+    // "if the verdict is true": false and bottom count nobody
+    assert_eq!(d.show(&other), shown(0, 0, 1, false));
+    assert_eq!(d.show(&undecided), shown(0, 0, 1, false));
+    // "whether it has reached the needed number"
+    assert_eq!(d.show(&second), shown(0, 0, 2, true));
+    assert_eq!(d.show(&nameless), shown(19, 0, 2, true));
+}
+
+#[test]
+fn a_ninth_person_is_20_and_one_of_the_eight_is_not() {
+    let table = table("require (Staff)");
+    let mut buffer = vec![0xAA; DECISION_HEAD + table.len() + 3];
+    let mut d = Decision::open_in(&mut buffer[..], &table, 8).unwrap();
+    for i in 1..=8u8 {
+        let staff = "x".repeat(i as usize * 8);
+        assert_eq!(
+            d.show(&strings(&[("Staff", &staff)])),
+            shown(0, 0, i, i == 8)
+        );
+    }
+    let full = d.bytes().to_vec();
+    for (staff, number) in [("y", 20), ("xxxxxxxx", 0), ("", 19), (&"y".repeat(65), 19)] {
+        assert_eq!(
+            d.show(&strings(&[("Staff", staff)])),
+            shown(number, 0, 8, true),
+            "{staff}"
+        );
+    }
+    // "the run's place and the rest as it stood"; the value is a byte shorter, so the first spare byte is the last
+    let mut cut = strings(&[("Staff", "y")]);
+    cut[8] -= 1;
+    assert_eq!(d.show(&cut), shown(11, cut.len() - 1, 8, true));
+    // "and changes nothing"
+    assert_eq!(d.bytes(), full);
+    assert_eq!(full[full.len() - 3..], [0xAA; 3]);
+    // the decision may be kept elsewhere
+    let mut again = Decision::kept(full);
+    assert_eq!(
+        again.show(&strings(&[("Staff", "y")])),
+        shown(20, 0, 8, true)
+    );
+}
+
+#[test]
+fn openings_are_refused_in_their_order() {
+    let mut bad = OP_IS_42;
+    bad[4] = 3;
+    for (room, table, needed, number) in [
+        (0, &bad[..], 0, 12),
+        (0, &OP_IS_42[..], 0, 21),
+        (0, &OP_IS_42[..], 9, 21),
+        (576, &OP_IS_42[..], usize::MAX, 21),
+        (575, &OP_IS_42[..], 8, 9),
+        (0, &OP_IS_42[..], 1, 9),
+    ] {
+        let mut buffer = vec![0xAA; room];
+        assert_eq!(
+            quorum_open(&mut buffer, table, needed),
+            shown(number, 0, 0, false)
+        );
+        // "a refused opening makes none"
+        assert_eq!(buffer, vec![0xAA; room]);
+        assert_eq!(quorum_show(&mut buffer, &OP42), shown(12, 0, 0, false));
+    }
+    assert_eq!(Decision::open(&[0; TABLE_MAX + 1], 2), Err(12));
+}
+
+/// The bytes of an example of docs/FORMATS.md: hex, then two spaces and words; `00 x 8` is eight times 00.
+fn example(label: &str) -> Vec<u8> {
+    let page = include_str!("../../docs/FORMATS.md");
+    let start = format!("```{label}\n");
+    let block = page.split(&start).nth(1).unwrap().split("```").next();
+    let mut bytes = Vec::new();
+    for line in block.unwrap().lines() {
+        let hex: Vec<&str> = line.split("  ").next().unwrap().split(' ').collect();
+        let mut i = 0;
+        while i < hex.len() {
+            let byte = u8::from_str_radix(hex[i], 16).unwrap();
+            let times = match hex.get(i + 1) {
+                Some(&"x") => hex[i + 2].parse().unwrap(),
+                _ => 1,
+            };
+            bytes.extend(vec![byte; times]);
+            i += if times == 1 { 1 } else { 3 };
+        }
+    }
+    bytes
+}
+
+#[test]
+fn the_examples_of_the_formats() {
+    assert_eq!(example("notice"), OP42);
+    assert_eq!(example("table"), OP_IS_42);
+    let notice = example("staff");
+    assert_eq!(check_notice(&notice).number, 0);
+    assert_eq!(read(&notice, 0).value, 42i32.to_le_bytes());
+    assert_eq!(
+        (read(&notice, 1).name, read(&notice, 1).value),
+        (&b"Staff"[..], &b"417"[..])
+    );
+    let mut d = Decision::open(&OP_IS_42, 2).unwrap();
+    assert_eq!(d.bytes(), example("opened"));
+    assert_eq!(d.show(&notice), shown(0, 0, 1, false));
+    assert_eq!(d.into_buffer(), example("counted"));
 }

@@ -1,7 +1,8 @@
 // Translation, check and run together. Demand 3 is stated in specs/Demand.antt and proved in proofs/Demand.antt; `match_text` of matching.rt carries it.
 // Here are the functions of the static library, which C and Rust call (include/virentolex.h).
-// Each calls one function of the crates below, answers document 01's number, 0 if nothing is refused, and stores what else there is to say through the references that it is lent.
+// Each calls one function of the crates below, answers the refusal's number, 0 if nothing is refused, and stores what else there is to say through the references that it is lent.
 ghost use mathlib.Core.Path.{_≡_};
+ghost use mathlib.Core.Bool.{cond};
 ghost use lib.ListN.{length};
 ghost use Rattle.truth.specs.Truth.{numberOf as verdictNumber};
 ghost use Rattle.translator.specs.Translation.{translationOf, Answers};
@@ -10,6 +11,7 @@ ghost use Rattle.notice.specs.Layout.{checkOf as noticeCheck, numberOf, placeOf
 ghost use Rattle.notice.specs.Read.{Located};
 ghost use Rattle.notice.specs.Write.{field, writtenOf, writtenBytes};
 ghost use Rattle.interpreter.specs.Running.{runningOf};
+ghost use Rattle.quorum.specs.Showing.{openOf, openedBytes, showOf, shownBytes, Gives};
 use notice::Layout;
 
 pub mod matching;
@@ -119,4 +121,50 @@ pub extern "C" fn virentolex_write(
     *place = w.place;
     *total = w.len;
     w.number
+}
+
+// Reached is 1, and 0 if not.
+fn flag(b: bool) -> u8
+    ensures { λ r. ⌜ r ≡ cond b 1 0 ⌝ }
+{
+    if b { 1 } else { 0 }
+}
+
+// "A decision is opened with a table, which it keeps, and a needed number of 1 to 8 people." The decision stands at the buffer's start; a refusal changes no byte.
+#[no_mangle]
+pub extern "C" fn virentolex_quorum_open(
+    decision: &mut [u8],
+    table: &[u8],
+    needed: usize,
+    place: &mut usize,
+    count: &mut u8,
+    reached: &mut u8,
+) -> u8
+    ensures { λ r. ⌜ Gives (openOf (now (decision .entry)) (now (table .entry)) needed) r (now (place .exit)) (now (count .exit)) (now (reached .exit)) ⌝ }
+    ensures { λ _. ⌜ now (decision .exit) ≡ openedBytes (now (decision .entry)) (now (table .entry)) needed ⌝ }
+{
+    let a = quorum::open(decision, table, needed);
+    *place = a.place;
+    *count = a.count;
+    *reached = flag(a.reached);
+    a.number
+}
+
+// "The answer is the count and whether it has reached the needed number." A refusal changes no byte.
+#[no_mangle]
+pub extern "C" fn virentolex_quorum_show(
+    decision: &mut [u8],
+    notice: &[u8],
+    place: &mut usize,
+    count: &mut u8,
+    reached: &mut u8,
+) -> u8
+    ensures { λ r. ⌜ Gives (showOf (now (decision .entry)) (now (notice .entry))) r (now (place .exit)) (now (count .exit)) (now (reached .exit)) ⌝ }
+    ensures { λ _. ⌜ now (decision .exit) ≡ shownBytes (now (decision .entry)) (now (notice .entry)) ⌝ }
+{
+    let a = quorum::show(decision, notice);
+    *place = a.place;
+    *count = a.count;
+    *reached = flag(a.reached);
+    a.number
 }

@@ -1,0 +1,83 @@
+// What a notice is to a decision.
+ghost use mathlib.Core.Path.{_≡_};
+ghost use mathlib.Core.Bool.{true};
+ghost use Rattle.interpreter.specs.Running.{runningOf};
+ghost use Rattle.quorum.specs.Decision.{tableOf, valuesOf, kept, holdsOf};
+ghost use Rattle.quorum.specs.Showing.{staffOf, staffTurn, turnOf};
+use crate::Turn;
+use crate::running::run_kept;
+use crate::state::has;
+use crate::state::size_of;
+use interpreter::Ran;
+use notice::Found;
+
+// The value of the field Staff, or no bytes if it is absent, no string or not 1..64 bytes.
+pub fn staff<'a>(notice: &'a [u8]) -> &'a [u8]
+    ensures { λ r. ⌜ now r ≡ staffOf (now (notice .entry)) ⌝ }
+{
+    let found = notice::lookup(notice, b"Staff");
+    match found {
+        Found::Nothing => &notice[0..0],
+        Found::At { kind, start, len } => {
+            if (kind == 4) & ((1 <= len) & (len <= 64)) {
+                let a = start as usize;
+                let e = a + len as usize;
+                return &notice[a..e];
+            }
+            &notice[0..0]
+        }
+    }
+}
+
+// A notice whose verdict is true, by its Staff: 19, counted before, new, or 20.
+fn judge(buffer: &[u8], v: &[u8]) -> Turn
+    requires { ⌜ holdsOf (now buffer) ≡ true ⌝ }
+    ensures { λ r. ⌜ r ≡ staffTurn (now (v .entry)) (valuesOf (now (buffer .entry))) ⌝ }
+{
+    if v.len() == 0 {
+        return Turn::Refuse {
+            number: 19,
+            place: 0,
+        };
+    }
+    let n = buffer[7] as usize;
+    if has(buffer, 0, n, v) {
+        return Turn::Keep;
+    }
+    if n < 8 {
+        return Turn::Add;
+    }
+    Turn::Refuse {
+        number: 20,
+        place: 0,
+    }
+}
+
+// The run of the table that a decision keeps.
+fn run_in<'a>(buffer: &'a [u8], notice: &'a [u8]) -> Ran
+    requires { ⌜ holdsOf (now buffer) ≡ true ⌝ }
+    ensures { λ r. ⌜ r ≡ runningOf (tableOf (now (buffer .entry))) (now (notice .entry)) ⌝ }
+{
+    let size = size_of(buffer);
+    run_kept(&buffer[528..size], notice)
+}
+
+// "Each notice shown to it is run": refused with the run; by its Staff, if the verdict is true; else left aside.
+pub fn turn_of<'a>(buffer: &'a [u8], notice: &'a [u8]) -> Turn
+    requires { ⌜ holdsOf (now buffer) ≡ true ⌝ }
+    ensures { λ r. ⌜ r ≡ turnOf (kept (now (buffer .entry))) (now (notice .entry)) ⌝ }
+{
+    let ran = run_in(buffer, notice);
+    if ran.number != 0 {
+        return Turn::Refuse {
+            number: ran.number,
+            place: ran.place,
+        };
+    }
+    let verdict = ran.verdict;
+    if truth::is_true(verdict) {
+        let v = staff(notice);
+        return judge(buffer, v);
+    }
+    Turn::Keep
+}

@@ -1,0 +1,116 @@
+#!/usr/bin/env python3
+"""quorum_vectors.py [VECTORS]: writes crates/quorum_test/stdin and stdout from VECTORS/03-quorum.txt and 03-states.txt, and cases of the decision's layout.
+
+A vector's answer is its own. Those of the other cases, and the bytes that are expected after a notice, follow from document 02's request 3 and from the layout (docs/FORMATS.md):
+a value is added where the count rises, and no other byte changes."""
+import struct
+import sys
+from pathlib import Path
+
+HEAD, PLACE, FILL = 528, 65, 0xA5
+NONE = "12 0 0 0"
+cases, lines = [], []
+
+
+def do(what, number=0, data=b"", answer=None):
+    """One case of the program: what is done, a number, bytes; and the line that it prints, if it prints one."""
+    cases.append(what + struct.pack("<Q", number) + data)
+    if answer is not None:
+        lines.append(answer)
+
+
+def fresh(room):
+    do(b"l", room)
+    do(b"b", 0, bytes([FILL]) * room)
+
+
+def unhex(s):
+    return b"" if s == "-" else bytes.fromhex(s)
+
+
+def rows(vectors, name):
+    return [line for line in (Path(vectors) / name).read_text().split("\n") if line]
+
+
+def state(table, needed, values):
+    """A decision's bytes; more than 8 values, or a value over 64 bytes, as far as they can be written."""
+    places = b"".join(bytes([min(len(v), 255)]) + v[:64].ljust(64, bytes([FILL])) for v in values[:8])
+    return struct.pack("<IHBB", HEAD - 4 + len(table), 5, needed, len(values)) + places.ljust(8 * PLACE, bytes([FILL])) + table
+
+
+def staff_of(notice):
+    at = 8
+    while at < len(notice):
+        size, _, n = struct.unpack_from("<HHB", notice, at)
+        if notice[at + 5:at + 5 + n] == b"Staff":
+            return notice[at + 5 + n:at + 2 + size]
+        at += 2 + size
+
+
+def history(line):
+    """An opening, and the notices shown after it."""
+    left, right = line.split(":")
+    table, needed, _, *notices = left.rstrip().split(" ")
+    answers = [a.strip() for a in right.split("|")]
+    notices = notices if len(answers) > 1 else []
+    assert len(answers) == 1 + len(notices), line[:200]
+    fresh(HEAD + len(unhex(table)) + 3)
+    do(b"o", int(needed), unhex(table), answers[0])
+    for notice, answer in zip(notices, answers[1:]):
+        do(b"s", 0, unhex(notice), answer)
+
+
+def made_by_hand(line):
+    """A notice shown to a state, and every byte afterwards."""
+    table, needed, values, notice, *answer = line.split(" ")
+    values = [] if values == "-" else [bytes.fromhex(v) for v in values.split(",")]
+    held = state(unhex(table), int(needed), values) + bytes([FILL]) * 2
+    fresh(len(held))
+    do(b"b", 0, held)
+    do(b"s", 0, unhex(notice), " ".join(answer))
+    after = bytearray(held)
+    if answer[0] == "0" and int(answer[2]) > len(values):
+        staff, at = staff_of(unhex(notice)), 8 + PLACE * len(values)
+        after[7] += 1
+        after[at:at + 1 + len(staff)] = bytes([len(staff)]) + staff
+    do(b"d", 0, b"", after.hex())
+
+
+def layout():
+    t = bytes.fromhex("230000000200020005000500050000000000000000003600000000000000000000005374616666")
+    n = bytes.fromhex("1b000000010002000b000400055374616666616e6e08000100016100000000")
+    size = HEAD + len(t)
+    # a buffer of the exact room, one byte less (9), none; a needed number that no byte holds; 12 before 21 before 9
+    for room, needed, table, answer in ((size, 3, t, "0 0 0 0"), (size - 1, 3, t, "9 0 0 0"), (0, 3, t, "9 0 0 0"), (527, 3, t, "9 0 0 0"), (size, 257, t, "21 0 0 0"),
+                                        (size, 2 ** 64 - 1, t, "21 0 0 0"), (0, 0, t, "21 0 0 0"), (0, 0, t[:-1], NONE)):
+        fresh(room)
+        do(b"o", needed, table, answer)
+        done = answer[0] == "0"
+        do(b"d", 0, b"", (state(t, needed, []) if done else bytes([FILL]) * room).hex() or "-")
+        do(b"s", 0, n, "0 0 1 0" if done else NONE)
+    # one byte of a decision wrong, and bytes that may be anything
+    held = state(t, 1, [b"Bob"])
+    for at, byte, answer in ((0, 0, NONE), (0, held[0] + 1, NONE), (4, 2, NONE), (5, 1, NONE), (6, 0, NONE), (6, 9, NONE), (7, 9, NONE), (8, 0, NONE), (8, 65, NONE),
+                             (HEAD, 0, NONE), (73, 7, "0 0 2 1"), (527, 7, "0 0 2 1"), (6, 2, "0 0 2 1"), (6, 8, "0 0 2 0")):
+        fresh(len(held))
+        do(b"b", 0, held[:at] + bytes([byte]) + held[at + 1:])
+        do(b"s", 0, n, answer)
+        do(b"s", 0, n, answer)
+    # a buffer that ends before the decision does
+    fresh(len(held) - 1)
+    do(b"b", 0, held)
+    do(b"s", 0, n, NONE)
+
+
+def main(vectors=Path(__file__).resolve().with_name("vectors")):
+    here = Path(__file__).resolve().parent.parent / "crates" / "quorum_test"
+    for line in rows(vectors, "03-quorum.txt"):
+        history(line)
+    for line in rows(vectors, "03-states.txt"):
+        made_by_hand(line)
+    layout()
+    (here / "stdin").write_bytes(b"".join(struct.pack("<I", len(s)) + s for s in cases))
+    (here / "stdout").write_text("".join(a + "\n" for a in lines))
+
+
+main(*sys.argv[1:])
