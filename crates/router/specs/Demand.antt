@@ -85,7 +85,7 @@ DemandThree =
 abbrev pub AcceptedText : Type 0
 AcceptedText = (text : List ℕ) → ((tree : Tree) × Accepted text tree) ↔ ((room : ℕ) × (translationOf text room .number ≡ 0))
 
--- Demand 1: "A refusal changes no byte that we lent." Translation and writing are the two that are lent bytes to change.
+-- Demand 1: "A refusal changes no byte that we lent." Of document 01's functions translation and writing are the two that are lent bytes to change; for the quorum counter see `RefusedStays` and `RefusedMakesNone` of crate quorum.
 abbrev pub RefusalKeeps : Type 0
 RefusalKeeps =
     ((text buffer written : List ℕ) (r : Translated) → Answers (translationOf text (length buffer)) buffer written r → (r .number ≡ 0 → ⊥) → written ≡ buffer)
