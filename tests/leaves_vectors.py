@@ -31,6 +31,15 @@ def main():
         s = bytes(rng.choice(b"aAbB") for _ in range(rng.randrange(7)))
         t = rng.choice([s[rng.randrange(len(s) + 1):], s[: rng.randrange(len(s) + 1)], bytes(rng.choice(b"aAbB") for _ in range(rng.randrange(4)))])
         cases.append((s, t.swapcase() if rng.random() < 0.3 else t))
+    # strings of several words of eight bytes, equal but for one byte, and literals that are all but contained again and again
+    for _ in range(60):
+        s = bytes(rng.choice(b"aAzZ@[`{\xc1") for _ in range(rng.randrange(8, 40)))
+        at = rng.randrange(len(s))
+        cases.append((s, s[:at] + rng.choice([s[at : at + 1], b"b"]) + s[at + 1 :]))
+    for size, n in [(200, 9), (300, 64), (400, 65), (700, 300)]:
+        for p in (b"a" * (n - 1) + b"b", b"aab" * (n // 3) + b"a"):
+            s = (p[:-1] * size)[:size]
+            cases += [(s, p), (s + p, p), (s[: size - n // 2] + p.swapcase() + s[:3], p)]
     stdin = b""
     for s, t in cases:
         for marks in range(4):

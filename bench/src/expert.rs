@@ -555,6 +555,37 @@ fn fold(mark: bool, b: u8) -> u8 {
     }
 }
 
+/// The bytes A..Z of a word as a..z, if it is marked.
+#[inline(always)]
+fn fold_word(mark: bool, x: u64) -> u64 {
+    if !mark {
+        return x;
+    }
+    let low = x & 0x7f7f_7f7f_7f7f_7f7f;
+    // the high bit of each byte from A on, but not from the one after Z on
+    let upper = (low + 0x3f3f_3f3f_3f3f_3f3f) ^ (low + 0x2525_2525_2525_2525);
+    x | (upper & !x & 0x8080_8080_8080_8080) >> 2
+}
+
+/// As `same_bytes`, each side folded where it is marked.
+unsafe fn same_folded(a: *const u8, a_mark: bool, b: *const u8, b_mark: bool, n: usize) -> bool {
+    let same = |i: usize| {
+        fold_word(a_mark, (a.add(i) as *const u64).read_unaligned())
+            == fold_word(b_mark, (b.add(i) as *const u64).read_unaligned())
+    };
+    if n >= 8 {
+        let mut i = 0;
+        while i + 8 <= n {
+            if !same(i) {
+                return false;
+            }
+            i += 8;
+        }
+        return same(n - 8);
+    }
+    (0..n).all(|i| fold(a_mark, *a.add(i)) == fold(b_mark, *b.add(i)))
+}
+
 #[inline(always)]
 fn same_text(s: &[u8], s_mark: bool, t: &[u8], t_mark: bool) -> bool {
     if s.len() != t.len() {
@@ -563,9 +594,28 @@ fn same_text(s: &[u8], s_mark: bool, t: &[u8], t_mark: bool) -> bool {
     if !s_mark && !t_mark {
         return unsafe { same_bytes(s.as_ptr(), t.as_ptr(), s.len()) };
     }
-    s.iter()
-        .zip(t)
-        .all(|(&a, &b)| fold(s_mark, a) == fold(t_mark, b))
+    unsafe { same_folded(s.as_ptr(), s_mark, t.as_ptr(), t_mark, s.len()) }
+}
+
+/// Looks for the literal's first two bytes, or for its first byte folded, and compares the rest by words: plain, and good on short
+/// literals, but with no memory of what it has compared, so that a hostile literal costs the string's bytes times its own.
+fn contains(s: &[u8], s_mark: bool, t: &[u8], t_mark: bool) -> bool {
+    let last = s.len() - t.len();
+    if t.len() >= 2 && !s_mark && !t_mark {
+        // SAFETY: two bytes lie at each place up to the last, since the literal has two
+        let head = unsafe { u16_at(t, 0) };
+        return (0..=last).any(|i| {
+            let here = unsafe { u16_at(s, i) };
+            here == head && same_text(&s[i..i + t.len()], false, t, false)
+        });
+    }
+    let Some(&first) = t.first() else {
+        return true;
+    };
+    let first = fold(t_mark, first);
+    (0..=last).any(|i| {
+        fold(s_mark, s[i]) == first && same_text(&s[i + 1..i + t.len()], s_mark, &t[1..], t_mark)
+    })
 }
 
 fn fits(how: u8, s: &[u8], s_mark: bool, t: &[u8], t_mark: bool) -> bool {
@@ -575,20 +625,7 @@ fn fits(how: u8, s: &[u8], s_mark: bool, t: &[u8], t_mark: bool) -> bool {
     match how {
         0 => same_text(&s[..t.len()], s_mark, t, t_mark),
         2 => same_text(&s[s.len() - t.len()..], s_mark, t, t_mark),
-        _ => {
-            if t.is_empty() {
-                return true;
-            }
-            let first = fold(t_mark, t[0]);
-            for i in 0..=s.len() - t.len() {
-                if fold(s_mark, s[i]) == first
-                    && same_text(&s[i + 1..i + t.len()], s_mark, &t[1..], t_mark)
-                {
-                    return true;
-                }
-            }
-            false
-        }
+        _ => contains(s, s_mark, t, t_mark),
     }
 }
 

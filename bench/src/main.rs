@@ -1,12 +1,16 @@
 //! Ours beside the expert's Rust, one machine, one run. `bench` prints every table, `bench quick` the same in a tenth
-//! of the time, `bench agree` compares the answers of both sides on many random cases and times nothing.
+//! of the time, `bench agree` compares the answers of both sides on many random cases and times nothing, `bench worst` times
+//! ours alone on the worst inputs found.
 //! How it is built and run, with the flags: bench/run.
 
 mod agree;
 mod clock;
+mod hostile;
 mod load;
 mod program;
 mod quorum;
+mod strings;
+mod worst;
 
 use bench::{expert, ours, translate};
 use clock::{compare, Pace};
@@ -245,7 +249,8 @@ fn main() {
             100_000,
         ),
         "agree" => return agree::agree(200_000),
-        _ => panic!("bench [quick | agree]"),
+        "worst" => return worst::rows(),
+        _ => panic!("bench [quick | agree | worst]"),
     };
     agree::agree(2_000);
     linear();
@@ -258,5 +263,6 @@ fn main() {
     quorum::shows(pace);
     checks(pace);
     translation(pace);
+    strings::rows(pace);
     program::rates(records);
 }

@@ -25,6 +25,16 @@ mod c {
             verdict: *mut u8,
             steps: *mut usize,
         ) -> u8;
+        pub fn virentolex_read(
+            notice: *const u8,
+            notice_len: usize,
+            k: usize,
+            place: *mut usize,
+            kind: *mut u16,
+            name: *mut usize,
+            value: *mut usize,
+            end: *mut usize,
+        ) -> u8;
         pub fn virentolex_write(
             buffer: *mut u8,
             buffer_len: usize,
@@ -114,6 +124,25 @@ pub fn guarded(table: &[u8], notice: &[u8]) -> (u8, usize, u8, usize) {
         )
     };
     (number, place, verdict, steps)
+}
+
+/// Number, and where the value of field k begins and ends.
+pub fn read(notice: &[u8], k: usize) -> (u8, usize, usize) {
+    let (mut place, mut kind, mut name, mut value, mut end) = (0, 0, 0, 0, 0);
+    // SAFETY: as above
+    let number = unsafe {
+        c::virentolex_read(
+            notice.as_ptr(),
+            notice.len(),
+            k,
+            &mut place,
+            &mut kind,
+            &mut name,
+            &mut value,
+            &mut end,
+        )
+    };
+    (number, value, end)
 }
 
 /// Number, place and the notice's new length.

@@ -3,21 +3,20 @@ use Prim.Native.Nat.{ℕ, zero, suc, _+_, _-_, _*_, _<_, _≤_}
 use native.Mathlib.Omega.{arith}
 use native.Mathlib.Numerals.{add-one}
 use mathlib.Core.Path.{_≡_, refl, sym, ap, _∙_, subst}
-use mathlib.Core.Bool.{Bool, true, false, _&&_, _||_}
+use mathlib.Core.Bool.{true, false}
 use mathlib.Core.List.{List, [], _∷_, _++_, append-assoc}
 use lib.ListN.{length, getD, List·getD-eq-default, length-append}
 use lib.Seq.{getD-append-seam}
 use lib.Dec.{eqb, leb}
 use borrow.Author.Tests.{eq-eqb, ne-eqb, leb-true, eqb-true, le-leb}
+use Rattle.common.proofs.Choice.{false-true}
+use Rattle.octets.proofs.Theorems.{and-parts}
+use Rattle.lexer.specs.Kind.{naming, opening, closing, comma}
 use Rattle.lexer.specs.Token.{Token, kindOf}
 use Rattle.grammar.specs.Tree.{Tree, leaf, group, unary, binary, call, Trees, none, _then_}
-use Rattle.grammar.specs.Grammar.{rank, isPrefix, isLiteral, naming, opening, closing, comma, Level, operator, tighter, tightest, Prefix, applied, plain, Operand, a-literal, a-name, a-group, a-call-none, a-call, Arguments, first, next}
-use Rattle.grammar.specs.Parse.{Result, ok, bad, andThen, pick, ended, tokenAt, kindAt, is, levelOf, moreOf, prefixOf, operandOf, argumentsOf, parseAll}
+use Rattle.grammar.specs.Grammar.{rank, isPrefix, isLiteral, Level, operator, tighter, tightest, Prefix, applied, plain, Operand, a-literal, a-name, a-group, a-call-none, a-call, Arguments, first, next}
+use Rattle.grammar.specs.Parse.{Result, ok, bad, andThen, ended, tokenAt, kindAt, is, levelOf, moreOf, prefixOf, operandOf, argumentsOf, parseAll}
 use Rattle.grammar.proofs.Laws.{level-prefix, level-then, more-then, more-stop, prefix-applied, prefix-plain, operand-literal, operand-name, operand-call-none, operand-call, operand-group, args-comma, args-close}
-
-and-parts : (a b : Bool) → (a && b) ≡ true → (a ≡ true) × (b ≡ true)
-and-parts true b e = (refl, e)
-and-parts false b e = let z : _≡_ {A = ℕ} 0 1 = cc in absurd (omega arith)
 
 literal-kind : (k : ℕ) → isLiteral k ≡ true → (1 ≤ k) × (k ≤ 4)
 literal-kind k e = let p = and-parts (leb 1 k) (leb k 4) e in (leb-true 1 k (p .0), leb-true k 4 (p .1))
@@ -27,7 +26,7 @@ not-prefix : (k : ℕ) → (k ≡ 40 → ⊥) → (k ≡ 8 → ⊥) → isPrefix
 not-prefix k a b = rw (ne-eqb k 40 a, ne-eqb k 8 b)
 
 prefix-kind : (k : ℕ) → isPrefix k ≡ true → k ≡ closing → ⊥
-prefix-kind k e q = let z : _≡_ {A = Bool} false true = rw q at e in let n : _≡_ {A = ℕ} 0 1 = cc in omega arith
+prefix-kind k e q = false-true (rw q at e)
 
 -- the tokens xs stand from i up to j
 abbrev Run : List Token → ℕ → List Token → ℕ → Type 0

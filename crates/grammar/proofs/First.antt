@@ -7,10 +7,12 @@ use mathlib.Core.List.{List}
 use lib.ListN.{length}
 use lib.Dec.{eqb}
 use borrow.Author.Tests.{eqb-true, eqb-false, ne-eqb}
+use Rattle.common.specs.Choice.{pick}
+use Rattle.lexer.specs.Kind.{naming, opening, closing, comma}
 use Rattle.lexer.specs.Token.{Token, kindOf}
 use Rattle.grammar.specs.Tree.{Tree, leaf, group, unary, binary, call, Trees, none, _then_}
-use Rattle.grammar.specs.Parse.{Result, ok, bad, andThen, pick, tokenAt, kindAt, is, level, more, prefix, operand, arguments, levelOf, fuel, parseAll}
-use Rattle.grammar.specs.Grammar.{rank, isPrefix, isLiteral, naming, opening, closing, comma, Level}
+use Rattle.grammar.specs.Parse.{Result, ok, bad, andThen, tokenAt, kindAt, is, level, more, prefix, operand, arguments, levelOf, fuel, parseAll}
+use Rattle.grammar.specs.Grammar.{rank, isPrefix, isLiteral, Level}
 use Rattle.grammar.proofs.Fuel.{same-level}
 use Rattle.grammar.proofs.Complete.{complete}
 

@@ -7,10 +7,12 @@ use mathlib.Core.List.{List, [], _∷_}
 use lib.ListN.{length, getD}
 use lib.Dec.{eqb}
 use borrow.Author.Tests.{eqb-true, eqb-false}
+use Rattle.common.specs.Choice.{pick}
+use Rattle.lexer.specs.Kind.{naming, opening, closing, comma}
 use Rattle.lexer.specs.Token.{Token}
 use Rattle.grammar.specs.Tree.{Tree, leaf, group, unary, binary, call, Trees, none, _then_}
-use Rattle.grammar.specs.Parse.{Result, ok, bad, andThen, pick, tokenAt, kindAt, is, level, more, prefix, operand, arguments, levelOf, moreOf, prefixOf, operandOf, argumentsOf, fuel}
-use Rattle.grammar.specs.Grammar.{rank, isPrefix, isLiteral, naming, opening, closing, comma}
+use Rattle.grammar.specs.Parse.{Result, ok, bad, andThen, tokenAt, kindAt, is, level, more, prefix, operand, arguments, levelOf, moreOf, prefixOf, operandOf, argumentsOf, fuel}
+use Rattle.grammar.specs.Grammar.{rank, isPrefix, isLiteral}
 use Rattle.grammar.proofs.Sound.{at-kind, at-rank, at-prefix, Tells, sound-level}
 
 then-same : (Q : Tree → ℕ → Type 0) (B : ℕ → Type 0) (x y : Result) (k m : Tree → ℕ → Result) → x ≡ y → Tells Q B x → ((t : Tree) (j : ℕ) → Q t j → k t j ≡ m t j) → andThen x k ≡ andThen y m

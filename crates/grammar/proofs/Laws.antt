@@ -7,10 +7,12 @@ use mathlib.Core.List.{List, [], _∷_}
 use lib.ListN.{length, getD}
 use lib.Dec.{eqb}
 use borrow.Author.Tests.{eq-eqb, ne-eqb}
+use Rattle.common.specs.Choice.{pick}
+use Rattle.lexer.specs.Kind.{naming, opening, closing, comma}
 use Rattle.lexer.specs.Token.{Token}
 use Rattle.grammar.specs.Tree.{Tree, leaf, group, unary, binary, call, Trees, none, _then_}
-use Rattle.grammar.specs.Grammar.{rank, isPrefix, isLiteral, naming, opening, closing, comma}
-use Rattle.grammar.specs.Parse.{Result, ok, bad, andThen, pick, tokenAt, kindAt, is, levelOf, moreOf, prefixOf, operandOf, argumentsOf}
+use Rattle.grammar.specs.Grammar.{rank, isPrefix, isLiteral}
+use Rattle.grammar.specs.Parse.{Result, ok, bad, andThen, tokenAt, kindAt, is, levelOf, moreOf, prefixOf, operandOf, argumentsOf}
 use Rattle.grammar.proofs.Fuel.{level-is, more-is, prefix-is, operand-is, arguments-is}
 
 module _ (ks : List Token) (i : ℕ) where

@@ -7,10 +7,11 @@ use mathlib.Core.List.{List, [], _∷_}
 use lib.ListN.{length}
 use lib.Dec.{eqb}
 use borrow.Author.Tests.{eqb-true, eqb-false}
+use Rattle.lexer.specs.Kind.{naming, opening, closing, comma}
 use Rattle.lexer.specs.Token.{Token, kindOf}
 use Rattle.grammar.specs.Tree.{Tree, leaf, group, unary, binary, call, Trees, none, _then_}
-use Rattle.grammar.specs.Grammar.{rank, isPrefix, isLiteral, naming, opening, closing, comma}
-use Rattle.grammar.specs.Parse.{Result, ok, bad, andThen, pick, tokenAt, kindAt, is, level, more, prefix, operand, arguments, levelOf, prefixOf, fuel}
+use Rattle.grammar.specs.Grammar.{rank, isPrefix, isLiteral}
+use Rattle.grammar.specs.Parse.{Result, ok, bad, andThen, tokenAt, kindAt, is, level, more, prefix, operand, arguments, levelOf, prefixOf, fuel}
 use Rattle.grammar.specs.Size.{countOf, skips, entriesOf, entriesIn, poolBytes, poolOf, poolIn, depthOf, depthIn}
 use Rattle.grammar.specs.Answer.{foundOf, answerOf}
 use Rattle.grammar.specs.Stream.{tokensIn}

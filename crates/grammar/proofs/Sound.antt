@@ -12,13 +12,13 @@ use lib.ListN.{length, getD, take, drop, List·getD-eq-default}
 use lib.Seq.{slice, slice-empty, slice-cons, take-length}
 use lib.Dec.{eqb}
 use borrow.Author.Tests.{eqb-true, eqb-false}
+use Rattle.common.specs.Choice.{pick}
+use Rattle.common.proofs.Choice.{false-true}
+use Rattle.lexer.specs.Kind.{naming, opening, closing, comma}
 use Rattle.lexer.specs.Token.{Token, int32, symbol, kindOf}
 use Rattle.grammar.specs.Tree.{Tree, leaf, group, unary, binary, call, Trees, none, _then_}
-use Rattle.grammar.specs.Grammar.{rank, isPrefix, isLiteral, naming, opening, closing, comma, Level, operator, tighter, tightest, Prefix, applied, plain, Operand, a-literal, a-name, a-group, a-call-none, a-call, Arguments, first, next}
-use Rattle.grammar.specs.Parse.{Result, ok, bad, andThen, pick, ended, tokenAt, kindAt, is, level, more, prefix, operand, arguments, levelOf, parseAll, fuel}
-
-never : {A : Type 0} → false ≡ true → A
-never e = let z : _≡_ {A = ℕ} 0 1 = cc in absurd (omega arith)
+use Rattle.grammar.specs.Grammar.{rank, isPrefix, isLiteral, Level, operator, tighter, tightest, Prefix, applied, plain, Operand, a-literal, a-name, a-group, a-call-none, a-call, Arguments, first, next}
+use Rattle.grammar.specs.Parse.{Result, ok, bad, andThen, ended, tokenAt, kindAt, is, level, more, prefix, operand, arguments, levelOf, parseAll, fuel}
 
 -- a token of which something holds that does not hold past the end is within the list
 inside : (Q : Token → Type 0) (ks : List Token) (i : ℕ) → (Q ended → ⊥) → Q (tokenAt ks i) → i < length ks
@@ -37,10 +37,10 @@ module _ (ks : List Token) (i : ℕ) where
   at-rank l e h = inside (λ x. rank (kindOf x) ≡ l) ks i (λ q. omega arith) e
 
   pub at-prefix : isPrefix (kindAt ks i) ≡ true → i < length ks
-  at-prefix e = inside (λ x. isPrefix (kindOf x) ≡ true) ks i (λ q. never q) e
+  at-prefix e = inside (λ x. isPrefix (kindOf x) ≡ true) ks i (λ q. false-true q) e
 
   pub at-literal : isLiteral (kindAt ks i) ≡ true → i < length ks
-  at-literal e = inside (λ x. isLiteral (kindOf x) ≡ true) ks i (λ q. never q) e
+  at-literal e = inside (λ x. isLiteral (kindOf x) ≡ true) ks i (λ q. false-true q) e
 
 -- ---- parts of a list
 

@@ -7,14 +7,15 @@ use mathlib.Core.List.{List}
 use lib.Dec.{eqb}
 use lib.ListN.{length}
 use borrow.Author.Tests.{eq-eqb, ne-eqb}
+use Rattle.lexer.specs.Kind.{naming, opening, closing, comma}
 use Rattle.lexer.specs.Token.{Token}
 use Rattle.grammar.specs.Tree.{Tree, leaf, group, unary, binary, call, Trees, none, _then_}
-use Rattle.grammar.specs.Grammar.{rank, isPrefix, isLiteral, naming, opening, closing, comma}
-use Rattle.grammar.specs.Parse.{Result, ok, bad, andThen, pick, tokenAt, kindAt, is, levelOf, moreOf, prefixOf, operandOf, argumentsOf, parseAll}
+use Rattle.grammar.specs.Grammar.{rank, isPrefix, isLiteral}
+use Rattle.grammar.specs.Parse.{Result, ok, bad, andThen, tokenAt, kindAt, is, levelOf, moreOf, prefixOf, operandOf, argumentsOf, parseAll}
 use Rattle.grammar.specs.Function.{functionOf}
 use Rattle.grammar.specs.Size.{countOf, entriesOf, entriesIn, poolOf, poolIn, depthOf, depthIn}
 use Rattle.grammar.specs.Judge.{isText, formOf, firstOf, laterTexts, isLogic, formsRight, formsIn, kindsRight, kindsIn}
-use Rattle.grammar.specs.Answer.{foundOf, argsOf, answerOf, unaryFound, groupFound, noArgs, pickForm, moreArgs, callFound}
+use Rattle.grammar.specs.Answer.{foundOf, argsOf, answerOf, unaryFound, groupFound, noArgs, moreArgs, callFound}
 use Rattle.grammar.specs.declared.found.Found.{Found}
 use Rattle.grammar.specs.declared.found.Args.{Args}
 use Rattle.grammar.specs.declared.Parsed.{Parsed}

@@ -1,14 +1,13 @@
 -- The numbers of a result, which the parser's promise gives: of a whole expression the first token after it, its sizes and what the refusals 4 and 5 ask; or the token that cannot go on.
 -- Each part of a tree has its numbers from those of its own parts: `Parts` of specs/Theorems.antt.
 use Prim.Native.Nat.{ℕ, _+_, max}
-use mathlib.Core.Bool.{Bool, true, false, cond, not, _&&_}
+use mathlib.Core.Bool.{true, false, cond, not, _&&_}
 use lib.Dec.{eqb, ltb}
 use Rattle.lexer.specs.Token.{Token}
 use Rattle.grammar.specs.Tree.{Tree, Trees}
 use Rattle.grammar.specs.Parse.{Result, ok, bad}
 use Rattle.grammar.specs.Size.{countOf, skips, entriesOf, entriesIn, poolOf, poolIn, depthOf, depthIn}
 use Rattle.grammar.specs.Judge.{leafForm, callForm, formOf, isText, firstOf, laterTexts, callRight, formsRight, formsIn, givesLogic, takesLogic, isLogic, agrees, kindsRight, kindsIn}
-use Rattle.grammar.specs.declared.found.Form.{Form}
 use Rattle.grammar.specs.declared.found.Form.the-variants.{Other}
 use Rattle.grammar.specs.declared.found.Found.{Found}
 use Rattle.grammar.specs.declared.found.Args.{Args}
@@ -99,10 +98,6 @@ binaryFound k f g =
 abbrev pub noArgs : Args
 noArgs = record { count = 0; entries = 0; pool = 0; depth = 1; first = Other; texts = true; forms = true; kinds = true }
 
-abbrev pub pickForm : Bool → Form → Form → Form
-pickForm true a b = a
-pickForm false a b = b
-
 abbrev pub moreArgs : Args → Found → Args
 moreArgs a f =
     record {
@@ -110,7 +105,7 @@ moreArgs a f =
       entries = a .entries + f .entries;
       pool = a .pool + f .pool;
       depth = max (a .depth) (a .count + f .depth);
-      first = pickForm (eqb (a .count) 0) (f .form) (a .first);
+      first = cond (eqb (a .count) 0) (f .form) (a .first);
       texts = cond (eqb (a .count) 0) true (a .texts && isText (f .form));
       forms = a .forms && f .forms;
       kinds = a .kinds && (f .kinds && not (f .logic));

@@ -4,6 +4,7 @@ use mathlib.Core.Bool.{Bool, true, false, cond, not, _&&_}
 use mathlib.Core.List.{List, [], _∷_}
 use lib.Dec.{eqb}
 use Rattle.octets.specs.Octets.{sameOf}
+use Rattle.opcode.specs.Number.{foldCaseOp, sizeOp, isInt32Op, isInt64Op, isReal64Op, isTextOp, isOpaqueOp, isNanOp, requireOp, beginsWithOp, containsOp, endsWithOp, equalsOp}
 use Rattle.lexer.specs.Ascii.{ascii}
 use Rattle.lexer.specs.Token.{Token, name, int32, int64, real, text, symbol}
 
@@ -13,25 +14,25 @@ pub record Function : Type 0 where
   pub op : ℕ
 
 abbrev pub changes : List Function
-changes = record { word = ascii "fold-case"; op = 6 } ∷ record { word = ascii "size"; op = 7 } ∷ []
+changes = record { word = ascii "fold-case"; op = foldCaseOp } ∷ record { word = ascii "size"; op = sizeOp } ∷ []
 
 abbrev pub tests : List Function
 tests =
-    record { word = ascii "int32"; op = 48 }
-    ∷ record { word = ascii "int64"; op = 49 }
-    ∷ record { word = ascii "real64"; op = 50 }
-    ∷ record { word = ascii "string"; op = 51 }
-    ∷ record { word = ascii "opaque"; op = 52 }
-    ∷ record { word = ascii "nan"; op = 53 }
-    ∷ record { word = ascii "require"; op = 54 }
+    record { word = ascii "int32"; op = isInt32Op }
+    ∷ record { word = ascii "int64"; op = isInt64Op }
+    ∷ record { word = ascii "real64"; op = isReal64Op }
+    ∷ record { word = ascii "string"; op = isTextOp }
+    ∷ record { word = ascii "opaque"; op = isOpaqueOp }
+    ∷ record { word = ascii "nan"; op = isNanOp }
+    ∷ record { word = ascii "require"; op = requireOp }
     ∷ []
 
 abbrev pub matches : List Function
 matches =
-    record { word = ascii "begins-with"; op = 56 }
-    ∷ record { word = ascii "contains"; op = 57 }
-    ∷ record { word = ascii "ends-with"; op = 58 }
-    ∷ record { word = ascii "equals"; op = 59 }
+    record { word = ascii "begins-with"; op = beginsWithOp }
+    ∷ record { word = ascii "contains"; op = containsOp }
+    ∷ record { word = ascii "ends-with"; op = endsWithOp }
+    ∷ record { word = ascii "equals"; op = equalsOp }
     ∷ []
 
 -- the op of a name among some functions, 0 if it is none of them; "Function names take no escapes"

@@ -4,6 +4,8 @@ use mathlib.Core.Path.{_≡_}
 use mathlib.Core.Bool.{Bool, true, cond, _&&_, _||_}
 use mathlib.Core.List.{List, [], _∷_, _++_}
 use lib.Dec.{eqb, leb}
+use Rattle.opcode.specs.Number.{complementOp, shiftLeftOp, shiftRightZeroOp, bitAndOp, bitXorOp, bitOrOp, mulOp, remOp, addOp, subOp, equalOp, notEqualOp, lessOp, greaterEqualOp, notOp, andOp, xorOp, orOp}
+use Rattle.lexer.specs.Kind.{int32Kind, textKind, naming, opening, closing, comma}
 use Rattle.lexer.specs.Token.{Token, kindOf}
 use Rattle.grammar.specs.Tree.{Tree, leaf, group, unary, binary, call, Trees, none, _then_}
 
@@ -11,38 +13,25 @@ use Rattle.grammar.specs.Tree.{Tree, leaf, group, unary, binary, call, T
 -- A kind that is no binary operator has 11.
 unfoldable pub rank : ℕ → ℕ
 rank k =
-    cond (eqb k 43) 0
-    (cond (eqb k 42) 1
-    (cond (eqb k 41) 2
-    (cond (leb 32 k && leb k 33) 3
-    (cond (leb 34 k && leb k 37) 4
-    (cond (leb 25 k && leb k 26) 5
-    (cond (leb 22 k && leb k 24) 6
-    (cond (eqb k 21) 7
-    (cond (eqb k 20) 8
-    (cond (eqb k 19) 9
-    (cond (leb 16 k && leb k 18) 10 11))))))))))
+    cond (eqb k orOp) 0
+    (cond (eqb k xorOp) 1
+    (cond (eqb k andOp) 2
+    (cond (leb equalOp k && leb k notEqualOp) 3
+    (cond (leb lessOp k && leb k greaterEqualOp) 4
+    (cond (leb addOp k && leb k subOp) 5
+    (cond (leb mulOp k && leb k remOp) 6
+    (cond (eqb k bitOrOp) 7
+    (cond (eqb k bitXorOp) 8
+    (cond (eqb k bitAndOp) 9
+    (cond (leb shiftLeftOp k && leb k shiftRightZeroOp) 10 11))))))))))
 
 -- `!` and `~`
 abbrev pub isPrefix : ℕ → Bool
-isPrefix k = eqb k 40 || eqb k 8
+isPrefix k = eqb k notOp || eqb k complementOp
 
 -- int32, int64, real64, string
 abbrev pub isLiteral : ℕ → Bool
-isLiteral k = leb 1 k && leb k 4
-
--- the kinds of a name, `(`, `)` and `,`
-abbrev pub naming : ℕ
-naming = 5
-
-abbrev pub opening : ℕ
-opening = 9
-
-abbrev pub closing : ℕ
-closing = 10
-
-abbrev pub comma : ℕ
-comma = 11
+isLiteral k = leb int32Kind k && leb k textKind
 
 mutual
   -- "Binary operators group to the left": an operator of a level between the same level and the next tighter one; or the tighter one alone

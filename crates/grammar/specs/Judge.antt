@@ -2,6 +2,8 @@
 use Prim.Native.Nat.{ℕ}
 use mathlib.Core.Bool.{Bool, true, false, cond, not, _&&_, _||_}
 use lib.Dec.{eqb, leb}
+use Rattle.opcode.specs.Number.{foldCaseOp, sizeOp, equalOp, notOp, isInt32Op, requireOp, beginsWithOp, endsWithOp, equalsOp}
+use Rattle.lexer.specs.Kind.{textKind, naming}
 use Rattle.lexer.specs.Token.{Token, kindOf}
 use Rattle.grammar.specs.Tree.{Tree, leaf, group, unary, binary, call, Trees, none, _then_}
 use Rattle.grammar.specs.Function.{functionOf}
@@ -11,10 +13,10 @@ use Rattle.grammar.specs.declared.found.Form.the-variants.{Name, Text, F
 
 -- The form of an argument: a name, a string literal, a `fold-case` call; "names and literals asked for take no own parentheses"
 abbrev pub leafForm : ℕ → Form
-leafForm k = cond (eqb k 5) Name (cond (eqb k 4) Text Other)
+leafForm k = cond (eqb k naming) Name (cond (eqb k textKind) Text Other)
 
 abbrev pub callForm : ℕ → Form
-callForm f = cond (eqb f 6) FoldCase Other
+callForm f = cond (eqb f foldCaseOp) FoldCase Other
 
 abbrev pub formOf : Tree → Form
 formOf (leaf x) = leafForm (kindOf x)
@@ -71,10 +73,10 @@ takesFolded form count = eqb count 1 && (isName form || (isText form || isFoldin
 -- a call of the function with this op: whether its arguments are right, by the first one's form, their number, and whether the later ones are string literals
 abbrev pub callRight : ℕ → Form → ℕ → Bool → Bool
 callRight f form count texts =
-    cond (eqb f 6) (takesFolded form count)
-    (cond (eqb f 59) (takesValues form count)
-    (cond (leb 56 f && leb f 58) (takesTexts form count texts)
-    (cond (eqb f 7 || (leb 48 f && leb f 54)) (takesName form count) false)))
+    cond (eqb f foldCaseOp) (takesFolded form count)
+    (cond (eqb f equalsOp) (takesValues form count)
+    (cond (leb beginsWithOp f && leb f endsWithOp) (takesTexts form count texts)
+    (cond (eqb f sizeOp || (leb isInt32Op f && leb f requireOp)) (takesName form count) false)))
 
 -- refusal 4 does not apply
 unfoldable mutual
@@ -91,11 +93,11 @@ unfoldable mutual
 
 -- "Logic: comparisons, `! && ^^ ||`, all functions but `size` and `fold-case`."
 abbrev pub givesLogic : ℕ → Bool
-givesLogic k = leb 32 k
+givesLogic k = leb equalOp k
 
 -- "`! && ^^ ||` take logic; all other operators take values."
 abbrev pub takesLogic : ℕ → Bool
-takesLogic k = leb 40 k
+takesLogic k = leb notOp k
 
 unfoldable pub isLogic : Tree → Bool
 isLogic (leaf x) = false

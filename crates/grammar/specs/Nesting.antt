@@ -3,7 +3,8 @@ use Prim.Native.Nat.{ℕ, zero, suc, _+_, _-_}
 use mathlib.Core.Bool.{Bool, true, false, cond, _||_}
 use mathlib.Core.List.{List, [], _∷_}
 use lib.Dec.{eqb, ltb}
-use Rattle.grammar.specs.Grammar.{isPrefix, opening, closing}
+use Rattle.lexer.specs.Kind.{opening, closing}
+use Rattle.grammar.specs.Grammar.{isPrefix}
 
 -- what is open after a token, and how many prefix operators stand in a row
 abbrev pub openAfter : ℕ → ℕ → ℕ

@@ -1,12 +1,14 @@
 -- The computing parser: the tree that stands at a token. That it accepts exactly what the grammar derives is `Parses` of specs/Theorems.antt.
 use Prim.Native.Nat.{ℕ, zero, suc, _+_, _-_, _*_, _<_, _≤_}
-use mathlib.Core.Bool.{Bool, true, false}
+use mathlib.Core.Bool.{Bool}
 use mathlib.Core.List.{List, [], _∷_}
 use lib.ListN.{length, getD}
 use lib.Dec.{eqb}
+use Rattle.common.specs.Choice.{pick}
+use Rattle.lexer.specs.Kind.{naming, opening, closing, comma, ending}
 use Rattle.lexer.specs.Token.{Token, symbol, kindOf}
 use Rattle.grammar.specs.Tree.{Tree, leaf, group, unary, binary, call, Trees, none, _then_}
-use Rattle.grammar.specs.Grammar.{rank, isPrefix, isLiteral, naming, opening, closing, comma}
+use Rattle.grammar.specs.Grammar.{rank, isPrefix, isLiteral}
 
 -- a tree and the first token after it; or the token that cannot go on
 pub data Result : Type 0 where
@@ -17,14 +19,9 @@ abbrev pub andThen : Result → (Tree → ℕ → Result) → Result
 andThen (ok t n) k = k t n
 andThen (bad p) k = bad p
 
--- by a test; the two ways wait
-abbrev pub pick : Bool → (Unit {0} → Result) → (Unit {0} → Result) → Result
-pick true x y = x tt
-pick false x y = y tt
-
--- past the end stands a token of a kind that no token has
+-- what stands past the last token
 abbrev pub ended : Token
-ended = symbol 99
+ended = symbol ending
 
 abbrev pub tokenAt : List Token → ℕ → Token
 tokenAt ks i = getD ks i ended

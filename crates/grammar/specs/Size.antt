@@ -3,6 +3,7 @@ use Prim.Native.Nat.{ℕ, _+_, max}
 use mathlib.Core.Bool.{Bool, true, false, cond, _||_}
 use lib.Dec.{eqb}
 use lib.ListN.{length}
+use Rattle.opcode.specs.Number.{andOp, orOp}
 use Rattle.lexer.specs.Token.{Token, name, int32, int64, real, text, symbol}
 use Rattle.grammar.specs.Tree.{Tree, leaf, group, unary, binary, call, Trees, none, _then_}
 
@@ -12,7 +13,7 @@ countOf (_then_ ts t) = countOf ts + 1
 
 -- "`L && R` becomes L, skip if false, R, op 41; `L || R` uses skip if true": these two have a skip before the right side
 abbrev pub skips : ℕ → Bool
-skips k = eqb k 41 || eqb k 43
+skips k = eqb k andOp || eqb k orOp
 
 unfoldable mutual
   pub entriesOf : Tree → ℕ

@@ -5,7 +5,7 @@ ghost use Prim.Native.Nat.{_+_, _<_, _≤_, _^_, max};
 ghost use lib.Dec.{eqb};
 ghost use Rattle.grammar.specs.Judge.{leafForm, callForm, isName, isText, isFolding, takesName, takesTexts, takesValues, takesFolded, callRight, givesLogic, takesLogic, agrees};
 ghost use Rattle.grammar.specs.Size.{skips};
-ghost use Rattle.grammar.specs.Answer.{leafFound, groupFound, unaryFound, binaryFound, noArgs, pickForm, moreArgs, callFound};
+ghost use Rattle.grammar.specs.Answer.{leafFound, groupFound, unaryFound, binaryFound, noArgs, moreArgs, callFound};
 
 // The form of an argument, as refusal 4 asks.
 pub enum Form {
@@ -47,10 +47,10 @@ fn larger(a: usize, b: usize) -> usize
 fn leaf_form(k: u8) -> Form
     ensures { λ r. ⌜ r ≡ leafForm k ⌝ }
 {
-    if k == 5 {
+    if k == lexer::NAME {
         return Form::Name;
     }
-    if k == 4 {
+    if k == lexer::TEXT {
         return Form::Text;
     }
     Form::Other
@@ -90,14 +90,14 @@ pub fn group(f: Found) -> Found
 fn gives_logic(k: u8) -> bool
     ensures { λ r. ⌜ r ≡ givesLogic k ⌝ }
 {
-    32 <= k
+    opcode::EQUAL <= k
 }
 
 // Whether an operand is of the kind that the operator k takes.
 fn operand_right(k: u8, logic: bool) -> bool
     ensures { λ r. ⌜ r ≡ agrees (takesLogic k) logic ⌝ }
 {
-    if 40 <= k { logic } else { !logic }
+    if opcode::NOT <= k { logic } else { !logic }
 }
 
 pub fn unary(k: u8, f: Found) -> Found
@@ -119,7 +119,11 @@ pub fn unary(k: u8, f: Found) -> Found
 fn operator_entries(k: u8) -> usize
     ensures { λ r. ⌜ (r ≡ cond (skips k) 2 1) × (r ≤ 2) ⌝ }
 {
-    if (k == 41) | (k == 43) { 2 } else { 1 }
+    if (k == opcode::AND) | (k == opcode::OR) {
+        2
+    } else {
+        1
+    }
 }
 
 pub fn binary(k: u8, f: Found, g: Found) -> Found
@@ -153,7 +157,7 @@ pub fn no_args() -> Args
 }
 
 fn first_form(count: usize, new: Form, old: Form) -> Form
-    ensures { λ r. ⌜ r ≡ pickForm (eqb count 0) new old ⌝ }
+    ensures { λ r. ⌜ r ≡ cond (eqb count 0) new old ⌝ }
 {
     if count == 0 { new } else { old }
 }
@@ -225,16 +229,18 @@ fn is_folding(f: Form) -> bool
 fn call_right(function: u8, form: Form, count: usize, texts: bool) -> bool
     ensures { λ r. ⌜ r ≡ callRight function form count texts ⌝ }
 {
-    if function == 6 {
+    if function == opcode::FOLD_CASE {
         return (count == 1) & (is_name(form) | (is_text(form) | is_folding(form)));
     }
-    if function == 59 {
+    if function == opcode::EQUALS {
         return is_name(form) & ((2 <= count) & (count <= 9));
     }
-    if (56 <= function) & (function <= 58) {
+    if (opcode::BEGINS_WITH <= function) & (function <= opcode::ENDS_WITH) {
         return (is_name(form) | is_folding(form)) & ((2 <= count) & ((count <= 9) & texts));
     }
-    if (function == 7) | ((48 <= function) & (function <= 54)) {
+    if (function == opcode::SIZE)
+        | ((opcode::IS_INT32 <= function) & (function <= opcode::REQUIRE))
+    {
         return (count == 1) & is_name(form);
     }
     false
@@ -243,7 +249,7 @@ fn call_right(function: u8, form: Form, count: usize, texts: bool) -> bool
 fn call_form(function: u8) -> Form
     ensures { λ r. ⌜ r ≡ callForm function ⌝ }
 {
-    if function == 6 {
+    if function == opcode::FOLD_CASE {
         Form::FoldCase
     } else {
         Form::Other

@@ -2,6 +2,7 @@
 ghost use mathlib.Core.Path.{_≡_};
 ghost use Prim.Native.Nat.{ℕ, _+_, _-_, _*_, _≤_, _<_, _^_};
 ghost use lib.ListN.{length, getD};
+ghost use Rattle.lexer.specs.Kind.{naming, opening, ending};
 ghost use Rattle.grammar.specs.Grammar.{isPrefix, isLiteral};
 ghost use Rattle.grammar.specs.Grammar.{rank as rankOf};
 ghost use Rattle.grammar.specs.Tree.{none};
@@ -77,18 +78,18 @@ fn operand(text: &[u8], kinds: &[u8], starts: &[u16], at: usize) -> Parsed
     if stream::is_literal(k) {
         return Parsed::Whole(at + 1, stream::leaf(text, kinds, starts, at));
     }
-    if k == 5 {
-        if stream::kind(kinds, at + 1) != 9 {
+    if k == lexer::NAME {
+        if stream::kind(kinds, at + 1) != lexer::OPEN {
             return Parsed::Whole(at + 1, stream::leaf(text, kinds, starts, at));
         }
         return arguments(text, kinds, starts, at);
     }
-    if k != 9 {
+    if k != lexer::OPEN {
         return Parsed::Broken(at);
     }
     match level(text, kinds, starts, at + 1, 0) {
         Parsed::Whole(n, f) => {
-            if stream::kind(kinds, n) == 10 {
+            if stream::kind(kinds, n) == lexer::CLOSE {
                 Parsed::Whole(n + 1, found::group(f))
             } else {
                 Parsed::Broken(n)
@@ -100,11 +101,11 @@ fn operand(text: &[u8], kinds: &[u8], starts: &[u16], at: usize) -> Parsed
 
 // The call whose name stands at `at`, before a `(`.
 fn arguments(text: &[u8], kinds: &[u8], starts: &[u16], at: usize) -> Parsed
-    requires { ⌜ (length (now text) ≤ 4096) × (length (now kinds) ≤ 4096) × (at + 2 ≤ length (now kinds)) × (getD (now kinds) at 99 ≡ 5) × (getD (now kinds) (at + 1) 99 ≡ 9) ⌝ }
+    requires { ⌜ (length (now text) ≤ 4096) × (length (now kinds) ≤ 4096) × (at + 2 ≤ length (now kinds)) × (getD (now kinds) at ending ≡ naming) × (getD (now kinds) (at + 1) ending ≡ opening) ⌝ }
     ensures { λ r. ⌜ r ≡ answerOf (operandOf (tokensIn (now (text .entry)) (now (kinds .entry)) (now (starts .entry))) at) ⌝ }
 {
     let function = stream::function(text, stream::start(starts, at));
-    if stream::kind(kinds, at + 2) == 10 {
+    if stream::kind(kinds, at + 2) == lexer::CLOSE {
         return Parsed::Whole(at + 3, found::call(function, found::no_args()));
     }
     let mut next = at + 2;
@@ -114,10 +115,10 @@ fn arguments(text: &[u8], kinds: &[u8], starts: &[u16], at: usize) -> Parsed
             Parsed::Whole(n, f) => {
                 let k = stream::kind(kinds, n);
                 args = found::more_args(args, f);
-                if k == 10 {
+                if k == lexer::CLOSE {
                     return Parsed::Whole(n + 1, found::call(function, args));
                 }
-                if k != 11 {
+                if k != lexer::COMMA {
                     return Parsed::Broken(n);
                 }
                 next = n + 1;

@@ -12,14 +12,19 @@ ghost use Rattle.grammar.specs.Tree.{leaf as leafTree};
 ghost use Rattle.grammar.specs.Answer.{foundOf};
 ghost use Rattle.grammar.specs.Stream.{tokensIn};
 ghost use Rattle.lexer.specs.Token.{nameAt, escapedAt};
+ghost use Rattle.lexer.specs.Kind.{ending};
 use crate::found;
 use crate::found::Found;
 
-// The kind of the token at `at`, and 99 past the end.
+// The kind of the token at `at`, and `END` past the last one.
 pub fn kind(kinds: &[u8], at: usize) -> u8
-    ensures { λ r. ⌜ r ≡ getD (now (kinds .entry)) at 99 ⌝ }
+    ensures { λ r. ⌜ r ≡ getD (now (kinds .entry)) at ending ⌝ }
 {
-    if at < kinds.len() { kinds[at] } else { 99 }
+    if at < kinds.len() {
+        kinds[at]
+    } else {
+        lexer::END
+    }
 }
 
 pub fn start(starts: &[u16], at: usize) -> usize
@@ -96,13 +101,13 @@ pub fn rank(k: u8) -> u8
 pub fn is_prefix(k: u8) -> bool
     ensures { λ r. ⌜ r ≡ isPrefix k ⌝ }
 {
-    (k == 40) | (k == 8)
+    (k == opcode::NOT) | (k == opcode::COMPLEMENT)
 }
 
 pub fn is_literal(k: u8) -> bool
     ensures { λ r. ⌜ r ≡ isLiteral k ⌝ }
 {
-    (1 <= k) & (k <= 4)
+    (lexer::INT32 <= k) & (k <= lexer::TEXT)
 }
 
 // What is known of a literal or a name.
@@ -111,10 +116,10 @@ pub fn leaf(text: &[u8], kinds: &[u8], starts: &[u16], at: usize) -> Found
 {
     let k = kind(kinds, at);
     let s = start(starts, at);
-    if k == 5 {
+    if k == lexer::NAME {
         return found::leaf(k, lexer::name_length(text, s));
     }
-    if k == 4 {
+    if k == lexer::TEXT {
         return found::leaf(k, lexer::string_length(text, s));
     }
     found::leaf(k, 0)
@@ -139,10 +144,10 @@ fn change(text: &[u8], at: usize) -> u8
     ensures { λ r. ⌜ r ≡ among changes (nameAt (now (text .entry)) at) (escapedAt (now (text .entry)) at) ⌝ }
 {
     if lexer::name_is(text, at, b"fold-case") {
-        return 6;
+        return opcode::FOLD_CASE;
     }
     if lexer::name_is(text, at, b"size") {
-        return 7;
+        return opcode::SIZE;
     }
     0
 }
@@ -151,25 +156,25 @@ fn test(text: &[u8], at: usize) -> u8
     ensures { λ r. ⌜ r ≡ among tests (nameAt (now (text .entry)) at) (escapedAt (now (text .entry)) at) ⌝ }
 {
     if lexer::name_is(text, at, b"int32") {
-        return 48;
+        return opcode::IS_INT32;
     }
     if lexer::name_is(text, at, b"int64") {
-        return 49;
+        return opcode::IS_INT64;
     }
     if lexer::name_is(text, at, b"real64") {
-        return 50;
+        return opcode::IS_REAL64;
     }
     if lexer::name_is(text, at, b"string") {
-        return 51;
+        return opcode::IS_TEXT;
     }
     if lexer::name_is(text, at, b"opaque") {
-        return 52;
+        return opcode::IS_OPAQUE;
     }
     if lexer::name_is(text, at, b"nan") {
-        return 53;
+        return opcode::IS_NAN;
     }
     if lexer::name_is(text, at, b"require") {
-        return 54;
+        return opcode::REQUIRE;
     }
     0
 }
@@ -178,16 +183,16 @@ fn matching(text: &[u8], at: usize) -> u8
     ensures { λ r. ⌜ r ≡ among matches (nameAt (now (text .entry)) at) (escapedAt (now (text .entry)) at) ⌝ }
 {
     if lexer::name_is(text, at, b"begins-with") {
-        return 56;
+        return opcode::BEGINS_WITH;
     }
     if lexer::name_is(text, at, b"contains") {
-        return 57;
+        return opcode::CONTAINS;
     }
     if lexer::name_is(text, at, b"ends-with") {
-        return 58;
+        return opcode::ENDS_WITH;
     }
     if lexer::name_is(text, at, b"equals") {
-        return 59;
+        return opcode::EQUALS;
     }
     0
 }
@@ -197,10 +202,10 @@ pub(crate) fn open_after(k: u8, opened: usize) -> usize
     requires { ⌜ opened ≤ 24 ⌝ }
     ensures { λ r. ⌜ r ≡ openAfter k opened ⌝ }
 {
-    if k == 9 {
+    if k == lexer::OPEN {
         return opened + 1;
     }
-    if k == 10 {
+    if k == lexer::CLOSE {
         if opened == 0 {
             return 0;
         }

@@ -8,6 +8,7 @@ use native.Mathlib.Decide.{decLt}
 use native.Mathlib.Omega.{arith}
 use borrow.Author.Tests.{lt-ltb, le-ltb}
 use lib.ListN.{length, drop, replicate}
+use Rattle.common.proofs.Choice.{false-true}
 use Rattle.opcode.specs.Opcode.{opOf, Kind, takesOf, givesOf}
 use Rattle.opcode.specs.declared.Skip.{Skip}
 use Rattle.opcode.specs.declared.Op.{Op}
@@ -64,8 +65,7 @@ module _ {s : List ℕ} (notice : List ℕ) {t : State} (checked : checkOf s ≡
   pub never-unknown : opOf (entryAt s (t .next) .op) ≡ Op.Unknown → ⊥
   never-unknown e =
       let r : false ≡ true = rw e at (known .right) in
-      let z : _≡_ {A = ℕ} 0 1 = ap (λ (b : Bool). cond b 1 0) r in
-      omega arith
+      false-true r
 
   -- an operator's result in its operands' place
   answered : (o : Op) → opOf (entryAt s (t .next) .op) ≡ o → (x : Item) (j : ℕ) → kindOf x ≡ givesOf o

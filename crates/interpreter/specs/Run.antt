@@ -2,10 +2,11 @@
 -- bottom. 44 on a false top and 45 on a true one go a + 1 entries on, all else one. The other ops replace their operands, the first deepest, by their result, as in Meaning and above. At N it ends
 -- and the one slot is the verdict." Defined for all programs and notices: a slot that is not there counts as bottom.
 use Prim.Native.Nat.{ℕ, zero, suc, _+_}
-use mathlib.Core.Bool.{Bool, true, false, cond}
+use mathlib.Core.Bool.{Bool, cond}
 use mathlib.Core.List.{List, [], _∷_, reverse}
 use lib.Dec.{ltb}
 use lib.ListN.{length, take, drop, getD}
+use Rattle.common.specs.Choice.{pick}
 use Rattle.truth.specs.declared.Truth.{Truth}
 use Rattle.truth.specs.declared.Truth.the-variants.{Bottom}
 use Rattle.truth.specs.Truth.{isTrue, isFalse}
@@ -61,14 +62,10 @@ visit pool notice e s =
       steps = s .steps + 1;
     }
 
-abbrev pub pickState : Bool → (Unit {0} → State) → (Unit {0} → State) → State
-pickState true x y = x tt
-pickState false x y = y tt
-
 -- one step of the run; "At N it ends"
 abbrev pub rule : Program → List ℕ → State → State
 rule p notice s =
-    pickState (ltb (s .next) (length (p .entries))) (λ _. visit (p .pool) notice (getD (p .entries) (s .next) blank) s) (λ _. s)
+    pick (ltb (s .next) (length (p .entries))) (λ _. visit (p .pool) notice (getD (p .entries) (s .next) blank) s) (λ _. s)
 
 -- k visits from a state, or as many as there are
 unfoldable pub afterFrom : Program → List ℕ → ℕ → State → State

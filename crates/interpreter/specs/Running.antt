@@ -2,8 +2,9 @@
 use Prim.Native.Nat.{ℕ}
 use mathlib.Core.Bool.{false}
 use mathlib.Core.List.{List}
+use Rattle.common.specs.Choice.{pick}
 use Rattle.truth.specs.declared.Truth.the-variants.{Bottom}
-use Rattle.notice.specs.Layout.{pick, checkOf as noticeCheck, numberOf, placeOf}
+use Rattle.notice.specs.Layout.{checkOf as noticeCheck, numberOf, placeOf}
 use Rattle.notice.specs.declared.Layout.{Layout}
 use Rattle.table.specs.Table.{decode}
 use Rattle.table.specs.Check.{checkOf as tableCheck, refusalOf}

@@ -258,16 +258,25 @@ pub fn run_whole<'a>(table: &'a [u8], notice: &'a [u8]) -> Ran
     }
 }
 
-// The guarded run, for any bytes: 12 if the table check fails, else 11 with its place if the notice check does, else verdict and steps.
+// The guarded run of a kept table, one that is known to pass the check, on any bytes as notice: 11 with its place if the notice check fails, else verdict and steps.
+// The check is lent the notice as a part made anew: lent as it came, it would be copied right after it was stored, which the processor waits for.
+pub fn run_kept<'a>(table: &'a [u8], notice: &'a [u8]) -> Ran
+    requires { ⌜ checkOf (now table) ≡ true ⌝ }
+    ensures { λ r. ⌜ r ≡ runningOf (now (table .entry)) (now (notice .entry)) ⌝ }
+{
+    let layout = notice::check(&notice[0..]);
+    match layout {
+        Layout::WellFormed => run_whole(table, notice),
+        Layout::Fault(place) => refused(11, place),
+    }
+}
+
+// The guarded run, for any bytes: 12 if the table check fails, else as of a kept table.
 pub fn run<'a>(table: &'a [u8], notice: &'a [u8]) -> Ran
     ensures { λ r. ⌜ r ≡ runningOf (now (table .entry)) (now (notice .entry)) ⌝ }
 {
     if !table::check(table) {
         return refused(12, 0);
     }
-    let layout = notice::check(notice);
-    match layout {
-        Layout::WellFormed => run_whole(table, notice),
-        Layout::Fault(place) => refused(11, place),
-    }
+    run_kept(table, notice)
 }

@@ -66,12 +66,12 @@ fn next_case() -> bool {
     if !k.whole {
         return false;
     }
-    let mut s = [0u8; 64];
+    let mut s = [0u8; 1024];
     let m = cases::next_part(&mut s);
     if !m.whole {
         return false;
     }
-    let mut t = [0u8; 64];
+    let mut t = [0u8; 1024];
     let n = cases::next_part(&mut t);
     if !n.whole {
         return false;

@@ -10,8 +10,9 @@ use lib.Dec.{eqb, ltb}
 use lib.ListN.{length, getD, take, drop, set, drop-of-length-le, length-drop, length-append, List·getD-eq-default}
 use lib.Seq.{drop-cons, getD-drop, sets, take-all, take-append-seam, drop-length}
 use borrow.Author.Tests.{eq-eqb, ne-eqb, ltb-true, eqb-false}
+use Rattle.common.proofs.Choice.{true-false, false-true}
 use Rattle.octets.specs.Octets.{folded, sameOf}
-use Rattle.octets.proofs.Theorems.{true-false, same, same-refl, not-folded}
+use Rattle.octets.proofs.Theorems.{same, same-refl, not-folded}
 use Rattle.lexer.specs.Byte.{is, isCommon}
 use Rattle.lexer.specs.Run.{takes, ends, runFrom, unescaped, Free, hasEscape, legalByte, legalName, GoesOn}
 use Rattle.lexer.proofs.Bytes.{common-ends-none, common-takes-none, common-plain}
@@ -178,9 +179,9 @@ told : (n a b : ℕ) → (ltb 0 n && not (eqb a b)) ≡ true → (0 < n) × (a �
 told n a b t = go (ltb 0 n) (eqb a b) refl refl t
   where
     go : (p q : Bool) → ltb 0 n ≡ p → eqb a b ≡ q → (p && not q) ≡ true → (0 < n) × (a ≡ b → ⊥)
-    go true true e f g = true-false (sym g)
+    go true true e f g = false-true g
     go true false e f g = (ltb-true 0 n e, eqb-false a b f)
-    go false q e f g = true-false (sym g)
+    go false q e f g = false-true g
 
 pub word-other : (s word : List ℕ) (at a b : ℕ) → (ltb 0 (length word) && not (eqb a b)) ≡ true → a ≡ getD s at 0 → b ≡ getD word 0 0
     → false ≡ (not (hasEscape (runFrom 0 false (drop at s))) && sameOf (unescaped false (runFrom 0 false (drop at s))) word)

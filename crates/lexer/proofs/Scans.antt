@@ -10,14 +10,16 @@ use lib.Dec.{eqb, leb}
 use lib.IntN.{ℤ}
 use lib.ListN.{length, getD, drop, length-drop, List·getD-eq-default}
 use borrow.Author.Tests.{leb-true, eqb-true, eqb-false, ne-eqb, eq-eqb}
-use Rattle.octets.proofs.Theorems.{and-parts, true-false}
+use Rattle.common.specs.Choice.{pick}
+use Rattle.common.proofs.Choice.{false-true}
+use Rattle.octets.proofs.Theorems.{and-parts}
 use Rattle.lexer.specs.Byte.{startsName, startsNumber, isQuote}
 use Rattle.lexer.specs.Run.{runOf, unescaped, takes, hasEscape, legalName, nameFits, bodyOf, isEmpty, isClosed}
 use Rattle.lexer.specs.Digits.{signLength}
 use Rattle.lexer.specs.Integer.{baseOf, prefixLength, integerDigits, suffixAt, isLong, isInteger, integerFits, integerOf}
 use Rattle.lexer.specs.Real.{wholeDigits, fromPoint, fractionDigits, exponentPart, isExponent, isReal, realFits, realOf}
 use Rattle.lexer.specs.Symbol.{threeBytes, twoBytes, symbolOf, symbolLength}
-use Rattle.lexer.specs.Token.{Token, name, int32, int64, real, text, symbol, kindOf, Scan, good, bad, judged, pick, scanName, integerToken, scanInteger, scanRun, scanNumber, scanString, scanBytes, scanSymbol, scanOf}
+use Rattle.lexer.specs.Token.{Token, name, int32, int64, real, text, symbol, kindOf, Scan, good, bad, judged, scanName, integerToken, scanInteger, scanRun, scanNumber, scanString, scanBytes, scanSymbol, scanOf}
 use Rattle.lexer.specs.Theorems.{StartsNoOther}
 use Rattle.lexer.specs.Answer.{scannedOf}
 use Rattle.lexer.specs.declared.Scanned.the-variants.{Good, Bad}
@@ -224,7 +226,7 @@ unescaped-fits t (b ∷ s) = go (unescaped-fits true s) (unescaped-fits false s)
     go p q false e = rw e (omega arith)
 
 not-empty : (s : List ℕ) → not (isEmpty s) ≡ true → 0 < length s
-not-empty [] e = true-false (sym e)
+not-empty [] e = false-true e
 not-empty (b ∷ s) e = omega arith
 
 run-fit : (s : List ℕ) → length (runOf 0 s) ≤ length s

@@ -9,19 +9,18 @@ use native.Mathlib.Omega.{arith}
 use lib.Dec.{eqb, ltb}
 use lib.ListN.{length, getD}
 use borrow.Author.Tests.{eqb-true, eqb-false, ltb-true, ne-eqb, eq-eqb}
+use Rattle.common.specs.Each.{Each}
+use Rattle.common.proofs.Choice.{false-true}
+use Rattle.common.proofs.Each.{each-map}
 use Rattle.octets.specs.Octets.{sameOf}
-use Rattle.octets.proofs.Theorems.{and-parts, or-parts, true-false, same}
+use Rattle.octets.proofs.Theorems.{and-parts, or-parts, same}
 use Rattle.lexer.specs.Symbol.{threeBytes, withEqual, doubled, twoBytes, oneByte, firstOf}
 use Rattle.lexer.specs.Token.{symbol, good, bad, judged, scanSymbol}
-use Rattle.lexer.specs.Theorems.{Each, Some, Spelling, spellings}
+use Rattle.lexer.specs.Theorems.{Some, Spelling, spellings}
 use Rattle.lexer.proofs.Symbols.{first-is, first-not}
 use Rattle.lexer.proofs.Scans.{two-none, three-none}
 
 -- what holds of each element, and of some
-each-map : {A : Type 0} {P Q : A → Type 0} (xs : List A) → ((x : A) → P x → Q x) → Each P xs → Each Q xs
-each-map [] f e = tt
-each-map (x ∷ xs) f e = (f x (e .0), each-map xs f (e .1))
-
 pub some-map : {A : Type 0} {P Q : A → Type 0} (xs : List A) → ((x : A) → P x → Q x) → Some P xs → Some Q xs
 some-map [] f e = e
 some-map (x ∷ xs) f (inl e) = inl (f x e)
@@ -76,7 +75,7 @@ isIn [] p k = false
 isIn (x ∷ xs) p k = (eqb (x .kind) k && sameOf (x .bytes) p) || isIn xs p k
 
 in-some : (xs : List Spelling) (p : List ℕ) (k : ℕ) → isIn xs p k ≡ true → Some (λ x. (x .kind ≡ k) × (x .bytes ≡ p)) xs
-in-some [] p k e = true-false (sym e)
+in-some [] p k e = false-true e
 in-some (x ∷ xs) p k e = go (or-parts (eqb (x .kind) k && sameOf (x .bytes) p) (isIn xs p k) e) (in-some xs p k)
   where
     go : ((eqb (x .kind) k && sameOf (x .bytes) p) ≡ true) ⊎ (isIn xs p k ≡ true)

@@ -14,7 +14,9 @@ use lib.Signed.{mag}
 use lib.Ieee.{Float, nan}
 use mir.Syntax.{w32, w64}
 use borrow.Author.Tests.{eqb-true, eqb-false, ltb-true, lt-ltb}
-use Rattle.octets.proofs.Theorems.{and-parts, true-false}
+use Rattle.common.specs.Each.{Each}
+use Rattle.common.proofs.Choice.{true-false}
+use Rattle.octets.proofs.Theorems.{and-parts}
 use Rattle.number.specs.Integer.{fitsIn}
 use Rattle.lexer.specs.Byte.{startsName, startsNumber, isQuote}
 use Rattle.lexer.specs.Run.{runOf, unescaped, hasEscape, legalName, nameFits, bodyOf, isClosed}
@@ -23,7 +25,7 @@ use Rattle.lexer.specs.Integer.{isLong, isInteger, integerFits, integerO
 use Rattle.lexer.specs.Real.{exponentPart, exponentDigits, realDigits, noZeros, scaleOf, isReal, realFits, realOf}
 use Rattle.lexer.specs.Token.{Token, name, int32, int64, real, text, symbol, Placed, good, bad, judged, scanName, integerToken, scanNumber, scanString, scanSymbol, scanOf, Lexed, tokens, refused, prepend, tokensFrom, tokensOf, found, integerAt, longAt, realAt}
 use Rattle.lexer.specs.Answer.{lexingOf, numberOf, placeOf}
-use Rattle.lexer.specs.Theorems.{Each, Some, Laid, Nothing, BadToken, Whole, FirstBad, HasNumber, Numbered, ValueAt, Values, StartsInside, Counted, Stored, Spelling, spellings, StartsNoOther, LongestMatch, RealsHaveValues, Examples}
+use Rattle.lexer.specs.Theorems.{Some, Laid, Nothing, BadToken, Whole, FirstBad, HasNumber, Numbered, ValueAt, Values, StartsInside, Counted, Stored, Spelling, spellings, StartsNoOther, LongestMatch, RealsHaveValues, Examples}
 use Rattle.lexer.proofs.Decimals.{fifteen, real-decimal}
 use Rattle.lexer.proofs.Scans.{judged-legal, isSymbol, scan-judged, bad-number, is-name, is-number, is-string, is-symbol, scan-real, scan-integer}
 use Rattle.lexer.proofs.Spellings.{some-map, each-some, right, kindBy, prefix-kind, Spells, kind-prefix, most-once, Best, best}
@@ -207,12 +209,6 @@ pub stored : Stored
 stored d vs h =
     let e = sets-eq vs d 0 (omega arith) in
     rw e (take-append-seam vs (drop (0 + length vs) d))
-
--- an element that a list has
-pub each-at : {A : Type 0} (P : A → Type 0) (xs : List A) (d : A) → Each P xs → (i : ℕ) → i < length xs → P (getD xs i d)
-each-at P [] d e i h = absurd (omega arith)
-each-at P (x ∷ xs) d e zero h = e .0
-each-at P (x ∷ xs) d e (suc i) h = each-at P xs d (e .1) i (omega arith)
 
 pub reals-have-values : RealsHaveValues
 reals-have-values run e =

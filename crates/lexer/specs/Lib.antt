@@ -3,6 +3,7 @@ pub mod Run
 pub mod Digits
 pub mod Integer
 pub mod Real
+pub mod Kind
 pub mod Symbol
 pub mod Token
 pub mod Answer

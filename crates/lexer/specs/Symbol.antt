@@ -1,21 +1,23 @@
 -- Operators, parentheses and the comma, by their kind numbers. Document 01, "Tokens": "Operators take the longest match", and "Table", "Ops".
--- `(`, `)` and `,` have the numbers 9, 10 and 11, which no op has. 0 is no symbol.
+-- 0 is no symbol.
 use Prim.Native.Nat.{ℕ, zero, suc}
 use mathlib.Core.Bool.{cond, _&&_}
 use lib.Dec.{eqb}
+use Rattle.opcode.specs.Number.{complementOp, shiftLeftOp, shiftRightOp, shiftRightZeroOp, bitAndOp, bitXorOp, bitOrOp, mulOp, divOp, remOp, addOp, subOp, equalOp, notEqualOp, lessOp, lessEqualOp, greaterOp, greaterEqualOp, notOp, andOp, xorOp, orOp}
 use Rattle.lexer.specs.Byte.{is}
+use Rattle.lexer.specs.Kind.{opening, closing, comma}
 
 -- `>>>`
 abbrev pub threeBytes : ℕ → ℕ → ℕ → ℕ
-threeBytes a b c = cond (is ">" a && is ">" b && is ">" c) 18 0
+threeBytes a b c = cond (is ">" a && is ">" b && is ">" c) shiftRightZeroOp 0
 
 -- a byte and `=`: `== != <= >=`
 abbrev pub withEqual : ℕ → ℕ
-withEqual a = cond (is "=" a) 32 (cond (is "!" a) 33 (cond (is "<" a) 35 (cond (is ">" a) 37 0)))
+withEqual a = cond (is "=" a) equalOp (cond (is "!" a) notEqualOp (cond (is "<" a) lessEqualOp (cond (is ">" a) greaterEqualOp 0)))
 
 -- a byte twice: `<< >> && ^^ ||`
 abbrev pub doubled : ℕ → ℕ
-doubled a = cond (is "<" a) 16 (cond (is ">" a) 17 (cond (is "&" a) 41 (cond (is "^" a) 42 (cond (is "|" a) 43 0))))
+doubled a = cond (is "<" a) shiftLeftOp (cond (is ">" a) shiftRightOp (cond (is "&" a) andOp (cond (is "^" a) xorOp (cond (is "|" a) orOp 0))))
 
 abbrev pub twoBytes : ℕ → ℕ → ℕ
 twoBytes a b = cond (is "=" b) (withEqual a) (cond (eqb a b) (doubled a) 0)
@@ -23,10 +25,10 @@ twoBytes a b = cond (is "=" b) (withEqual a) (cond (eqb a b) (doubled a) 0)
 -- `~ & ^ | * / %`, `+ - < > !` and `( ) ,`
 abbrev pub oneByte : ℕ → ℕ
 oneByte a =
-    cond (is "~" a) 8 (cond (is "(" a) 9 (cond (is ")" a) 10 (cond (is "," a) 11
-    (cond (is "&" a) 19 (cond (is "^" a) 20 (cond (is "|" a) 21 (cond (is "*" a) 22
-    (cond (is "/" a) 23 (cond (is "%" a) 24 (cond (is "+" a) 25 (cond (is "-" a) 26
-    (cond (is "<" a) 34 (cond (is ">" a) 36 (cond (is "!" a) 40 0))))))))))))))
+    cond (is "~" a) complementOp (cond (is "(" a) opening (cond (is ")" a) closing (cond (is "," a) comma
+    (cond (is "&" a) bitAndOp (cond (is "^" a) bitXorOp (cond (is "|" a) bitOrOp (cond (is "*" a) mulOp
+    (cond (is "/" a) divOp (cond (is "%" a) remOp (cond (is "+" a) addOp (cond (is "-" a) subOp
+    (cond (is "<" a) lessOp (cond (is ">" a) greaterOp (cond (is "!" a) notOp 0))))))))))))))
 
 abbrev pub firstOf : ℕ → ℕ → ℕ
 firstOf zero k = k

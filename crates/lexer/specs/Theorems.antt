@@ -7,6 +7,7 @@ use Prim.Native.Nat.{ℕ, _+_, _≤_, _<_}
 use lib.ListN.{length, getD, take}
 use lib.Seq.{sets}
 use lib.IntN.{natAbs}
+use Rattle.common.specs.Each.{Each}
 use Rattle.number.specs.Real.{inLimits}
 use Rattle.lexer.specs.Byte.{isSpace, isQuote, startsName, startsNumber}
 use Rattle.lexer.specs.Digits.{wholeOf}
@@ -16,10 +17,6 @@ use Rattle.lexer.specs.Ascii.{ascii}
 use Rattle.lexer.specs.Answer.{lexingOf, numberOf, placeOf}
 use Rattle.lexer.specs.declared.Lexing.{Lexing}
 use Rattle.lexer.specs.declared.Lexing.the-variants.{Tokens, Refused}
-
-abbrev pub Each : {A : Type 0} → (A → Type 0) → List A → Type 0
-Each P [] = Unit {0}
-Each P (x ∷ xs) = P x × Each P xs
 
 abbrev pub Some : {A : Type 0} → (A → Type 0) → List A → Type 0
 Some P [] = ⊥

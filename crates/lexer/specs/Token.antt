@@ -6,11 +6,13 @@ use lib.Dec.{eqb, ltb}
 use lib.ListN.{length, getD, drop}
 use lib.IntN.{ℤ}
 use lib.Ieee.{Float, nan}
+use Rattle.common.specs.Choice.{pick}
 use Rattle.octets.specs.Octets.{sameOf}
 use Rattle.lexer.specs.Byte.{isSpace, isQuote, startsName, startsNumber}
 use Rattle.lexer.specs.Run.{runOf, unescaped, hasEscape, legalName, nameFits, bodyOf, isClosed}
 use Rattle.lexer.specs.Integer.{isLong, isInteger, integerOf, integerFits, held}
 use Rattle.lexer.specs.Real.{isReal, realFits, realOf}
+use Rattle.lexer.specs.Kind.{int32Kind, int64Kind, real64Kind, textKind, naming}
 use Rattle.lexer.specs.Symbol.{symbolOf, symbolLength}
 
 -- a name by its bytes without escapes and whether it had one; an integer or a real by its value; a string by its bytes without escapes;
@@ -25,11 +27,11 @@ pub data Token : Type 0 where
 
 -- the kind number of a token: the op of "Table" where there is one
 abbrev pub kindOf : Token → ℕ
-kindOf (name bytes escaped) = 5
-kindOf (int32 z) = 1
-kindOf (int64 z) = 2
-kindOf (real x) = 3
-kindOf (text bytes) = 4
+kindOf (name bytes escaped) = naming
+kindOf (int32 z) = int32Kind
+kindOf (int64 z) = int64Kind
+kindOf (real x) = real64Kind
+kindOf (text bytes) = textKind
 kindOf (symbol k) = k
 
 pub record Placed : Type 0 where
@@ -56,11 +58,6 @@ scanName s =
 
 abbrev pub integerToken : List ℕ → Token
 integerToken run = cond (isLong run) (int64 (integerOf run)) (int32 (integerOf run))
-
--- one of two, of which only the one that is taken is computed
-abbrev pub pick : {A : Type 0} → Bool → (Unit {0} → A) → (Unit {0} → A) → A
-pick true x y = x tt
-pick false x y = y tt
 
 abbrev pub scanInteger : List ℕ → Scan
 scanInteger run = judged (isInteger run) (integerFits run) (integerToken run) (length run)

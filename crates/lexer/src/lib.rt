@@ -38,6 +38,27 @@ use run::run;
 use symbol::symbol;
 use symbol::symbol_length;
 
+// The kinds of tokens by number: the op of "Table" where there is one, which an operator has too.
+pub const INT32: u8 = opcode::INT32;
+
+pub const INT64: u8 = opcode::INT64;
+
+pub const REAL64: u8 = opcode::REAL64;
+
+pub const TEXT: u8 = opcode::TEXT;
+
+pub const NAME: u8 = opcode::NAME;
+
+// `(`, `)` and `,` have numbers that no op has.
+pub const OPEN: u8 = 9;
+
+pub const CLOSE: u8 = 10;
+
+pub const COMMA: u8 = 11;
+
+// What stands past the last token.
+pub const END: u8 = 99;
+
 // What stands first: a token's kind number and how many bytes it takes; or the number by which it is refused.
 enum Scanned {
     Good(u8, usize),
@@ -53,7 +74,7 @@ fn scan_name(s: &[u8]) -> Scanned
     }
     let n = m.plain;
     if (1 <= n) & (n <= 64) {
-        return Scanned::Good(5, m.bytes);
+        return Scanned::Good(NAME, m.bytes);
     }
     Scanned::Bad(3)
 }
@@ -72,9 +93,9 @@ fn scan_integer(bytes: &[u8], whole: Numeral) -> Scanned
         return Scanned::Bad(3);
     }
     if long {
-        return Scanned::Good(2, bytes.len());
+        return Scanned::Good(INT64, bytes.len());
     }
-    Scanned::Good(1, bytes.len())
+    Scanned::Good(INT32, bytes.len())
 }
 
 // The digits of a number are read once, but those of an octal or hex integer, which are read as decimal ones too.
@@ -88,7 +109,7 @@ fn scan_number(s: &[u8]) -> Scanned
         return scan_integer(bytes, whole);
     }
     if real_fits(bytes, whole.end, all) {
-        return Scanned::Good(3, bytes.len());
+        return Scanned::Good(REAL64, bytes.len());
     }
     Scanned::Bad(3)
 }
@@ -102,7 +123,7 @@ fn scan_string(s: &[u8]) -> Scanned
     if after.len() == 0 {
         return Scanned::Bad(1);
     }
-    Scanned::Good(4, n + 2)
+    Scanned::Good(TEXT, n + 2)
 }
 
 fn scan_symbol(s: &[u8]) -> Scanned

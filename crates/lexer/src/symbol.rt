@@ -7,7 +7,7 @@ fn three_bytes(a: u8, b: u8, c: u8) -> u8
     ensures { λ r. ⌜ r ≡ threeBytes a b c ⌝ }
 {
     if (a == b'>') & (b == b'>') & (c == b'>') {
-        18
+        opcode::SHIFT_RIGHT_ZERO
     } else {
         0
     }
@@ -18,10 +18,10 @@ fn with_equal(a: u8) -> u8
     ensures { λ r. ⌜ r ≡ withEqual a ⌝ }
 {
     match a {
-        b'=' => 32,
-        b'!' => 33,
-        b'<' => 35,
-        b'>' => 37,
+        b'=' => opcode::EQUAL,
+        b'!' => opcode::NOT_EQUAL,
+        b'<' => opcode::LESS_EQUAL,
+        b'>' => opcode::GREATER_EQUAL,
         _ => 0,
     }
 }
@@ -31,11 +31,11 @@ fn doubled(a: u8) -> u8
     ensures { λ r. ⌜ r ≡ doubledOf a ⌝ }
 {
     match a {
-        b'<' => 16,
-        b'>' => 17,
-        b'&' => 41,
-        b'^' => 42,
-        b'|' => 43,
+        b'<' => opcode::SHIFT_LEFT,
+        b'>' => opcode::SHIFT_RIGHT,
+        b'&' => opcode::AND,
+        b'^' => opcode::XOR,
+        b'|' => opcode::OR,
         _ => 0,
     }
 }
@@ -56,21 +56,21 @@ fn one_byte(a: u8) -> u8
     ensures { λ r. ⌜ r ≡ oneByte a ⌝ }
 {
     match a {
-        b'~' => 8,
-        b'(' => 9,
-        b')' => 10,
-        b',' => 11,
-        b'&' => 19,
-        b'^' => 20,
-        b'|' => 21,
-        b'*' => 22,
-        b'/' => 23,
-        b'%' => 24,
-        b'+' => 25,
-        b'-' => 26,
-        b'<' => 34,
-        b'>' => 36,
-        b'!' => 40,
+        b'~' => opcode::COMPLEMENT,
+        b'(' => crate::OPEN,
+        b')' => crate::CLOSE,
+        b',' => crate::COMMA,
+        b'&' => opcode::BIT_AND,
+        b'^' => opcode::BIT_XOR,
+        b'|' => opcode::BIT_OR,
+        b'*' => opcode::MUL,
+        b'/' => opcode::DIV,
+        b'%' => opcode::REM,
+        b'+' => opcode::ADD,
+        b'-' => opcode::SUB,
+        b'<' => opcode::LESS,
+        b'>' => opcode::GREATER,
+        b'!' => opcode::NOT,
         _ => 0,
     }
 }

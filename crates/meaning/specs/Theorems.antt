@@ -3,6 +3,7 @@ use mathlib.Core.Path.{_≡_}
 use mathlib.Core.List.{List, [], _∷_}
 use mathlib.Core.Option.{some}
 use Prim.Native.Nat.{ℕ}
+use Rattle.common.specs.Each.{Each}
 use Rattle.truth.specs.declared.Truth.{Truth}
 use Rattle.truth.specs.declared.Truth.the-variants.{False, Bottom, True}
 use Rattle.lexer.specs.Ascii.{ascii}
@@ -34,10 +35,6 @@ cases =
     ∷ record { text = ascii "-1 >>> 28 == 15"; notice = empty; verdict = True }
     ∷ record { text = ascii "1 / 0 == 0 || 1 == 1"; notice = empty; verdict = True }
     ∷ []
-
-abbrev pub Each : {A : Type 0} → (A → Type 0) → List A → Type 0
-Each P [] = Unit {0}
-Each P (x ∷ xs) = P x × Each P xs
 
 -- Every P case's text means its verdict on its notice.
 abbrev pub PCases : Type 0

@@ -8,13 +8,14 @@ use native.Mathlib.Omega.{arith}
 use lib.Dec.{eqb}
 use lib.ListN.{length, drop, length-append}
 use borrow.Author.Tests.{eqb-false}
+use Rattle.common.specs.Choice.{pick}
 use Rattle.word.specs.Word.{Bytes}
 use Rattle.octets.specs.Octets.{beforeOf}
 use Rattle.octets.proofs.Theorems.{and-parts}
 use Rattle.notice.specs.declared.Layout.the-variants.{WellFormed, Fault}
 use Rattle.notice.specs.Field.{Field, fieldRight, allRight, beforeFirst, rising}
 use Rattle.notice.specs.Render.{fieldBytes, fieldsBytes}
-use Rattle.notice.specs.Layout.{pick, nextAt, nameAt, fieldAt, liesAt, rightAt, standsAt, checkFrom, placeOf}
+use Rattle.notice.specs.Layout.{nextAt, nameAt, fieldAt, liesAt, rightAt, standsAt, checkFrom, placeOf}
 use Rattle.notice.specs.Theorems.{lastName}
 use Rattle.notice.proofs.Places.{right-lies, length-name, length-value}
 use Rattle.notice.proofs.Fields.{field-written, length-field}

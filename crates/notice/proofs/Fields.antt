@@ -9,10 +9,11 @@ use lib.Dec.{leb, eqb}
 use lib.ListN.{length, getD, take, drop, length-append, take-append-drop}
 use lib.Seq.{getD-at, drop-at, drop-drop, drop-cons, take-append-seam}
 use borrow.Author.Tests.{leb-true, eqb-true}
+use Rattle.common.proofs.Choice.{true-false}
 use Rattle.word.specs.Word.{wordAt, wordBytes, Bytes}
-use Rattle.word.proofs.Laws.{length-leBytes}
+use Rattle.word.proofs.Laws.{length-wordBytes}
 use Rattle.word.proofs.Theorems.{bytes-read, read-bytes}
-use Rattle.octets.proofs.Theorems.{and-parts, or-parts, true-false}
+use Rattle.octets.proofs.Theorems.{and-parts, or-parts}
 use Rattle.notice.specs.Field.{Field, printable, nameRight, sizeRight, fieldRight}
 use Rattle.notice.specs.Render.{fieldBytes}
 use Rattle.notice.specs.Layout.{sizeAt, kindAt, nameSizeAt, valueSizeAt, valueStart, nextAt, nameAt, valueAt, fieldAt, liesAt}
@@ -61,7 +62,7 @@ right-small f e =
     }
 
 pub length-field : (f : Field) → length (fieldBytes f) ≡ 5 + length (f .name) + length (f .value)
-length-field f = simp (length-append, length-leBytes) (omega arith)
+length-field f = simp (length-append, length-wordBytes) (omega arith)
 
 -- a field between others
 module _ (p q : List ℕ) (f : Field) (small : Small f) where
@@ -100,17 +101,17 @@ module _ (p q : List ℕ) (f : Field) (small : Small f) where
   pub kind-read : kindAt whole (length p) ≡ f .kind
   kind-read =
       let b : f .kind < 256 ^ 2 = omega (arith, small .kind-fits) in
-      let a : length (p ++ wordBytes 2 size) ≡ length p + 2 = simp (length-append, length-leBytes) in
+      let a : length (p ++ wordBytes 2 size) ≡ length p + 2 = simp (length-append, length-wordBytes) in
       ap₂ (λ (s : List ℕ) (n : ℕ). wordAt 2 s n) from-kind (sym a) ∙ bytes-read 2 (f .kind) (p ++ wordBytes 2 size) _ b
 
   pub name-size-read : nameSizeAt whole (length p) ≡ length (f .name)
   name-size-read =
-      let a : length (p ++ (wordBytes 2 size ++ wordBytes 2 (f .kind))) ≡ length p + 4 = simp (length-append, length-leBytes) in
+      let a : length (p ++ (wordBytes 2 size ++ wordBytes 2 (f .kind))) ≡ length p + 4 = simp (length-append, length-wordBytes) in
       ap (λ (s : List ℕ). getD s (length p + 4) 0) from-name-size ∙ getD-at (p ++ (wordBytes 2 size ++ wordBytes 2 (f .kind))) _ _ 0 (length p + 4) a
 
   pub name-read : nameAt whole (length p) ≡ f .name
   name-read =
-      let a : length to-name ≡ length p + 5 = simp (length-append, length-leBytes) in
+      let a : length to-name ≡ length p + 5 = simp (length-append, length-wordBytes) in
       let d : drop (length p + 5) whole ≡ f .name ++ (f .value ++ q) = ap (drop (length p + 5)) from-name ∙ drop-at to-name (f .name ++ (f .value ++ q)) (length p + 5) a in
       ap₂ (λ (n : ℕ) (s : List ℕ). take n s) name-size-read d ∙ take-append-seam (f .name) (f .value ++ q)
 
@@ -120,7 +121,7 @@ module _ (p q : List ℕ) (f : Field) (small : Small f) where
   pub value-read : valueAt whole (length p) ≡ f .value
   value-read =
       let n : valueStart whole (length p) ≡ length p + 5 + length (f .name) = omega (arith, name-size-read) in
-      let a : length to-value ≡ length p + 5 + length (f .name) = simp (length-append, length-leBytes) (omega arith) in
+      let a : length to-value ≡ length p + 5 + length (f .name) = simp (length-append, length-wordBytes) (omega arith) in
       let d : drop (length p + 5 + length (f .name)) whole ≡ f .value ++ q = ap (drop (length p + 5 + length (f .name))) from-value ∙ drop-at to-value (f .value ++ q) (length p + 5 + length (f .name)) a in
       ap₂ (λ (m : ℕ) (s : List ℕ). take m s) value-size-read (ap (λ (k : ℕ). drop k whole) n ∙ d) ∙ take-append-seam (f .value) q
 

@@ -8,22 +8,23 @@ use lib.Dec.{leb, ltb}
 use lib.ListN.{length, take, drop, length-append, length-drop, take-append-drop}
 use lib.Seq.{sets, length-take-le, drop-drop, drop-at, take-at}
 use borrow.Author.Tests.{not-true, leb-true, ltb-true}
+use Rattle.common.specs.Choice.{pick}
+use Rattle.common.proofs.Stores.{sets-between}
 use Rattle.word.specs.Word.{wordBytes, Bytes}
-use Rattle.word.proofs.Laws.{length-leBytes}
+use Rattle.word.proofs.Laws.{length-wordBytes}
 use Rattle.octets.specs.Octets.{sameOf, beforeOf}
 use Rattle.octets.proofs.Theorems.{and-parts}
 use Rattle.notice.specs.declared.Found.{Found}
 use Rattle.notice.specs.declared.Found.the-variants.{At, Nothing}
 use Rattle.notice.specs.Field.{Field, nameRight, sizeRight, fieldRight, allRight}
 use Rattle.notice.specs.Render.{fieldBytes, fieldsBytes, headerBytes, render}
-use Rattle.notice.specs.Layout.{pick, unless, nameAt, kindAt, valueStart, valueSizeAt, fieldAt, countOf, startsFrom, startsOf, fieldsOf}
+use Rattle.notice.specs.Layout.{unless, nameAt, kindAt, valueStart, valueSizeAt, fieldAt, countOf, startsFrom, startsOf, fieldsOf}
 use Rattle.notice.specs.Lookup.{lookupIn, lookupOf}
 use Rattle.notice.specs.Write.{fieldSize, hasName, insertField, placeIn, placeFor, hasRoom, refusalIn, Insertable, insertedBytes}
 use Rattle.notice.proofs.Keys.{bytes-take}
 use Rattle.notice.proofs.Walks.{starts-end, starts-more}
 use Rattle.notice.proofs.Fields.{Small, right-small, length-field, field-read, next-read, lies-read}
 use Rattle.notice.proofs.Renders.{length-header, length-render, well-header, well-starts, well-count, well-render, well-fields}
-use Rattle.notice.proofs.Stores.{sets-between}
 
 -- lookup finds a name exactly if a field has it
 abbrev isFound : Found → Bool
@@ -258,7 +259,7 @@ module _ (b : List ℕ) (bytes : Bytes b) (len : ℕ) (f : Field) (ins : Inserta
       let c′ = wordBytes 2 (countOf s + 1) in
       let rest = p ++ (fieldBytes f ++ (q ++ t)) in
       ap (λ (x : List ℕ). sets (sets x 0 a′) 6 c′) two
-      ∙ (new-header a a′ k c c′ rest (length-leBytes 4 _) (length-leBytes 4 _) (length-leBytes 2 1) (length-leBytes 2 _) (length-leBytes 2 _)
+      ∙ (new-header a a′ k c c′ rest (length-wordBytes 4 _) (length-wordBytes 4 _) (length-wordBytes 2 1) (length-wordBytes 2 _) (length-wordBytes 2 _)
       ∙ (ap₂ (λ (x y : List ℕ). (x ++ (k ++ y)) ++ rest) (ap (wordBytes 4) n4) (ap (wordBytes 2) n2)
       ∙ (ap (λ (x : List ℕ). headerBytes (length (fieldsBytes (insertField f fs))) (length (insertField f fs)) ++ x) (simp append-assoc refl ∙ ap (λ (x : List ℕ). x ++ t) (sym new))
       ∙ sym (append-assoc (headerBytes (length (fieldsBytes (insertField f fs))) (length (insertField f fs))) (fieldsBytes (insertField f fs)) t))))

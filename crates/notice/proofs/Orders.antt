@@ -7,8 +7,9 @@ use Prim.Native.Nat.{ℕ, suc, _+_}
 use native.Mathlib.Omega.{arith}
 use lib.ListN.{length, length-append}
 use borrow.Author.Tests.{not-true}
+use Rattle.common.proofs.Choice.{true-false}
 use Rattle.octets.specs.Octets.{sameOf, beforeOf}
-use Rattle.octets.proofs.Theorems.{and-parts, true-false, same, before-irreflexive, before-transitive, before-total}
+use Rattle.octets.proofs.Theorems.{and-parts, same, before-irreflexive, before-transitive, before-total}
 use Rattle.notice.specs.Field.{Field, fieldRight, allRight, beforeFirst, rising}
 use Rattle.notice.specs.Render.{fieldBytes, fieldsBytes}
 use Rattle.notice.specs.Write.{fieldSize, hasName, insertField}

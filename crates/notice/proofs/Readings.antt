@@ -9,12 +9,13 @@ use lib.Dec.{ltb}
 use lib.ListN.{length, getD, take, drop, length-drop, length-map}
 use lib.Seq.{drop-cons}
 use borrow.Author.Tests.{le-leb, lt-leb, lt-ltb, le-ltb, ltb-true, ltb-false}
+use Rattle.common.specs.Choice.{pick}
 use Rattle.word.specs.Word.{Bytes}
 use Rattle.notice.specs.declared.Layout.{Layout}
 use Rattle.notice.specs.declared.Layout.the-variants.{WellFormed, Fault}
 use Rattle.notice.specs.declared.Place.{Place}
 use Rattle.notice.specs.Field.{Field}
-use Rattle.notice.specs.Layout.{pick, kindAt, nameSizeAt, valueSizeAt, nextAt, valueStart, fieldAt, liesAt, lengthRight, countOf, checkOf, startsFrom, startsOf}
+use Rattle.notice.specs.Layout.{kindAt, nameSizeAt, valueSizeAt, nextAt, valueStart, fieldAt, liesAt, lengthRight, countOf, checkOf, startsFrom, startsOf}
 use Rattle.notice.specs.Read.{partOf, readNumber, readPlace, blank, readField, locateAt, nowhere, locateOf, Located}
 use Rattle.notice.proofs.Places.{Lies, lies-true}
 use Rattle.notice.proofs.Walks.{starts-end, starts-more, starts-stop}

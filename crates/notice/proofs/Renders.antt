@@ -7,8 +7,9 @@ use native.Mathlib.Omega.{arith}
 use lib.Dec.{leb, eqb}
 use lib.ListN.{length, drop, length-append, length-drop, drop-of-length-le}
 use borrow.Author.Tests.{le-leb, eq-eqb, leb-true, eqb-true}
+use Rattle.common.specs.Choice.{pick}
 use Rattle.word.specs.Word.{wordAt, wordBytes, Bytes}
-use Rattle.word.proofs.Laws.{length-leBytes}
+use Rattle.word.proofs.Laws.{length-wordBytes}
 use Rattle.word.proofs.Theorems.{bytes-read, read-bytes}
 use Rattle.octets.specs.Octets.{beforeOf}
 use Rattle.octets.proofs.Theorems.{and-parts}
@@ -16,7 +17,7 @@ use Rattle.notice.specs.declared.Layout.{Layout}
 use Rattle.notice.specs.declared.Layout.the-variants.{WellFormed, Fault}
 use Rattle.notice.specs.Field.{Field, fieldRight, allRight, beforeFirst, rising}
 use Rattle.notice.specs.Render.{fieldBytes, fieldsBytes, headerBytes, render, NoticeFields}
-use Rattle.notice.specs.Layout.{pick, nextAt, nameAt, fieldAt, liesAt, rightAt, standsAt, lengthRight, countOf, headerRight, checkFrom, checkOf, startsFrom, startsOf, fieldsOf}
+use Rattle.notice.specs.Layout.{nextAt, nameAt, fieldAt, liesAt, rightAt, standsAt, lengthRight, countOf, headerRight, checkFrom, checkOf, startsFrom, startsOf, fieldsOf}
 use Rattle.notice.proofs.Places.{right-lies}
 use Rattle.notice.proofs.Walks.{starts-end, starts-more}
 use Rattle.notice.proofs.Checks.{more-suc}
@@ -124,7 +125,7 @@ fields-pass (f ∷ fs) p last r b u =
 -- the header before some bytes
 module _ (size count : ℕ) (body : List ℕ) where
   pub length-header : length (headerBytes size count) ≡ 8
-  length-header = simp (length-append, length-leBytes)
+  length-header = simp (length-append, length-wordBytes)
 
   pub length-whole : length (headerBytes size count ++ body) ≡ 8 + length body
   length-whole = length-append (headerBytes size count) body ∙ ap (λ (n : ℕ). n + length body) length-header
@@ -137,14 +138,14 @@ module _ (size count : ℕ) (body : List ℕ) where
   pub kind-read : wordAt 2 (headerBytes size count ++ body) 4 ≡ 1
   kind-read =
       let e : headerBytes size count ++ body ≡ wordBytes 4 (4 + size) ++ (wordBytes 2 1 ++ (wordBytes 2 count ++ body)) = simp append-assoc in
-      let n : 4 ≡ length (wordBytes 4 (4 + size)) = sym (length-leBytes 4 (4 + size)) in
+      let n : 4 ≡ length (wordBytes 4 (4 + size)) = sym (length-wordBytes 4 (4 + size)) in
       let b : 1 < 256 ^ 2 = omega arith in
       ap₂ (λ (s : List ℕ) (i : ℕ). wordAt 2 s i) e n ∙ bytes-read 2 1 (wordBytes 4 (4 + size)) (wordBytes 2 count ++ body) b
 
   pub count-read : count < 256 ^ 2 → countOf (headerBytes size count ++ body) ≡ count
   count-read h =
       let e : headerBytes size count ++ body ≡ (wordBytes 4 (4 + size) ++ wordBytes 2 1) ++ (wordBytes 2 count ++ body) = simp append-assoc in
-      let n : 6 ≡ length (wordBytes 4 (4 + size) ++ wordBytes 2 1) = sym (length-append (wordBytes 4 (4 + size)) (wordBytes 2 1) ∙ ap₂ (λ (a b : ℕ). a + b) (length-leBytes 4 (4 + size)) (length-leBytes 2 1)) in
+      let n : 6 ≡ length (wordBytes 4 (4 + size) ++ wordBytes 2 1) = sym (length-append (wordBytes 4 (4 + size)) (wordBytes 2 1) ∙ ap₂ (λ (a b : ℕ). a + b) (length-wordBytes 4 (4 + size)) (length-wordBytes 2 1)) in
       ap₂ (λ (s : List ℕ) (i : ℕ). wordAt 2 s i) e n ∙ bytes-read 2 count (wordBytes 4 (4 + size) ++ wordBytes 2 1) body h
 
 pub length-render : (fs : List Field) → length (render fs) ≡ 8 + length (fieldsBytes fs)

@@ -10,15 +10,17 @@ use lib.Dec.{leb, ltb}
 use lib.ListN.{length, getD, take, drop, take-append-drop}
 use lib.Seq.{take-at, length-take-le}
 use borrow.Author.Tests.{leb-true, lt-ltb}
+use Rattle.common.specs.Choice.{pick}
+use Rattle.common.proofs.Choice.{true-false}
 use Rattle.word.specs.Word.{wordBytes, Bytes}
 use Rattle.octets.specs.Octets.{sameOf, beforeOf}
-use Rattle.octets.proofs.Theorems.{and-parts, true-false, same, before-transitive}
+use Rattle.octets.proofs.Theorems.{and-parts, same, before-transitive}
 use Rattle.notice.specs.declared.Layout.{Layout}
 use Rattle.notice.specs.declared.Layout.the-variants as layouts
 use Rattle.notice.specs.declared.Written.{Written}
 use Rattle.notice.specs.Field.{Field, allRight, beforeFirst, rising}
 use Rattle.notice.specs.Render.{fieldsBytes, render, NoticeFields}
-use Rattle.notice.specs.Layout.{pick, nextAt, nameAt, fieldAt, liesAt, countOf, checkOf, startsFrom, fieldsOf, headerRight, standsAt, checkFrom, placeOf}
+use Rattle.notice.specs.Layout.{nextAt, nameAt, fieldAt, liesAt, countOf, checkOf, startsFrom, fieldsOf, headerRight, standsAt, checkFrom, placeOf}
 use Rattle.notice.specs.Lookup.{fieldNamed, lookupIn, FoundIs}
 use Rattle.notice.specs.Read.{readNumber, blank, readField}
 use Rattle.notice.specs.Write.{fieldSize, insertField, refusalBy, refusalOf, writtenOf, writtenBytes, Writes, Insertable}
@@ -98,7 +100,7 @@ lookup s name = go (leb 8 (length s) && leb (length s) 16384)
 
 -- the field of a name
 some-none : {A : Type 0} {f : Field} → some f ≡ none → A
-some-none e = let z : _≡_ {A = ℕ} 0 1 = cc in absurd (omega arith)
+some-none e = true-false (cc)
 
 pub named-field : NamedField
 named-field name [] f e = some-none (sym e)

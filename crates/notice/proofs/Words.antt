@@ -9,12 +9,8 @@ use lib.Dec.{leb, eqb, lit<}
 use borrow.Author.Tests.{le-leb, leb-true, eqb-true, eq-eqb}
 use Rattle.word.specs.Word.{wordBytes}
 use Rattle.octets.proofs.Theorems.{and-parts}
+use Rattle.octets.proofs.Folds.{each}
 use Rattle.notice.specs.Field.{printable}
-
--- the word of k bytes c
-abbrev each : ℕ → ℕ → ℕ
-each c zero = 0
-each c (suc k) = each c k * 256 + c
 
 high-bit : (b : ℕ) → b < 256 → bitAnd b 128 ≡ b / 128 * 128
 high-bit b h = let q : b / 128 < 2 = omega arith in and-high b 1 7 ∙ ap (λ (n : ℕ). n * 128) (mod-eq-of-lt q)

@@ -5,16 +5,12 @@ use mathlib.Core.Bool.{Bool, true, false, cond, _&&_}
 use mathlib.Core.List.{List, [], _∷_, map}
 use lib.Dec.{eqb, leb}
 use lib.ListN.{length, getD, take, drop}
+use Rattle.common.specs.Choice.{pick}
 use Rattle.word.specs.Word.{wordAt}
 use Rattle.octets.specs.Octets.{beforeOf}
 use Rattle.notice.specs.Field.{Field, fieldRight}
 use Rattle.notice.specs.declared.Layout.{Layout}
 use Rattle.notice.specs.declared.Layout.the-variants.{WellFormed, Fault}
-
--- one of two, of which only that one is worked out
-abbrev pub pick : {A : Type 0} → Bool → (Unit {0} → A) → (Unit {0} → A) → A
-pick true x y = x tt
-pick false x y = y tt
 
 -- a refusal's number unless a test holds, and then the next one's
 abbrev pub unless : Bool → ℕ → ℕ → ℕ

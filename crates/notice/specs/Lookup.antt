@@ -4,9 +4,10 @@ use mathlib.Core.Path.{_≡_}
 use mathlib.Core.List.{List, [], _∷_}
 use mathlib.Core.Option.{Option, some, none}
 use lib.ListN.{length, take, drop}
+use Rattle.common.specs.Choice.{pick}
 use Rattle.octets.specs.Octets.{sameOf}
 use Rattle.notice.specs.Field.{Field}
-use Rattle.notice.specs.Layout.{pick, kindAt, valueStart, valueSizeAt, nameAt, startsOf}
+use Rattle.notice.specs.Layout.{kindAt, valueStart, valueSizeAt, nameAt, startsOf}
 use Rattle.notice.specs.declared.Found.{Found}
 use Rattle.notice.specs.declared.Found.the-variants.{At, Nothing}
 

@@ -5,8 +5,9 @@ use mathlib.Core.Bool.{_&&_}
 use mathlib.Core.List.{List, []}
 use lib.Dec.{eqb, leb, ltb}
 use lib.ListN.{length, getD, take, drop}
+use Rattle.common.specs.Choice.{pick}
 use Rattle.notice.specs.Field.{Field}
-use Rattle.notice.specs.Layout.{pick, unless, kindAt, valueStart, nextAt, countOf, checkOf, numberOf, placeOf, startsOf, fieldsOf}
+use Rattle.notice.specs.Layout.{unless, kindAt, valueStart, nextAt, countOf, checkOf, numberOf, placeOf, startsOf, fieldsOf}
 use Rattle.notice.specs.declared.Layout.{Layout}
 use Rattle.notice.specs.declared.Layout.the-variants.{WellFormed, Fault}
 use Rattle.notice.specs.declared.Place.{Place}

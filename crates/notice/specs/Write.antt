@@ -5,10 +5,11 @@ use mathlib.Core.Bool.{Bool, false, cond, not, _&&_, _||_}
 use mathlib.Core.List.{List, [], _∷_, _++_}
 use lib.Dec.{eqb, leb, ltb}
 use lib.ListN.{length, take, drop}
+use Rattle.common.specs.Choice.{pick}
 use Rattle.octets.specs.Octets.{sameOf, beforeOf}
 use Rattle.notice.specs.Field.{Field, nameRight, sizeRight}
 use Rattle.notice.specs.Render.{render}
-use Rattle.notice.specs.Layout.{pick, unless, nameAt, countOf, checkOf, numberOf, placeOf, startsOf, fieldsOf}
+use Rattle.notice.specs.Layout.{unless, nameAt, countOf, checkOf, numberOf, placeOf, startsOf, fieldsOf}
 use Rattle.notice.specs.declared.Layout.{Layout}
 use Rattle.notice.specs.declared.Layout.the-variants.{WellFormed, Fault}
 use Rattle.notice.specs.declared.Written.{Written}

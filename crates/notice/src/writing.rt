@@ -1,7 +1,7 @@
 // Writing: one field more, at its name's place, in a lent buffer.
 ghost use mathlib.Core.Path.{_≡_};
-ghost use Prim.Native.Nat.{_+_, _-_, _≤_};
-ghost use lib.ListN.{length, take, drop};
+ghost use Prim.Native.Nat.{_+_, _≤_};
+ghost use lib.ListN.{length};
 ghost use lib.Seq.{sets};
 ghost use Rattle.notice.specs.Render.{fieldBytes};
 ghost use Rattle.notice.specs.Write.{field, placeFor, hasRoom, refusalIn, Insertable, insertedBytes, WriteIs};
@@ -39,30 +39,6 @@ fn place_for(notice: &[u8], name: &[u8]) -> usize
     notice.len()
 }
 
-// Moves the bytes from `at` to `end` up by `by`.
-fn move_up(buffer: &mut [u8], at: usize, end: usize, by: usize)
-    requires { ⌜ (at ≤ end) × (end + by ≤ length (now buffer)) ⌝ }
-    ensures { λ _. ⌜ now (buffer .exit) ≡ sets (now (buffer .entry)) (at + by) (take (end - at) (drop at (now (buffer .entry)))) ⌝ }
-{
-    let mut i = end;
-    while at < i {
-        i -= 1;
-        buffer[i + by] = buffer[i];
-    }
-}
-
-// Copies a slice to `at`.
-fn copy_to(buffer: &mut [u8], at: usize, s: &[u8])
-    requires { ⌜ at + length (now s) ≤ length (now buffer) ⌝ }
-    ensures { λ _. ⌜ now (buffer .exit) ≡ sets (now (buffer .entry)) at (now (s .entry)) ⌝ }
-{
-    let mut i = 0;
-    while i < s.len() {
-        buffer[at + i] = s[i];
-        i += 1;
-    }
-}
-
 // Stores a field's bytes from `at` on. The callers have judged its parts and the room.
 fn put_field(buffer: &mut [u8], at: usize, name: &[u8], kind: u16, value: &[u8])
     requires { ⌜ (length (now name) ≤ 64) × (length (now value) ≤ 1024) × (at + 5 + length (now name) + length (now value) ≤ length (now buffer)) ⌝ }
@@ -71,8 +47,8 @@ fn put_field(buffer: &mut [u8], at: usize, name: &[u8], kind: u16, value: &[u8])
     word::write_u16(buffer, at, (3 + name.len() + value.len()) as u16);
     word::write_u16(buffer, at + 2, kind);
     buffer[at + 4] = name.len() as u8;
-    copy_to(buffer, at + 5, name);
-    copy_to(buffer, at + 5 + name.len(), value);
+    common::copy_to(buffer, at + 5, name);
+    common::copy_to(buffer, at + 5 + name.len(), value);
 }
 
 fn has_room(count: u16, size: usize, room: usize) -> bool
@@ -122,7 +98,7 @@ fn insert(buffer: &mut [u8], len: usize, name: &[u8], kind: u16, value: &[u8])
     let size = 5 + name.len() + value.len();
     let at = place_for(&buffer[0..len], name);
     let count = word::read_u16(&buffer[0..len], 6);
-    move_up(buffer, at, len, size);
+    common::move_up(buffer, at, len, size);
     put_field(buffer, at, name, kind, value);
     word::write_u32(buffer, 0, (len + size - 4) as u32);
     word::write_u16(buffer, 6, count + 1);

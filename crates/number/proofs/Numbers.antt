@@ -11,6 +11,7 @@ use mir.Syntax.{Width, w32, w64}
 use mir.Val.{bits, hbits, SFits, toZ, ofZ}
 use mir.ValLaws.{toZ-ofZ, pow-bits}
 use borrow.Author.Tests.{eq-eqb, ne-eqb, eqb-true, eqb-false, lt-ltb, le-ltb, ltb-true}
+use Rattle.common.proofs.Choice.{true-false}
 use Rattle.truth.specs.Truth.{ofBool}
 use Rattle.number.specs.Integer.{exactOf, equalZ, isNegative}
 use Rattle.number.specs.Bits.{onBits, shifted}
@@ -24,7 +25,6 @@ use Rattle.number.specs.declared.Sides.the-variants.{Integers, Reals, Ne
 use Rattle.opcode.specs.declared.Arithmetic.{Arithmetic}
 use Rattle.opcode.specs.declared.Bitwise.{Bitwise}
 use Rattle.opcode.specs.declared.Shift.{Shift}
-use Rattle.number.proofs.Ints.{never}
 use Rattle.number.proofs.Sums.{R}
 
 -- tests joined, by what the two calls answer
@@ -37,14 +37,14 @@ and-left false y e = e
 
 and-right : (x y : Bool) → (x && y) ≡ true → y ≡ true
 and-right true y e = e
-and-right false y e = never (sym e)
+and-right false y e = true-false (sym e)
 
 -- an int32 is an integer of the same value
 int32-integer : (a : Number) → isInt32 a ≡ true → (isInteger a ≡ true) × (int32Of a ≡ integerOf a)
 int32-integer (Int32 z) e = (refl, refl)
-int32-integer (Int64 z) e = never (sym e)
-int32-integer (Real x) e = never (sym e)
-int32-integer None e = never (sym e)
+int32-integer (Int64 z) e = true-false (sym e)
+int32-integer (Real x) e = true-false (sym e)
+int32-integer None e = true-false (sym e)
 
 -- 0 by its bits, over the width, and in f64
 pub zero-bits : (w : Width) (z : ℤ) → SFits w z → eqb (ofZ w z) 0 ≡ eqb (natAbs z) 0
@@ -94,8 +94,8 @@ module _ (op : Arithmetic) (a b : Number) where
         go : (b : Number) → isInteger b ≡ true → isZero b ≡ false → 0 < natAbs (integerOf b)
         go (Int32 y) i e = above (natAbs y) e
         go (Int64 y) i e = above (natAbs y) e
-        go (Real y) i e = never (sym i)
-        go None i e = never (sym i)
+        go (Real y) i e = true-false (sym i)
+        go None i e = true-false (sym i)
 
 -- two reals
 module _ (op : Arithmetic) (a b : Number) where
@@ -149,7 +149,7 @@ module _ (width : ℕ) (b : Number) where
       no false = refl
 
   negative-outside : (z : ℤ) → isNegative z ≡ true → placesIn width z ≡ false
-  negative-outside (pos n) e = never (sym e)
+  negative-outside (pos n) e = true-false (sym e)
   negative-outside (negsuc n) e = refl
 
   far-outside : (z : ℤ) → isNegative z ≡ false → width ≤ natAbs z → placesIn width z ≡ false
@@ -158,7 +158,7 @@ module _ (width : ℕ) (b : Number) where
 
   inside : (z : ℤ) → isNegative z ≡ false → natAbs z < width → placesIn width z ≡ true
   inside (pos n) e h = lt-ltb n width h
-  inside (negsuc n) e h = never e
+  inside (negsuc n) e h = true-false e
 
   -- z is what the machine reads of b
   module _ (p n : Bool) (z : ℤ) (f : mag z < 2 ^ 63) (ep : p ≡ isInteger b) (ez : z ≡ integerOf b) (en : n ≡ isNegative (R z)) where
@@ -175,7 +175,7 @@ module _ (width : ℕ) (b : Number) where
     module _ (t : (not p || n) ≡ false) (k : ℕ) (ek : k ≡ natAbs (R z)) where
       told : (p n : Bool) → (not p || n) ≡ false → (p ≡ true) × (n ≡ false)
       told true n t = (refl, t)
-      told false n t = never t
+      told false n t = true-false t
 
       size-is : k ≡ natAbs (integerOf b)
       size-is = rw (toZ-ofZ w64 z (record { sfits = f }), ez) at ek
@@ -195,7 +195,7 @@ module _ (width : ℕ) (b : Number) where
     where
       small : (z : ℤ) → placesIn width z ≡ true → natAbs z < width
       small (pos n) t = ltb-true n width t
-      small (negsuc n) t = never (sym t)
+      small (negsuc n) t = true-false (sym t)
 
       go : (t : Bool) → (isInteger b && placesIn width (integerOf b)) ≡ t → k < width
       go true t =

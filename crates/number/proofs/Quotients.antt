@@ -12,11 +12,12 @@ use mir.Syntax.{Width, w32, w64}
 use mir.Val.{bits, hbits, SFits, toZ, ofZ}
 use mir.ValLaws.{pow-bits, toZ-ofZ, sfits-le}
 use borrow.Author.Tests.{lt-ltb, le-ltb, ltb-true, eq-eqb, ne-eqb, eqb-true, eqb-false, not-true, not-false}
+use Rattle.common.proofs.Choice.{true-false}
 use Rattle.number.specs.Integer.{fitsIn, leaves}
 use mir.Facts.{sfits-widen}
 use Rattle.number.specs.Number.{typed}
 use Rattle.number.specs.declared.Number.the-variants.{Int64, None}
-use Rattle.number.proofs.Ints.{never, and-no}
+use Rattle.number.proofs.Ints.{and-no}
 use Rattle.number.proofs.Sums.{R, fits-is}
 
 mag-negative : (r : ℕ) {k : ℕ} → r ≤ k → 0 < k → mag (negℤ (pos r)) < k
@@ -76,8 +77,8 @@ module _ (w : Width) where
 
   -- the least number by -1
   pub when-leaves : (a b : ℤ) → SFits w a → leaves w a b ≡ true → (quotZ a b ≡ pos Half) × (remZ a b ≡ pos 0)
-  when-leaves (pos m) b f e = never (sym (from-positive m b (f .sfits)) ∙ not-true _ e)
-  when-leaves (negsuc m) (pos n) f e = never (sym (by-positive m n (f .sfits)) ∙ not-true _ e)
+  when-leaves (pos m) b f e = true-false (sym (from-positive m b (f .sfits)) ∙ not-true _ e)
+  when-leaves (negsuc m) (pos n) f e = true-false (sym (by-positive m n (f .sfits)) ∙ not-true _ e)
   when-leaves (negsuc m) (negsuc n) f e = go (eqb (suc m) Half) (eqb n 0) refl refl
     where
       out : not (eqb (suc m) Half && eqb n 0) ≡ false
@@ -88,8 +89,8 @@ module _ (w : Width) where
           let x : suc m ≡ Half = eqb-true (suc m) Half p in let y : n ≡ 0 = eqb-true n 0 q in
           let d : suc m / 1 ≡ Half = omega arith in let r : suc m % 1 ≡ 0 = omega arith in
           (rw (y, d), rw (y, r))
-      go true false p q = never (rw (p, q) at out)
-      go false u p q = never (rw p at out)
+      go true false p q = true-false (rw (p, q) at out)
+      go false u p q = true-false (rw p at out)
 
   -- what the machine asks and gives, which reads both numbers back from their bits; r is the answer to "does the quotient leave the width"
   module _ (a b : ℤ) (fa : SFits w a) (fb : SFits w b) (r : Bool) (e : r ≡ leaves w (toZ w (ofZ w a)) (toZ w (ofZ w b))) where

@@ -14,6 +14,7 @@ use lib.Ieee.Back.{round-whole}
 use mir.Val.{bits, toZ}
 use mir.ValLaws.{half-full, toZ-pos, toZ-neg}
 use borrow.Author.Tests.{lt-leb, le-ltb}
+use Rattle.common.proofs.Choice.{true-false}
 use Rattle.truth.specs.Truth.{ofBool}
 use Rattle.number.specs.declared.Number.{Number}
 use Rattle.number.specs.declared.Number.the-variants.{Int32, Int64, Real, None}
@@ -22,7 +23,7 @@ use Rattle.opcode.specs.declared.Order.the-variants.{Less, LessEqual, Greater, 
 use Rattle.number.specs.Integer.{isNegative, signedOf}
 use Rattle.number.specs.Number.{isInteger, isReal, integerOf, divides, zeroDivisor, asReal, shiftOf, orderReal}
 use Rattle.number.specs.Theorems.{QuotientRemainder, Ends, Complement, LeftNone, RightNone, ZeroDivisor, NegativeZero, LargeBesideReal, NanFalse, ZerosEqual, WholesExact, PowersExact, RealBits, BitsReal, NanBits, BitsBounded}
-use Rattle.number.proofs.Ints.{never, and-no}
+use Rattle.number.proofs.Ints.{and-no}
 use Rattle.number.proofs.Tens.{powers-hold}
 
 -- by sign and magnitude
@@ -152,14 +153,14 @@ large-beside-real a b o r i h e =
     large : (a : Number) → isInteger a ≡ true → 2 ^ 53 < natAbs (integerOf a) → asReal a ≡ None
     large (Int32 z) i h = rw (lt-leb (natAbs z) (2 ^ 53) h)
     large (Int64 z) i h = rw (lt-leb (natAbs z) (2 ^ 53) h)
-    large (Real x) i h = never (sym i)
-    large None i h = never (sym i)
+    large (Real x) i h = true-false (sym i)
+    large None i h = true-false (sym i)
 
     not-integer : (b : Number) → isReal b ≡ true → isInteger b ≡ false
-    not-integer (Int32 z) e = never (sym e)
-    not-integer (Int64 z) e = never (sym e)
+    not-integer (Int32 z) e = true-false (sym e)
+    not-integer (Int64 z) e = true-false (sym e)
     not-integer (Real x) e = refl
-    not-integer None e = never (sym e)
+    not-integer None e = true-false (sym e)
 
 pub nan-false : NanFalse
 unfolding eq lt le

@@ -125,17 +125,13 @@ module _ (f g : ℕ → ℕ) (s p : List ℕ) where
   pub no-finish : length s < length p → false ≡ endsOf (map f s) (map g p)
   no-finish h = ends-long (map f s) (map g p) (rw (length-map s f, length-map p g) h)
 
--- one turn of the search, and its ends
+-- one turn of the search
 module _ (f : ℕ → ℕ) (s p : List ℕ) (i : ℕ) where
   pub found : i < length s → beginsOf (map f (drop i s)) p ≡ true → true ≡ containsOf (map f (drop i s)) p
   found h e = let e2 = rw (drop-cons s i 0 h) at e in rw (drop-cons s i 0 h, e2)
 
   pub passed : i < length s → beginsOf (map f (drop i s)) p ≡ false → containsOf (map f (drop (i + 1) s)) p ≡ containsOf (map f (drop i s)) p
   passed h e = let e2 = rw (drop-cons s i 0 h) at e in rw (add-one, drop-cons s i 0 h, e2)
-
-pub search-end : (f g : ℕ → ℕ) (s p : List ℕ) (i : ℕ) → length s ≤ i → eqb (length p) 0 ≡ containsOf (map f (drop i s)) (map g p)
-search-end f g s [] i h = rw (drop-of-length-le s h)
-search-end f g s (x ∷ xs) i h = rw (drop-of-length-le s h, ne-eqb (suc (length xs)) 0 (λ e. omega arith))
 
 -- a part that goes on to the end
 pub rest : (s : List ℕ) (i : ℕ) → take (length s - i) (drop i s) ≡ drop i s

@@ -1,2 +1,6 @@
 pub mod Laws
+pub mod Sames
+pub mod Folds
+pub mod Places
+pub mod Borders
 pub mod Theorems

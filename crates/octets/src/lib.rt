@@ -2,6 +2,9 @@
 ghost use mathlib.Core.Path.{_≡_};
 ghost use Rattle.octets.specs.Octets.{fold as foldOf, folded, sameOf, beforeOf, beginsOf, containsOf, endsOf};
 
+mod searching;
+mod words;
+
 pub fn fold(mark: bool, b: u8) -> u8
     ensures { λ r. ⌜ r ≡ foldOf mark b ⌝ }
 {
@@ -17,20 +20,24 @@ pub fn fold(mark: bool, b: u8) -> u8
     b
 }
 
+// By words where no side is folded. A folded side goes to a function of its own with parts made anew, so that this one is small and keeps its slices out of memory:
+// the compiler then lays it into its callers.
 pub fn same(s: &[u8], s_mark: bool, t: &[u8], t_mark: bool) -> bool
     ensures { λ r. ⌜ r ≡ sameOf (folded «s_mark» (now (s .entry))) (folded «t_mark» (now (t .entry))) ⌝ }
 {
     if s.len() != t.len() {
         return false;
     }
-    let mut i = 0;
-    while i < s.len() {
-        if fold(s_mark, s[i]) != fold(t_mark, t[i]) {
-            return false;
-        }
-        i += 1;
+    if s_mark {
+        return words::same_folded(&s[0..], &t[0..], t_mark);
     }
-    true
+    if t_mark {
+        return words::same_folded(&t[0..], &s[0..], false);
+    }
+    if s.len() < 8 {
+        return words::same_bytes(s, t);
+    }
+    words::same_words(s, t)
 }
 
 pub fn before(s: &[u8], s_mark: bool, t: &[u8], t_mark: bool) -> bool
@@ -64,17 +71,20 @@ pub fn begins(s: &[u8], s_mark: bool, p: &[u8], p_mark: bool) -> bool
     same(&s[0..n], s_mark, p, p_mark)
 }
 
+// In time proportional to value plus literal, if the literal has at most 4,096 bytes.
 pub fn contains(s: &[u8], s_mark: bool, p: &[u8], p_mark: bool) -> bool
     ensures { λ r. ⌜ r ≡ containsOf (folded «s_mark» (now (s .entry))) (folded «p_mark» (now (p .entry))) ⌝ }
 {
-    let mut i = 0;
-    while i < s.len() {
-        if begins(&s[i..], s_mark, p, p_mark) {
-            return true;
-        }
-        i += 1;
+    if p.len() == 0 {
+        return true;
     }
-    p.len() == 0
+    if s.len() < p.len() {
+        return false;
+    }
+    if s_mark | p_mark {
+        return searching::marked(s, s_mark, p, p_mark);
+    }
+    searching::plain(s, p)
 }
 
 pub fn ends(s: &[u8], s_mark: bool, p: &[u8], p_mark: bool) -> bool

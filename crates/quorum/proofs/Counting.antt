@@ -6,8 +6,9 @@ use Prim.Native.Nat.{ℕ, suc, _≤_}
 use native.Mathlib.Omega.{arith}
 use lib.ListN.{length, length-append}
 use borrow.Author.Tests.{not-true}
+use Rattle.common.proofs.Choice.{true-false}
 use Rattle.octets.specs.Octets.{sameOf}
-use Rattle.octets.proofs.Theorems.{and-parts, same, same-refl, true-false}
+use Rattle.octets.proofs.Theorems.{and-parts, same, same-refl}
 use Rattle.quorum.specs.Decision.{has, different}
 use Rattle.quorum.specs.Theorems.{howMany, Numbered, Numberable}
 

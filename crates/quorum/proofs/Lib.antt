@@ -1,4 +1,3 @@
-pub mod Sames
 pub mod Counting
 pub mod Reading
 pub mod Opening

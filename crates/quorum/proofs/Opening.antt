@@ -8,6 +8,7 @@ use native.Mathlib.Decide.{decLe}
 use lib.Dec.{eqb}
 use lib.ListN.{length}
 use borrow.Author.Tests.{le-leb, lt-leb, ne-eqb}
+use Rattle.table.specs.Table.{mostBytes}
 use Rattle.table.specs.Check.{checkOf as tableCheck}
 use Rattle.table.proofs.Tests.{both-true}
 use Rattle.table.proofs.Laid.{laid}
@@ -33,7 +34,7 @@ module _ (room : ℕ) (table : List ℕ) (needed : ℕ) where
       may-open l = rw (e, le-leb 1 needed g, le-leb needed 8 h, le-leb (528 + length table) room l)
 
 -- a table that passes the check is short
-pub table-short : (table : List ℕ) → tableCheck table ≡ true → length table ≤ 10250
+pub table-short : (table : List ℕ) → tableCheck table ≡ true → length table ≤ mostBytes
 unfolding tableCheck
 table-short table e = let l = laid table (both-true _ _ e .0) in omega (arith, l .few, l .small, l .whole)
 
@@ -43,7 +44,7 @@ pub record Openable (room : ℕ) (table : List ℕ) (needed : ℕ) : Type 0 wher
   pub some-needed : 1 ≤ needed
   pub few-needed : needed ≤ 8
   pub fits : 528 + length table ≤ room
-  pub short : length table ≤ 10250
+  pub short : length table ≤ mostBytes
 
 pub openable : (room : ℕ) (table : List ℕ) (needed : ℕ) → openRefusal room table needed ≡ 0 → Openable room table needed
 openable room table needed e = go (tableCheck table) (decLe 1 needed) (decLe needed 8) (decLe (528 + length table) room) refl

@@ -169,6 +169,12 @@ module _ (s : List ℕ) where
     unfolding has valuesFrom
     has-end v = rw none-left
 
-    pub differ-end : true ≡ different (valuesFrom s i (n - i))
-    unfolding different valuesFrom
-    differ-end = rw none-left
+  -- one value is different from all others
+  pub differ-end : (n i : ℕ) → n ≤ i + 1 → true ≡ different (valuesFrom s i (n - i))
+  unfolding has different valuesFrom
+  differ-end n i h = go (n - i) (omega arith)
+    where
+      go : (k : ℕ) → k ≤ 1 → true ≡ different (valuesFrom s i k)
+      go zero l = refl
+      go (suc zero) l = refl
+      go (suc (suc k)) l = absurd (omega arith)

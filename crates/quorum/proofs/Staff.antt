@@ -9,9 +9,9 @@ use lib.Dec.{eqb, leb}
 use lib.ListN.{length, take, drop, length-drop}
 use lib.Seq.{length-take-le}
 use borrow.Author.Tests.{leb-true}
+use Rattle.common.specs.Choice.{pick}
 use Rattle.octets.proofs.Theorems.{and-parts}
 use Rattle.notice.specs.Field.{Field}
-use Rattle.notice.specs.Layout.{pick}
 use Rattle.notice.specs.declared.Found.{Found}
 use Rattle.notice.specs.declared.Found.the-variants.{At, Nothing}
 use Rattle.notice.specs.Lookup.{lookupOf, FoundIs}

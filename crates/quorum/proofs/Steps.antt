@@ -7,8 +7,8 @@ use native.Mathlib.Omega.{arith}
 use lib.Dec.{eqb, leb, ltb}
 use lib.ListN.{length, getD, length-append}
 use borrow.Author.Tests.{lt-ltb, le-ltb, le-leb, lt-leb, ne-eqb, eq-eqb}
+use Rattle.common.proofs.Choice.{true-false}
 use Rattle.truth.specs.Truth.{isTrue}
-use Rattle.octets.proofs.Theorems.{true-false}
 use Rattle.notice.specs.declared.Layout.{Layout}
 use Rattle.notice.specs.Layout.{checkOf as noticeCheck}
 use Rattle.table.specs.Check.{checkOf as tableCheck}

@@ -9,8 +9,9 @@ use lib.Dec.{eqb, leb, ltb}
 use lib.ListN.{length, set, drop}
 use lib.Seq.{sets, length-sets, drop-set-lt}
 use borrow.Author.Tests.{ltb-false, ne-eqb}
-use Rattle.octets.proofs.Theorems.{and-parts, true-false, same-refl}
-use Rattle.notice.specs.Layout.{pick}
+use Rattle.common.specs.Choice.{pick}
+use Rattle.common.proofs.Choice.{true-false}
+use Rattle.octets.proofs.Theorems.{and-parts, same-refl}
 use Rattle.quorum.specs.declared.Turn.{Turn}
 use Rattle.quorum.specs.declared.Turn.the-variants.{Keep, Add, Refuse}
 use Rattle.quorum.specs.declared.Shown.{Shown}

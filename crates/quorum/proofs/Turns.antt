@@ -8,9 +8,9 @@ use native.Mathlib.Decide.{decLe, decLt}
 use lib.ListN.{length, set, length-set}
 use lib.Seq.{length-sets}
 use borrow.Author.Tests.{lt-ltb, le-ltb, eq-eqb, ne-eqb}
+use Rattle.common.specs.Choice.{pick}
+use Rattle.common.proofs.Choice.{true-false}
 use Rattle.truth.specs.Truth.{isTrue}
-use Rattle.octets.proofs.Theorems.{true-false}
-use Rattle.notice.specs.Layout.{pick}
 use Rattle.interpreter.specs.declared.Ran.{Ran}
 use Rattle.interpreter.specs.Running.{runningOf}
 use Rattle.quorum.specs.declared.Turn.{Turn}

@@ -8,10 +8,10 @@ use native.Mathlib.Decide.{decLt}
 use lib.ListN.{length, getD, set, take, drop, length-set, length-append}
 use lib.Seq.{sets, length-sets, sets-eq, drop-at, take-append-seam, length-take-le, drop-set-lt, drop-set-add, take-set-le, getD-set-same, getD-set-other}
 use borrow.Author.Tests.{le-leb}
+use Rattle.common.proofs.Stores.{sets-append, sets-before}
 use Rattle.word.specs.Word.{wordAt, wordBytes}
-use Rattle.word.proofs.Laws.{length-leBytes}
+use Rattle.word.proofs.Laws.{length-wordBytes}
 use Rattle.word.proofs.Theorems.{write-read}
-use Rattle.notice.proofs.Stores.{sets-append, sets-before}
 use Rattle.table.specs.Check.{checkOf as tableCheck}
 use Rattle.quorum.specs.Decision.{has, different, sizeOf, neededOf, countOf, valueSize, valueAt, valuesFrom, valuesOf, tableOf, sizesRight, headBytes, openedWith, addedTo}
 use Rattle.quorum.proofs.Reading.{Holding, size-at, holding-sized}
@@ -23,8 +23,8 @@ pub head-stored : (s : List ℕ) (n needed : ℕ) → set (set (sets (sets s 0 (
 head-stored s n needed =
     let w = wordBytes 4 (524 + n) in
     let rest = wordBytes 2 5 ++ (needed ∷ 0 ∷ []) in
-    let l1 : 0 + length w ≡ 4 = omega (arith, length-leBytes 4 (524 + n)) in
-    let l2 : 4 + length (wordBytes 2 5) ≡ 6 = omega (arith, length-leBytes 2 5) in
+    let l1 : 0 + length w ≡ 4 = omega (arith, length-wordBytes 4 (524 + n)) in
+    let l2 : 4 + length (wordBytes 2 5) ≡ 6 = omega (arith, length-wordBytes 2 5) in
     sym (sets-append w rest s 0
     ∙ (ap (λ (k : ℕ). sets (sets s 0 w) k rest) l1
     ∙ (sets-append (wordBytes 2 5) (needed ∷ 0 ∷ []) (sets s 0 w) 4
@@ -33,7 +33,7 @@ head-stored s n needed =
 pub length-head : (n needed : ℕ) → length (headBytes n needed) ≡ 8
 length-head n needed =
     length-append (wordBytes 4 (524 + n)) (wordBytes 2 5 ++ (needed ∷ 0 ∷ []))
-    ∙ ap₂ (λ (a b : ℕ). a + b) (length-leBytes 4 (524 + n)) (length-append (wordBytes 2 5) (needed ∷ 0 ∷ []) ∙ ap (λ (a : ℕ). a + 2) (length-leBytes 2 5))
+    ∙ ap₂ (λ (a b : ℕ). a + b) (length-wordBytes 4 (524 + n)) (length-append (wordBytes 2 5) (needed ∷ 0 ∷ []) ∙ ap (λ (a : ℕ). a + 2) (length-wordBytes 2 5))
 
 -- ---- reading beside a run of stores, and what was stored
 

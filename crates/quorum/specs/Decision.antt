@@ -16,9 +16,9 @@ use mathlib.Core.Option.{Option, some, none}
 use lib.Dec.{eqb, leb}
 use lib.ListN.{length, getD, take, drop, set}
 use lib.Seq.{sets}
+use Rattle.common.specs.Choice.{pick}
 use Rattle.word.specs.Word.{wordAt, wordBytes}
 use Rattle.octets.specs.Octets.{sameOf}
-use Rattle.notice.specs.Layout.{pick}
 use Rattle.table.specs.Check.{checkOf as tableCheck}
 
 -- what a decision keeps: the table, the needed number, and the values counted so far, the first counted first

@@ -6,9 +6,10 @@ use mathlib.Core.List.{List, [], _∷_}
 use mathlib.Core.Option.{Option, some, none}
 use lib.Dec.{eqb, leb, ltb}
 use lib.ListN.{length}
+use Rattle.common.specs.Choice.{pick}
 use Rattle.truth.specs.Truth.{isTrue}
 use Rattle.notice.specs.Field.{Field}
-use Rattle.notice.specs.Layout.{pick, unless, fieldsOf}
+use Rattle.notice.specs.Layout.{unless, fieldsOf}
 use Rattle.notice.specs.Lookup.{fieldNamed}
 use Rattle.table.specs.Check.{checkOf as tableCheck, refusalOf}
 use Rattle.interpreter.specs.declared.Ran.{Ran}

@@ -6,9 +6,9 @@ use mathlib.Core.List.{List, [], _∷_, _++_}
 use mathlib.Core.Option.{Option, some, none}
 use lib.Dec.{eqb, leb}
 use lib.ListN.{length, drop}
+use Rattle.common.specs.Choice.{pick}
 use Rattle.truth.specs.Truth.{isTrue}
 use Rattle.notice.specs.Field.{Field}
-use Rattle.notice.specs.Layout.{pick}
 use Rattle.interpreter.specs.Running.{runningOf}
 use Rattle.quorum.specs.declared.Shown.{Shown}
 use Rattle.quorum.specs.Decision.{has, different, decisionOf}

@@ -5,7 +5,6 @@ ghost use Rattle.interpreter.specs.Running.{runningOf};
 ghost use Rattle.quorum.specs.Decision.{tableOf, valuesOf, kept, holdsOf};
 ghost use Rattle.quorum.specs.Showing.{staffOf, staffTurn, turnOf};
 use crate::Turn;
-use crate::running::run_kept;
 use crate::state::has;
 use crate::state::size_of;
 use interpreter::Ran;
@@ -59,7 +58,7 @@ fn run_in<'a>(buffer: &'a [u8], notice: &'a [u8]) -> Ran
     ensures { λ r. ⌜ r ≡ runningOf (tableOf (now (buffer .entry))) (now (notice .entry)) ⌝ }
 {
     let size = size_of(buffer);
-    run_kept(&buffer[528..size], notice)
+    interpreter::run_kept(&buffer[528..size], notice)
 }
 
 // "Each notice shown to it is run": refused with the run; by its Staff, if the verdict is true; else left aside.

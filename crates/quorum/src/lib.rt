@@ -3,9 +3,7 @@ ghost use mathlib.Core.Path.{_≡_};
 ghost use Prim.Native.Nat.{_<_};
 ghost use Rattle.quorum.specs.Showing.{shownAs, nothingYet, openRefusal, Opens, adds as addsOf, answerBy, Shows};
 
-mod bytes;
 mod judging;
-mod running;
 mod state;
 
 use judging::staff;
@@ -23,7 +21,7 @@ pub struct Shown {
 }
 
 // What a notice is to a decision: it leaves it as it stood, adds its Staff, or is refused.
-pub enum Turn {
+enum Turn {
     Keep,
     Add,
     Refuse { number: u8, place: usize },

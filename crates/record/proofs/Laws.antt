@@ -6,8 +6,9 @@ use native.Mathlib.Decide.{decLt}
 use native.Mathlib.Nat.{pow-suc}
 use native.Mathlib.Omega.{arith}
 use borrow.Author.Tests.{lt-ltb, le-ltb, le-leb, lt-leb, eq-eqb, ne-eqb}
-use lib.ListN.{length, getD, set, take, drop, length-append, length-drop}
-use lib.Seq.{sets, drop-cons, drop-length, drop-nil, set-comm, length-take-le, getD-drop, getD-take}
+use lib.ListN.{length, set, length-append}
+use lib.Seq.{sets, set-comm}
+use Rattle.common.proofs.Stores.{sets-append}
 use Rattle.record.specs.declared.Record.{Record}
 use Rattle.record.specs.declared.Record.the-variants.{End, Whole, Cut, Wrong}
 use Rattle.record.specs.Record.{lengthOf, kindOf, recordOf}
@@ -110,12 +111,6 @@ twenty n h = let l : n < 100000000000000000000 = omega arith in length-most 19 n
 
 -- ---- stores one after the other
 
-pub sets-append : (xs ys d : List ℕ) (at : ℕ) → sets d at (xs ++ ys) ≡ sets (sets d at xs) (at + length xs) ys
-sets-append [] ys d at = let e : at ≡ at + 0 = omega arith in ap (λ (n : ℕ). sets d n ys) e
-sets-append (x ∷ xs) ys d at =
-    let e : suc at + length xs ≡ at + suc (length xs) = omega arith in
-    sets-append xs ys (set d at x) (suc at) ∙ ap (λ (n : ℕ). sets (sets d at (x ∷ xs)) n ys) e
-
 -- a store after a run of stores is as good before it
 sets-set : (xs d : List ℕ) (at j v : ℕ) → at + length xs ≤ j → sets (set d j v) at xs ≡ set (sets d at xs) j v
 sets-set [] d at j v h = refl
@@ -139,37 +134,6 @@ store-last d at n j h e =
     let m = length-small n h in
     let i : j ≡ at = omega arith in
     ap (λ (k : ℕ). set d k (48 + n)) i ∙ ap (λ (l : List ℕ). sets d at l) (sym (decimal-small n h))
-
--- a copy, byte by byte
-pub copy-one : (s d : List ℕ) (at i : ℕ) → i < length s → sets (set d (at + i) (getD s i 0)) (at + (i + 1)) (drop (i + 1) s) ≡ sets d (at + i) (drop i s)
-copy-one s d at i h =
-    let e1 : at + (i + 1) ≡ suc (at + i) = omega arith in
-    let e2 : i + 1 ≡ suc i = omega arith in
-    ap₂ (λ (n m : ℕ). sets (set d (at + i) (getD s i 0)) n (drop m s)) e1 e2 ∙ ap (λ (l : List ℕ). sets d (at + i) l) (sym (drop-cons s i 0 h))
-
-pub copy-end : (s d d₀ : List ℕ) (at i : ℕ) → i ≡ length s → sets d (at + i) (drop i s) ≡ sets d₀ at s → d ≡ sets d₀ at s
-copy-end s d d₀ at i e h =
-    ap (λ (l : List ℕ). sets d (at + i) l) (sym (drop-length s)) ∙ ap (λ (n : ℕ). sets d (at + i) (drop n s)) (sym e) ∙ h
-
-drop-past : (y : List ℕ) (k : ℕ) → length y ≤ k → drop k y ≡ []
-drop-past [] k g = drop-nil k
-drop-past (v ∷ y) zero g = absurd (omega arith)
-drop-past (v ∷ y) (suc k) g = drop-past y k (omega arith)
-
--- a move to the front, byte by byte: the bytes that are still to be read are as they were
-pub move-one : (d d₀ : List ℕ) (from n i : ℕ) → i < n → from + n ≤ length d₀ → ((j : ℕ) → i ≤ j → getD d j 0 ≡ getD d₀ j 0)
-    → sets (set d i (getD d (from + i) 0)) (i + 1) (drop (i + 1) (take n (drop from d₀))) ≡ sets d i (drop i (take n (drop from d₀)))
-move-one d d₀ from n i h f same =
-    let x : List ℕ = take n (drop from d₀) in
-    let l = length-drop from d₀ in
-    let m : n ≤ length (drop from d₀) = omega arith in
-    let k : i < length x = omega (arith, length-take-le n (drop from d₀) m) in
-    let g : getD d (from + i) 0 ≡ getD x i 0 = same (from + i) (omega arith) ∙ sym (getD-drop from d₀ i 0) ∙ sym (getD-take n (drop from d₀) i 0 h) in
-    let e : i + 1 ≡ suc i = omega arith in
-    ap₂ (λ (v j : ℕ). sets (set d i v) j (drop j x)) g e ∙ ap (λ (y : List ℕ). sets d i y) (sym (drop-cons x i 0 k))
-
-pub move-end : (d d₀ x : List ℕ) (i : ℕ) → length x ≤ i → sets d i (drop i x) ≡ sets d₀ 0 x → d ≡ sets d₀ 0 x
-move-end d d₀ x i h e = ap (λ (y : List ℕ). sets d i y) (sym (drop-past x i h)) ∙ e
 
 -- what is put after what was put
 pub joined : {d d1 d2 : List ℕ} {at a b : ℕ} (xs ys : List ℕ) → Put d at xs d1 a → Put d1 a ys d2 b → Put d at (xs ++ ys) d2 b

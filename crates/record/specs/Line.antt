@@ -1,18 +1,14 @@
 -- The lines of standard output. Document 01, "Examples": "It prints `S number place length` or `N number verdict steps place` (verdict `true`, `false` or `bottom` ..), `X kind` for
 -- another kind, and `E`".
 use Prim.Native.Nat.{ℕ, zero, suc, _+_, _/_, _%_}
-use mathlib.Core.Bool.{Bool, true, false}
 use mathlib.Core.List.{List, [], _∷_, _++_}
 use mathlib.Core.Path.{_≡_}
 use lib.Dec.{ltb}
 use lib.ListN.{length}
 use lib.Seq.{sets}
+use Rattle.common.specs.Choice.{pick}
 use Rattle.truth.specs.declared.Truth.{Truth}
 use Rattle.truth.specs.declared.Truth.the-variants.{False, Bottom, True}
-
-abbrev pub pick : Bool → (Unit {0} → List ℕ) → (Unit {0} → List ℕ) → List ℕ
-pick true x y = x tt
-pick false x y = y tt
 
 -- the last digits of n, at most as many as the first number says, with no leading zero
 unfoldable pub digits : ℕ → ℕ → List ℕ
@@ -51,6 +47,10 @@ kindLine kind = 88 ∷ (spaced kind ++ lineEnd)
 -- `E`
 abbrev pub errorLine : List ℕ
 errorLine = 69 ∷ lineEnd
+
+-- the bytes that every line has room in
+abbrev pub lineRoom : ℕ
+lineRoom = 80
 
 -- the bytes stand from `at` on, all other bytes stay, and r is the place after them
 pub record Put (before : List ℕ) (at : ℕ) (bytes after : List ℕ) (r : ℕ) : Type 0 where

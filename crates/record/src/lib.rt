@@ -1,11 +1,10 @@
 // The records of standard input and the lines of standard output. Document 01, "Examples", the program `verdict`.
 ghost use mathlib.Core.Path.{_≡_};
 ghost use mathlib.Core.List.{_∷_, []};
-ghost use Prim.Native.Nat.{_+_, _-_, _≤_, _<_};
-ghost use lib.ListN.{length, take, drop};
-ghost use lib.Seq.{sets};
+ghost use Prim.Native.Nat.{_+_, _≤_, _<_};
+ghost use lib.ListN.{length};
 ghost use Rattle.record.specs.Record.{recordOf, waitsOf};
-ghost use Rattle.record.specs.Line.{decimalOf, spaced, verdictOf, textLine, noticeLine, kindLine, errorLine, Put};
+ghost use Rattle.record.specs.Line.{decimalOf, spaced, verdictOf, textLine, noticeLine, kindLine, errorLine, lineRoom, Put};
 use truth::Truth;
 
 // ---- records
@@ -63,19 +62,6 @@ pub fn waits(found: Record, last: bool) -> bool
     }
 }
 
-// The bytes from `from` up to `end` moved to the start of the buffer: what is left of the input when more is to be read. It asks that they lie in the buffer.
-pub fn move_down(buffer: &mut [u8], from: usize, end: usize)
-    requires { ⌜ (from ≤ end) × (end ≤ length (now buffer)) ⌝ }
-    ensures { λ _. ⌜ now (buffer .exit) ≡ sets (now (buffer .entry)) 0 (take (end - from) (drop from (now (buffer .entry)))) ⌝ }
-{
-    let n = end - from;
-    let mut i = 0;
-    while i < n {
-        buffer[i] = buffer[from + i];
-        i += 1;
-    }
-}
-
 // ---- lines: each function stores its bytes from `at` on and answers the place after them. It asks for room, which its caller has tested once for a whole line.
 
 fn put_byte(out: &mut [u8], at: usize, b: u8) -> usize
@@ -90,12 +76,8 @@ fn put_bytes(out: &mut [u8], at: usize, s: &[u8]) -> usize
     requires { ⌜ at + length (now s) ≤ length (now out) ⌝ }
     ensures { λ r. ⌜ Put (now (out .entry)) at (now (s .entry)) (now (out .exit)) r ⌝ }
 {
-    let mut i = 0;
-    while i < s.len() {
-        out[at + i] = s[i];
-        i += 1;
-    }
-    at + i
+    common::copy_to(out, at, s);
+    at + s.len()
 }
 
 // How many digits n has.
@@ -147,10 +129,13 @@ fn put_verdict(out: &mut [u8], at: usize, t: Truth) -> usize
     }
 }
 
+// The bytes that every line has room in.
+pub const LINE_ROOM: usize = 80;
+
 // `S number place length`: what translation answered.
 pub fn put_text_line(out: &mut [u8], at: usize, number: u64, place: u64, len: u64) -> usize
-    requires { ⌜ at + 80 ≤ length (now out) ⌝ }
-    ensures { λ r. ⌜ Put (now (out .entry)) at (textLine number place len) (now (out .exit)) r × (r ≤ at + 80) ⌝ }
+    requires { ⌜ at + lineRoom ≤ length (now out) ⌝ }
+    ensures { λ r. ⌜ Put (now (out .entry)) at (textLine number place len) (now (out .exit)) r × (r ≤ at + lineRoom) ⌝ }
 {
     let a = put_byte(out, at, b'S');
     let b = put_number(out, a, number);
@@ -168,8 +153,8 @@ pub fn put_notice_line(
     steps: u64,
     place: u64,
 ) -> usize
-    requires { ⌜ at + 80 ≤ length (now out) ⌝ }
-    ensures { λ r. ⌜ Put (now (out .entry)) at (noticeLine number verdict steps place) (now (out .exit)) r × (r ≤ at + 80) ⌝ }
+    requires { ⌜ at + lineRoom ≤ length (now out) ⌝ }
+    ensures { λ r. ⌜ Put (now (out .entry)) at (noticeLine number verdict steps place) (now (out .exit)) r × (r ≤ at + lineRoom) ⌝ }
 {
     let a = put_byte(out, at, b'N');
     let b = put_number(out, a, number);
@@ -181,8 +166,8 @@ pub fn put_notice_line(
 
 // `X kind`
 pub fn put_kind_line(out: &mut [u8], at: usize, kind: u64) -> usize
-    requires { ⌜ at + 80 ≤ length (now out) ⌝ }
-    ensures { λ r. ⌜ Put (now (out .entry)) at (kindLine kind) (now (out .exit)) r × (r ≤ at + 80) ⌝ }
+    requires { ⌜ at + lineRoom ≤ length (now out) ⌝ }
+    ensures { λ r. ⌜ Put (now (out .entry)) at (kindLine kind) (now (out .exit)) r × (r ≤ at + lineRoom) ⌝ }
 {
     let a = put_byte(out, at, b'X');
     let b = put_number(out, a, kind);
@@ -191,8 +176,8 @@ pub fn put_kind_line(out: &mut [u8], at: usize, kind: u64) -> usize
 
 // `E`
 pub fn put_error_line(out: &mut [u8], at: usize) -> usize
-    requires { ⌜ at + 80 ≤ length (now out) ⌝ }
-    ensures { λ r. ⌜ Put (now (out .entry)) at errorLine (now (out .exit)) r × (r ≤ at + 80) ⌝ }
+    requires { ⌜ at + lineRoom ≤ length (now out) ⌝ }
+    ensures { λ r. ⌜ Put (now (out .entry)) at errorLine (now (out .exit)) r × (r ≤ at + lineRoom) ⌝ }
 {
     let a = put_byte(out, at, b'E');
     put_byte(out, a, b'\n')

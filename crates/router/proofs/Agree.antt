@@ -2,21 +2,18 @@
 use Prim.Native.Nat.{ℕ, zero, suc, _+_, _-_, _%_, _^_, _<_, _≤_}
 use native.Mathlib.Omega.{arith}
 use native.Mathlib.Decide.{ℕ-discrete}
-use mathlib.Core.Path.{_≡_, refl, sym, ap, ap₂, _∙_, subst}
-use mathlib.Core.Logic.{_⊎_, inl, inr}
+use mathlib.Core.Path.{_≡_, refl, sym, ap, _∙_}
+use mathlib.Core.Logic.{inl, inr}
 use mathlib.Core.Bool.{Bool, true, false, cond}
-use mathlib.Core.List.{List, [], _∷_, _++_, append-assoc, append-nil, reverse, reverse-cons, reverse-append, reverse-reverse}
+use mathlib.Core.List.{List, [], _∷_, _++_, append-assoc, reverse, reverse-cons, reverse-append, reverse-reverse}
 use lib.ListN.{length, getD, take, drop, length-append, length-reverse}
-use lib.Seq.{take-at, drop-at, getD-at, take-add, drop-drop, take-append-le, drop-append-add, length-take-le, take-length}
-use lib.Dec.{eqb, leb, ltb, T}
-use lib.Ieee.{binary64, ofBits, toBits}
+use lib.Seq.{take-at, drop-at, getD-at, drop-drop, take-length}
 use lib.IntN.{ℤ, pos, negsuc}
 use mir.Syntax.{w32, w64}
 use mir.Val.{SFits, toZ, ofZ}
 use mir.ValLaws.{toZ-ofZ}
-use borrow.Author.Tests.{eq-eqb, ne-eqb, lt-ltb, le-leb, lt-leb}
-use Rattle.truth.specs.declared.Truth.{Truth}
-use Rattle.truth.specs.declared.Truth.the-variants.{False, Bottom, True}
+use borrow.Author.Tests.{ne-eqb, lt-ltb, le-leb}
+use Rattle.truth.specs.declared.Truth.the-variants.{Bottom}
 use Rattle.truth.specs.Truth.{isTrue, isFalse, andOf, orOf}
 use Rattle.truth.proofs.Theorems.{false-and, true-or}
 use Rattle.opcode.specs.Opcode.{opOf}
@@ -29,13 +26,13 @@ use Rattle.number.proofs.Theorems.{real-bits}
 use Rattle.lexer.specs.Token.{Token, name, int32, int64, real, text, symbol}
 use Rattle.grammar.specs.Tree.{Tree, leaf, group, unary, binary, call, Trees, none, _then_}
 use Rattle.grammar.specs.Function.{functionOf}
-use Rattle.grammar.specs.Size.{countOf, skips, entriesOf, entriesIn, poolBytes, poolOf, poolIn}
+use Rattle.grammar.specs.Size.{countOf, skips, entriesOf, entriesIn, poolOf, poolIn}
 use Rattle.table.specs.Table.{blank, Program}
 use Rattle.table.specs.declared.Entry.{Entry}
 use Rattle.value.specs.Value as value
-use Rattle.interpreter.specs.Run.{State, start, slotAt, stackBy, strideBy, visit, afterFrom, after, runOf, verdictOf}
+use Rattle.interpreter.specs.Run.{State, start, slotAt, stackBy, strideBy, visit, afterFrom, runOf}
 use Rattle.interpreter.proofs.Safe.{more-visits, stays}
-use Rattle.meaning.specs.Meaning.{leafItem, byUnary, byBinary, byCall, itemOf, itemsOf, meaning}
+use Rattle.meaning.specs.Meaning.{leafItem, byUnary, byBinary, byCall, itemOf, itemsOf}
 use Rattle.translator.proofs.Sound.{size, size-in, pool-size, pool-in}
 use Rattle.translator.specs.Compile.{entry, leafEntry, skipEntries, callEntry, codeOf, codeIn, leafBytes, bytesOf, bytesIn, compile}
 use Rattle.router.specs.Agree.{LeafMade, CallMade, Made, MadeIn}

@@ -10,13 +10,14 @@ use lib.Dec.{eqb}
 use lib.ListN.{length, take}
 use lib.Seq.{length-sets}
 use borrow.Author.Tests.{ne-eqb}
+use Rattle.common.specs.Choice.{pick}
+use Rattle.common.proofs.Choice.{false-true}
 use Rattle.word.specs.Word.{Bytes}
 use Rattle.notice.specs.Layout.{checkOf as noticeCheck, numberOf}
 use Rattle.notice.specs.declared.Layout.the-variants.{WellFormed, Fault}
 use Rattle.notice.specs.declared.Layout.{Layout}
 use Rattle.notice.specs.Field.{Field}
 use Rattle.notice.specs.Write.{writtenOf, writtenBytes, refusalOf as refusalIn}
-use Rattle.lexer.specs.Token.{pick}
 use Rattle.lexer.proofs.Theorems.{stored}
 use Rattle.grammar.specs.Tree.{Tree}
 use Rattle.grammar.proofs.Theorems.{parses}
@@ -35,7 +36,6 @@ use Rattle.translator.specs.Compile.{compile}
 use Rattle.translator.specs.Translation.{Outcome, translationOf, Answers}
 use Rattle.translator.specs.Theorems.{Accepted}
 use Rattle.translator.specs.declared.Translated.{Translated}
-use Rattle.table.proofs.Tests.{no-way as impossible}
 use Rattle.translator.proofs.Sound.{size}
 use Rattle.translator.proofs.Lexed.{lexed-text}
 use Rattle.translator.proofs.Fits.{fits-room, refused-empty}
@@ -120,7 +120,7 @@ pub check-refused : (table notice : List ℕ) (visits : ℕ) (r : Matched) → t
 check-refused table notice visits r e q =
     record {
       answer = q ∙ sym (ap (λ (b : Bool). checkedOf b table notice (r .machine)) e);
-      runner = λ p. impossible (sym e ∙ p);
+      runner = λ p. false-true (sym e ∙ p);
     }
 
 pub check-passed : (table notice : List ℕ) (visits : ℕ) (a : Ran) (m : Machine) → tableCheck table ≡ true → a ≡ runningOf table notice → Visited table notice visits m
@@ -193,7 +193,7 @@ module _ (text buffer notice written : List ℕ) (visits : ℕ) (r : Matched) wh
       isFault (Fault p) = true
 
       no-way : {A : Type 0} → WellFormed ≡ Fault place → A
-      no-way h = let z : _≡_ {A = Bool} false true = ap isFault h in impossible z
+      no-way h = let z : _≡_ {A = Bool} false true = ap isFault h in false-true z
 
   pub run-matches : (layout : Layout) → layout ≡ noticeCheck notice → layout ≡ WellFormed → Bytes text → RunsTable (translationOf text (length buffer)) buffer notice written visits r → Matches text buffer notice written visits r
   run-matches layout e f b a =

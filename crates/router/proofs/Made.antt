@@ -1,14 +1,14 @@
 -- The tree of an accepted text is made as its table asks: by the grammar, by refusal 4, and by the limits of its tokens. Assumes nothing.
-use Prim.Native.Nat.{ℕ, zero, suc, _+_, _<_, _≤_}
+use Prim.Native.Nat.{ℕ, suc, _<_, _≤_}
 use native.Mathlib.Omega.{arith}
-use native.Mathlib.Decide.{ℕ-discrete, decLt, decLe}
-use mathlib.Core.Path.{_≡_, refl, sym, ap, _∙_, subst}
+use native.Mathlib.Decide.{ℕ-discrete, decLt}
+use mathlib.Core.Path.{_≡_, refl}
 use mathlib.Core.Logic.{_⊎_, inl, inr}
-use mathlib.Core.Bool.{Bool, true, false, cond, not, _&&_, _||_}
-use mathlib.Core.List.{List, [], _∷_, _++_}
-use lib.ListN.{length}
+use mathlib.Core.Bool.{Bool, true, false, not, _&&_, _||_}
+use mathlib.Core.List.{List, [], _∷_}
 use lib.Dec.{eqb, leb, ltb, T}
-use borrow.Author.Tests.{eq-eqb, ne-eqb, lt-ltb, le-leb, lt-leb, eqb-true, leb-true}
+use borrow.Author.Tests.{eq-eqb, ne-eqb, lt-ltb, le-leb, eqb-true, leb-true}
+use Rattle.common.proofs.Choice.{false-true}
 use Rattle.opcode.specs.Opcode.{opOf}
 use Rattle.opcode.specs.declared.Op.{Op}
 use Rattle.opcode.specs.declared.Unary.{Unary}
@@ -17,8 +17,8 @@ use Rattle.opcode.specs.declared.Many.{Many}
 use Rattle.number.proofs.Table.{at}
 use Rattle.octets.proofs.Theorems.{and-parts}
 use Rattle.lexer.specs.Token.{Token, name, int32, int64, real, text, symbol, kindOf}
-use Rattle.grammar.specs.Tree.{Tree, leaf, group, unary, binary, call, Trees, none, _then_}
-use Rattle.grammar.specs.Grammar.{rank, isPrefix, isLiteral, naming, Level, operator, tighter, tightest, Prefix, applied, plain, Operand, a-literal, a-name, a-group, a-call-none, a-call, Arguments, first, next}
+use Rattle.grammar.specs.Tree.{Tree, Trees, none}
+use Rattle.grammar.specs.Grammar.{rank, isPrefix, Level, operator, tighter, tightest, Prefix, applied, plain, Operand, a-literal, a-name, a-group, a-call-none, a-call, Arguments, first, next}
 use Rattle.grammar.specs.Function.{functionOf}
 use Rattle.grammar.specs.Size.{countOf}
 use Rattle.grammar.specs.Judge.{callRight, takesName, takesTexts, takesValues, takesFolded, isName, isText, isFolding, firstOf, laterTexts, formsRight, formsIn}
@@ -80,7 +80,7 @@ many-op Op.Unknown t = absurd t
 
 implied : (a b : Bool) → T (not a || b) → a ≡ true → T b
 implied true b t e = t
-implied false b t e = let z : _≡_ {A = ℕ} 0 1 = cc in absurd (omega arith)
+implied false b t e = false-true e
 
 -- a binary operator's kind is a binary op
 binary-rule : ℕ → ℕ → Bool
@@ -100,7 +100,7 @@ prefixed k e = go (ℕ-discrete k 40) (ℕ-discrete k 8)
     go : Dec (k ≡ 40) → Dec (k ≡ 8) → (u : Unary) × (opOf k ≡ Op.Unary u)
     go (yes q) d = rw q (unary-op (opOf 40) tt)
     go (no q) (yes r) = rw r (unary-op (opOf 8) tt)
-    go (no q) (no r) = let z : _≡_ {A = Bool} false true = rw (ne-eqb k 40 q, ne-eqb k 8 r) at e in let y : _≡_ {A = ℕ} 0 1 = cc in absurd (omega arith)
+    go (no q) (no r) = false-true (rw (ne-eqb k 40 q, ne-eqb k 8 r) at e)
 
 -- functions of one argument are unary ops below 56, the others take a first and more
 sixty : List ℕ
@@ -162,9 +162,7 @@ call-made f count form texts e = go (ℕ-discrete f 6) (ℕ-discrete f 59) (leb 
         let l = low-function f ed in
         let u = one-argument f ed l in
         inl (u .0, u .1, l, n)
-    go (no a) (no b) false ec false ed =
-        let z : _≡_ {A = Bool} false true = rw (ne-eqb f 6 a, ne-eqb f 59 b, ec, ed) at e in
-        let y : _≡_ {A = ℕ} 0 1 = cc in absurd (omega arith)
+    go (no a) (no b) false ec false ed = false-true (rw (ne-eqb f 6 a, ne-eqb f 59 b, ec, ed) at e)
 
 -- ---- trees
 

@@ -15,6 +15,7 @@ use mathlib.Core.Option.{some}
 use lib.Dec.{eqb}
 use lib.ListN.{length, take}
 use lib.Seq.{sets}
+use Rattle.common.specs.Choice.{pick}
 use Rattle.word.specs.Word.{Bytes}
 use Rattle.truth.specs.declared.Truth.{Truth}
 use Rattle.truth.specs.declared.Truth.the-variants.{Bottom}
@@ -24,7 +25,6 @@ use Rattle.notice.specs.declared.Layout.{Layout}
 use Rattle.notice.specs.Field.{Field}
 use Rattle.notice.specs.Write.{writtenOf, writtenBytes}
 use Rattle.grammar.specs.Tree.{Tree}
-use Rattle.lexer.specs.Token.{pick}
 use Rattle.table.specs.Table.{encode, decode}
 use Rattle.table.specs.Check.{checkOf as tableCheck, refusalOf}
 use Rattle.interpreter.specs.Run.{after, runOf, verdictOf}

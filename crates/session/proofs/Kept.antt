@@ -1,14 +1,12 @@
 -- The table that is kept of a text is empty or passes the check. Assumes nothing.
-use mathlib.Core.Path.{_≡_, refl, sym, ap, subst, _∙_}
+use mathlib.Core.Path.{_≡_, sym, ap, subst, _∙_}
 use mathlib.Core.Logic.{_⊎_, inl, inr}
-use mathlib.Core.Bool.{true, false}
-use mathlib.Core.List.{List, [], _∷_}
+use mathlib.Core.Bool.{true}
+use mathlib.Core.List.{List, []}
 use Prim.Native.Nat.{ℕ, _+_, _<_}
-use native.Mathlib.Omega.{arith}
 use lib.ListN.{length, drop}
 use lib.Seq.{getD-drop}
 use Rattle.word.specs.Word.{Bytes}
-use Rattle.table.specs.Table.{layoutOf}
 use Rattle.table.specs.Check.{checkOf}
 use Rattle.translator.specs.Translation.{Outcome, translationOf}
 use Rattle.translator.proofs.Fits.{refused-empty}
@@ -28,12 +26,7 @@ text-sound r room b = by (refused-empty (drop 6 r) room)
         inr (ap (λ (o : Outcome). checkOf (o .table)) (writes-table (drop 6 r) (h .0) room (h .1) (h .2)) ∙ passes-check (drop 6 r) (h .0) bytes (h .1))
     by (inr e) = inl e
 
--- no table fails the check, and any other sound one passes it
-pub empty-fails : (table : List ℕ) → length table ≡ 0 → checkOf table ≡ false
-unfolding checkOf layoutOf
-empty-fails [] h = refl
-empty-fails (x ∷ xs) h = absurd (omega arith)
-
+-- a sound table that is not empty passes the check
 pub passes : (table : List ℕ) → Sound table → (length table ≡ 0 → ⊥) → checkOf table ≡ true
 passes table (inl e) h = absurd (h (ap length e))
 passes table (inr e) h = e

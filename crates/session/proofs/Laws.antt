@@ -9,11 +9,13 @@ use borrow.Author.Tests.{ne-eqb}
 use lib.Dec.{eqb}
 use lib.ListN.{length, take, drop, length-drop}
 use lib.Seq.{sets, sets-eq, length-sets, length-take-le, take-all, take-append-seam, drop-drop}
+use Rattle.common.specs.Choice.{pick}
+use Rattle.common.proofs.Choice.{true-false}
 use Rattle.word.specs.Word.{Bytes}
 use Rattle.record.specs.declared.Record.{Record}
 use Rattle.record.specs.declared.Record.the-variants.{End, Whole, Cut, Wrong}
 use Rattle.record.specs.Record.{recordOf, waitsOf}
-use Rattle.record.specs.Line.{textLine, kindLine, errorLine, Put}
+use Rattle.record.specs.Line.{textLine, kindLine, errorLine, lineRoom, Put}
 use Rattle.record.proofs.Laws.{renamed, joined}
 use Rattle.translator.specs.declared.Translated.{Translated}
 use Rattle.translator.specs.Translation.{Outcome, translationOf, answerOf, Answers as Translates}
@@ -24,7 +26,7 @@ use Rattle.session.specs.declared.Stop.the-variants.{Full, Waiting, Ende
 use Rattle.session.specs.declared.Answered.{Answered}
 use Rattle.session.specs.declared.Served.{Served}
 use Rattle.session.specs.Session.{textOf, translatedLine, ranLine, lineOf, tableAfter, Sound, onRecord}
-use Rattle.session.specs.Serving.{bufferAfter, Serving, stopped, prepend, pickServing, servingOf, Answers, Serves}
+use Rattle.session.specs.Serving.{bufferAfter, Serving, stopped, prepend, servingOf, Answers, Serves}
 use Rattle.session.proofs.Kept.{text-sound}
 
 -- ---- one record
@@ -53,7 +55,7 @@ stored-front xs d h =
     ap (λ (l : List ℕ). take (length xs) l) (sets-eq xs d 0 z) ∙ take-append-seam xs (drop (0 + length xs) d)
 
 pub text-answers : (r t b out b′ out′ x : List ℕ) (at next : ℕ) (y : Translated) → Bytes r → x ≡ textOf r → Translates (translationOf x (length b)) b b′ y
-    → Put out at (textLine (y .number) (y .place) (y .length)) out′ next → next ≤ at + 80 → Answers 3 r t b out at b′ out′ (record { held = y .length; next = next })
+    → Put out at (textLine (y .number) (y .place) (y .length)) out′ next → next ≤ at + lineRoom → Answers 3 r t b out at b′ out′ (record { held = y .length; next = next })
 text-answers r t b out b′ out′ x at next y br ex q p h =
     let o : Outcome = translationOf (textOf r) (length b) in
     let eo : translationOf x (length b) ≡ o = ap (λ (l : List ℕ). translationOf l (length b)) ex in
@@ -76,12 +78,12 @@ text-answers r t b out b′ out′ x at next y br ex q p h =
 pub at-kind : (k j : ℕ) (r t b out b′ out′ : List ℕ) (at : ℕ) (a : Answered) → j ≡ k → Answers k r t b out at b′ out′ a → Answers j r t b out at b′ out′ a
 at-kind k j r t b out b′ out′ at a e h = subst (λ (i : ℕ). Answers i r t b out at b′ out′ a) (sym e) h
 
-pub notice-answers : (r b out out′ x : List ℕ) (held at next : ℕ) → held ≤ length b → Sound (take held b) → x ≡ take held b → Put out at (ranLine (runningOf x r)) out′ next → next ≤ at + 80
+pub notice-answers : (r b out out′ x : List ℕ) (held at next : ℕ) → held ≤ length b → Sound (take held b) → x ≡ take held b → Put out at (ranLine (runningOf x r)) out′ next → next ≤ at + lineRoom
     → Answers 1 r (take held b) b out at b out′ (record { held = held; next = next })
 notice-answers r b out out′ x held at next w d e p h =
     record { within = w; table = refl; sound = d; buffer = refl; line = renamed (ap (λ (l : List ℕ). ranLine (runningOf l r)) e) p; short = h }
 
-pub other-answers : (k : ℕ) (r b out out′ : List ℕ) (held at next : ℕ) → (k ≡ 3 → ⊥) → (k ≡ 1 → ⊥) → held ≤ length b → Sound (take held b) → Put out at (kindLine k) out′ next → next ≤ at + 80
+pub other-answers : (k : ℕ) (r b out out′ : List ℕ) (held at next : ℕ) → (k ≡ 3 → ⊥) → (k ≡ 1 → ⊥) → held ≤ length b → Sound (take held b) → Put out at (kindLine k) out′ next → next ≤ at + lineRoom
     → Answers k r (take held b) b out at b out′ (record { held = held; next = next })
 other-answers k r b out out′ held at next h3 h1 w d p h =
     let et : take held b ≡ tableAfter (length b) (take held b) k r = simp (ne-eqb k 3 h3) in
@@ -95,7 +97,7 @@ module _ (n : ℕ) (last : Bool) (t b s : List ℕ) where
   pub serving-waits : waitsOf (recordOf s) last ≡ true → servingOf (suc n) last t b s ≡ stopped Waiting [] t b
   unfolding servingOf
   serving-waits e =
-      ap (λ (w : Bool). pickServing w (λ _. stopped Waiting [] t b)
+      ap (λ (w : Bool). pick w (λ _. stopped Waiting [] t b)
       (λ _. onRecord (recordOf s) (λ _. stopped Waiting [] t b)
       (λ kind size. prepend (lineOf (length b) t kind (take size s)) size
       (servingOf n last (tableAfter (length b) t kind (take size s)) (bufferAfter b kind (take size s)) (drop size s)))
@@ -103,7 +105,7 @@ module _ (n : ℕ) (last : Bool) (t b s : List ℕ) where
 
   serving-by : Record → Serving
   serving-by r =
-      pickServing (waitsOf r last) (λ _. stopped Waiting [] t b)
+      pick (waitsOf r last) (λ _. stopped Waiting [] t b)
       (λ _. onRecord r (λ _. stopped Waiting [] t b)
       (λ kind size. prepend (lineOf (length b) t kind (take size s)) size
       (servingOf n last (tableAfter (length b) t kind (take size s)) (bufferAfter b kind (take size s)) (drop size s)))
@@ -120,7 +122,7 @@ module _ (n : ℕ) (last : Bool) (t b s : List ℕ) where
 
   error-by : (r : Record) → waitsOf r last ≡ false → ((kind size : ℕ) → r ≡ Whole kind size → ⊥) → serving-by r ≡ stopped Ended errorLine t b
   unfolding serving-by
-  error-by End w h = let z : _≡_ {A = ℕ} 0 1 = cc in absurd (omega arith)
+  error-by End w h = true-false (cc)
   error-by (Whole kind size) w h = absurd (h kind size refl)
   error-by Cut w h = rw w
   error-by Wrong w h = refl
@@ -154,17 +156,17 @@ pub record Along (input : List ℕ) (last : Bool) (b₀ : List ℕ) (held₀ : �
   pub placed : at ≤ length input
   pub within : held ≤ length b
   pub sound : Sound (take held b)
-  pub room : written + 80 * left ≤ length out
+  pub room : written + lineRoom * left ≤ length out
   pub same-buffer : length b ≡ length b₀
   pub same-out : length out ≡ length out₀
   pub stored : Put out₀ 0 lines out written
   pub whole : prepend lines at (servingOf left last (take held b) b (drop at input)) ≡ servingOf turns last (take held₀ b₀) b₀ input
 
-pub along-first : (input : List ℕ) (last : Bool) (b : List ℕ) (held : ℕ) (out : List ℕ) (turns : ℕ) → held ≤ length b → Sound (take held b) → 80 * turns ≤ length out
+pub along-first : (input : List ℕ) (last : Bool) (b : List ℕ) (held : ℕ) (out : List ℕ) (turns : ℕ) → held ≤ length b → Sound (take held b) → lineRoom * turns ≤ length out
     → Along input last b held out turns b out 0 held 0 turns
 along-first input last b held out turns w d h =
     let p : 0 ≤ length input = omega arith in
-    let r : 0 + 80 * turns ≤ length out = omega arith in
+    let r : 0 + lineRoom * turns ≤ length out = omega arith in
     record {
       lines = [];
       placed = p;
@@ -198,7 +200,7 @@ along-more {input} {last} {b₀} {held₀} {out₀} {turns} {b} {out} {at} {held
     ∙ ap₂ (λ (y z : List ℕ). servingOf n last (tableAfter (length b) t kind r) y z) eb ed in
     let step : prepend line size (servingOf n last (take (a .held) b′) b′ (drop (at + size) input)) ≡ servingOf left last t b s =
     ap (λ (σ : Serving). prepend line size σ) now ∙ sym (serving-whole n last t b s kind size e) ∙ ap (λ (k : ℕ). servingOf k last t b s) (sym en) in
-    let room′ : a .next + 80 * n ≤ length out′ = omega (arith, q .short, l .room) in
+    let room′ : a .next + lineRoom * n ≤ length out′ = omega (arith, q .short, l .room) in
     record {
       lines = l .lines ++ line;
       placed = h;
@@ -252,7 +254,7 @@ module _ {input : List ℕ} {last : Bool} {b₀ : List ℕ} {held₀ : ℕ} {out
       stops Waiting (ap (λ (k : ℕ). servingOf k last (take held b) b (drop at input)) en ∙ serving-waits (left - 1) last (take held b) b (drop at input) w)
 
   pub along-error : (out′ : List ℕ) (end : ℕ) → 0 < left → waitsOf (recordOf (drop at input)) last ≡ false → ((kind size : ℕ) → recordOf (drop at input) ≡ Whole kind size → ⊥)
-      → length out′ ≡ length out → end ≤ written + 80 → Put out written errorLine out′ end
+      → length out′ ≡ length out → end ≤ written + lineRoom → Put out written errorLine out′ end
       → Serves (servingOf turns last (take held₀ b₀) b₀ input) input out₀ b out′ (record { taken = at; held = held; written = end; stop = Ended })
   along-error out′ end p w h lo f q =
       let en : left ≡ suc (left - 1) = omega arith in

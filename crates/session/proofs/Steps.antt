@@ -7,6 +7,7 @@ use native.Mathlib.Omega.{arith}
 use borrow.Author.Tests.{lt-ltb, le-ltb}
 use lib.ListN.{length, take, drop, length-drop}
 use lib.Seq.{sets, length-sets, length-take-le, take-nil, take-add, drop-drop}
+use Rattle.common.proofs.Choice.{true-false}
 use Rattle.record.specs.declared.Record.{Record}
 use Rattle.record.specs.declared.Record.the-variants.{End, Whole, Cut, Wrong}
 use Rattle.record.specs.Record.{recordOf, waitsOf}
@@ -24,9 +25,6 @@ use Rattle.session.specs.Serving.{bufferAfter, Serving, servingOf, Serve
 use Rattle.session.specs.State.{pending, Stands, Ready, nextOf, servingNow, Turns, crowded, moved, MakesRoom, Reads, arrived, receivedOf}
 use Rattle.session.proofs.Laws.{from-start, stored-front, serving-waits, serving-whole, serving-error}
 
-differ : {A : Type 0} → _≡_ {A = ℕ} 0 1 → A
-differ e = absurd (omega arith)
-
 drop-take : (k n : ℕ) (l : List ℕ) → drop k (take n l) ≡ take (n - k) (drop k l)
 drop-take zero n l = let e : n ≡ n - 0 = omega arith in ap (λ (m : ℕ). take m l) e
 drop-take (suc k) zero l = let e : 0 ≡ 0 - suc k = omega arith in ap (λ (m : ℕ). take m (drop (suc k) l)) e
@@ -41,14 +39,14 @@ Rests last s σ = σ .stop ≡ Waiting → waitsOf (recordOf (drop (σ .taken) s
 
 pub waiting-rest : (n : ℕ) (last : Bool) (t b s : List ℕ) → Rests last s (servingOf n last t b s)
 unfolding servingOf
-waiting-rest zero last t b s = λ h. differ (cc)
+waiting-rest zero last t b s = λ h. true-false (cc)
 waiting-rest (suc n) last t b s = by (recordOf s) refl last refl (λ kind size. waiting-rest n last (tableAfter (length b) t kind (take size s)) (bufferAfter b kind (take size s)) (drop size s))
   where
     waits : waitsOf (recordOf s) last ≡ true → Rests last s (servingOf (suc n) last t b s)
     waits w = subst (λ (σ : Serving). Rests last s σ) (sym (serving-waits n last t b s w)) (λ h. w)
 
     ends : waitsOf (recordOf s) last ≡ false → ((kind size : ℕ) → recordOf s ≡ Whole kind size → ⊥) → Rests last s (servingOf (suc n) last t b s)
-    ends w f = subst (λ (σ : Serving). Rests last s σ) (sym (serving-error n last t b s w f)) (λ h. differ (cc))
+    ends w f = subst (λ (σ : Serving). Rests last s σ) (sym (serving-error n last t b s w f)) (λ h. true-false (cc))
 
     by : (r : Record) → recordOf s ≡ r → (l : Bool) → last ≡ l
         → ((kind size : ℕ) → Rests last (drop size s) (servingOf n last (tableAfter (length b) t kind (take size s)) (bufferAfter b kind (take size s)) (drop size s)))
@@ -59,17 +57,17 @@ waiting-rest (suc n) last t b s = by (recordOf s) refl last refl (λ kind size. 
         subst (λ (τ : Serving). Rests last s τ) (sym (serving-whole n last t b s kind size e))
         (λ h. ap (λ (x : List ℕ). waitsOf (recordOf x) last) (sym (drop-drop (σ .taken) size s)) ∙ ih kind size h)
     by Cut e false el ih = waits (ap (λ (r : Record). waitsOf r last) e ∙ ap not el)
-    by Cut e true el ih = ends (ap (λ (r : Record). waitsOf r last) e ∙ ap not el) (λ kind size f. differ (cc))
-    by Wrong e l el ih = ends (ap (λ (r : Record). waitsOf r last) e) (λ kind size f. differ (cc))
+    by Cut e true el ih = ends (ap (λ (r : Record). waitsOf r last) e ∙ ap not el) (λ kind size f. true-false (cc))
+    by Wrong e l el ih = ends (ap (λ (r : Record). waitsOf r last) e) (λ kind size f. true-false (cc))
 
 waits-short : (s : List ℕ) (last : Bool) → waitsOf (recordOf s) last ≡ true → length s < 16384
 waits-short s last w = by (recordOf s) refl
   where
     by : (r : Record) → recordOf s ≡ r → length s < 16384
     by End e = let z = end-empty s e in omega arith
-    by (Whole kind size) e = let f : waitsOf (recordOf s) last ≡ false = ap (λ (r : Record). waitsOf r last) e in differ (cc)
+    by (Whole kind size) e = let f : waitsOf (recordOf s) last ≡ false = ap (λ (r : Record). waitsOf r last) e in true-false (cc)
     by Cut e = cut-short s e
-    by Wrong e = let f : waitsOf (recordOf s) last ≡ false = ap (λ (r : Record). waitsOf r last) e in differ (cc)
+    by Wrong e = let f : waitsOf (recordOf s) last ≡ false = ap (λ (r : Record). waitsOf r last) e in true-false (cc)
 
 -- at the input's end nothing is left
 pub waits-none : (s : List ℕ) → waitsOf (recordOf s) true ≡ true → length s ≡ 0
@@ -77,16 +75,16 @@ waits-none s w = by (recordOf s) refl
   where
     by : (r : Record) → recordOf s ≡ r → length s ≡ 0
     by End e = end-empty s e
-    by (Whole kind size) e = let f : waitsOf (recordOf s) true ≡ false = ap (λ (r : Record). waitsOf r true) e in differ (cc)
-    by Cut e = let f : waitsOf (recordOf s) true ≡ false = ap (λ (r : Record). waitsOf r true) e in differ (cc)
-    by Wrong e = let f : waitsOf (recordOf s) true ≡ false = ap (λ (r : Record). waitsOf r true) e in differ (cc)
+    by (Whole kind size) e = let f : waitsOf (recordOf s) true ≡ false = ap (λ (r : Record). waitsOf r true) e in true-false (cc)
+    by Cut e = let f : waitsOf (recordOf s) true ≡ false = ap (λ (r : Record). waitsOf r true) e in true-false (cc)
+    by Wrong e = let f : waitsOf (recordOf s) true ≡ false = ap (λ (r : Record). waitsOf r true) e in true-false (cc)
 
 -- more is read where a stretch waits and the input has not ended
 pub read-waits : (stop : Stop) (last : Bool) → nextOf stop last ≡ Read → (stop ≡ Waiting) × (last ≡ false)
-read-waits Full last e = differ (cc)
-read-waits Waiting true e = differ (cc)
+read-waits Full last e = true-false (cc)
+read-waits Waiting true e = true-false (cc)
 read-waits Waiting false e = (refl, refl)
-read-waits Ended last e = differ (cc)
+read-waits Ended last e = true-false (cc)
 
 -- ---- a turn
 
@@ -230,7 +228,7 @@ received-ready {input} {table} {input′} {s} (UpTo e) y q =
     let order : s .from ≤ e = omega (arith, q .reach .0, y .stands .order) in
     let within : e ≤ length input′ = omega (arith, q .reach .1, q .size) in
     let large : 16384 ≤ length input′ = omega (arith, q .size, y .stands .large) in
-    record { stands = record { order = order; within = within; large = large; short = λ h. differ (cc) }; held = y .held; sound = y .sound }
+    record { stands = record { order = order; within = within; large = large; short = λ h. true-false (cc) }; held = y .held; sound = y .sound }
 received-ready {input} {table} {input′} {s} Again y q =
     let within : s .end ≤ length input′ = omega (arith, q .size, y .stands .within) in
     let large : 16384 ≤ length input′ = omega (arith, q .size, y .stands .large) in

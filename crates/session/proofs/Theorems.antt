@@ -8,7 +8,8 @@ use native.Mathlib.Omega.{arith}
 use borrow.Author.Tests.{eq-eqb}
 use lib.ListN.{length, take, drop, length-append, length-drop}
 use lib.Seq.{length-sets, take-append-le, drop-append-le, drop-drop}
-use Rattle.table.specs.Table.{layoutOf}
+use Rattle.common.proofs.Choice.{true-false}
+use Rattle.table.specs.Table.{mostBytes, layoutOf}
 use Rattle.table.specs.Check.{checkOf}
 use Rattle.record.specs.declared.Record.{Record}
 use Rattle.record.specs.declared.Record.the-variants.{End, Whole, Cut, Wrong}
@@ -22,7 +23,7 @@ use Rattle.session.specs.declared.Next.the-variants.{Read}
 use Rattle.session.specs.declared.Brought.{Brought}
 use Rattle.session.specs.declared.Brought.the-variants.{UpTo, Again}
 use Rattle.session.specs.declared.State.{State}
-use Rattle.session.specs.Session.{lineOf, tableAfter, onRecord, outputFrom, mostTable, outputAfter, outputOf}
+use Rattle.session.specs.Session.{lineOf, tableAfter, onRecord, outputFrom, outputAfter, outputOf}
 use Rattle.session.specs.Serving.{bufferAfter, Serving, servingOf}
 use Rattle.session.specs.State.{pending, nextOf, servingNow, crowded, arrived, receivedOf}
 use Rattle.session.specs.History.{Session, begins, answers, moves, reads, toCome}
@@ -168,12 +169,12 @@ in-pieces (suc n) (suc m) last table buffer s t hl hm =
     by Cut e false el ih = waits-together n m last table buffer s t hl hm (ap (λ (r : Record). waitsOf r last) e ∙ ap not el)
     by Cut e true el ih =
         error-together n m last table buffer s t hl hm (ap (λ (r : Record). waitsOf r last) e ∙ ap not el)
-        (never Cut e (λ kind size f. let z : _≡_ {A = ℕ} 0 1 = cc in omega arith))
+        (never Cut e (λ kind size f. true-false (cc)))
         (ap (λ (x : List ℕ). outputFrom (suc m) (length buffer) table (s ++ x)) (hl el) ∙ ap (λ (x : List ℕ). outputFrom (suc m) (length buffer) table x) (append-nil s)
         ∙ output-cut m (length buffer) table s e)
     by Wrong e l el ih =
         error-together n m last table buffer s t hl hm (ap (λ (r : Record). waitsOf r last) e)
-        (never Wrong e (λ kind size f. let z : _≡_ {A = ℕ} 0 1 = cc in omega arith))
+        (never Wrong e (λ kind size f. true-false (cc)))
         (output-wrong m (length buffer) table (s ++ t) (wrong-grows s t e))
 
 pub no-table : NoTable
@@ -194,7 +195,7 @@ always-ready input table read written s (moves h e q) = room-ready (always-ready
 always-ready input table read written s (reads {b = b} h e q) = received-ready b (always-ready _ _ _ _ _ h) q
 
 -- the table's buffer keeps its length
-long-table : (input table read written : List ℕ) (s : State) → Session input table s read written → length table ≡ mostTable
+long-table : (input table read written : List ℕ) (s : State) → Session input table s read written → length table ≡ mostBytes
 long-table input table read written s (begins h e) = e
 long-table input table read written s (answers h e q) = q .size ∙ long-table _ _ _ _ _ h
 long-table input table read written s (moves h e q) = long-table _ _ _ _ _ h
@@ -210,11 +211,11 @@ still-open input table read written s (moves {input = input₀} {s = s₀} h e q
 still-open input table read written s (reads {s = s₀} {b = b} h e q) z = by b z (still-open _ _ _ _ _ h e)
   where
     by : (b : Brought) → receivedOf s₀ b .next ≡ Read → s₀ .last ≡ false → receivedOf s₀ b .last ≡ false
-    by (UpTo n) w o = let d : _≡_ {A = ℕ} 0 1 = cc in absurd (omega arith)
+    by (UpTo n) w o = true-false (cc)
     by Again w o = o
 
 -- a turn's lines, and then what is printed for the rest
-turn-output : (n : ℕ) (last : Bool) (tb table p t : List ℕ) → (last ≡ true → t ≡ []) → length table ≡ mostTable
+turn-output : (n : ℕ) (last : Bool) (tb table p t : List ℕ) → (last ≡ true → t ≡ []) → length table ≡ mostBytes
     → (servingOf n last tb table p .lines
     ++ toCome (nextOf (servingOf n last tb table p .stop) last) (outputAfter (servingOf n last tb table p .table) (drop (servingOf n last tb table p .taken) p ++ t)))
     ≡ outputAfter tb (p ++ t)
@@ -227,7 +228,7 @@ turn-output n last tb table p t hl e =
     let l3 = length-drop (σ .taken) p in
     let fits : length x ≤ m = omega arith in
     let fuel : outputAfter (σ .table) x ≡ outputFrom m (length table) (σ .table) x =
-    same-output (length x) m mostTable (σ .table) x (omega arith) fits ∙ ap (λ (k : ℕ). outputFrom m k (σ .table) x) (sym e) in
+    same-output (length x) m mostBytes (σ .table) x (omega arith) fits ∙ ap (λ (k : ℕ). outputFrom m k (σ .table) x) (sym e) in
     ap (λ (y : List ℕ). σ .lines ++ y) (by (σ .stop) refl last refl fuel)
     ∙ in-pieces n m last tb table p t hl (omega arith)
     ∙ ap (λ (k : ℕ). outputFrom m k tb (p ++ t)) e
@@ -278,7 +279,7 @@ printed input table read written s (reads {input = input₀} {read = read₀} {s
     let x : List ℕ = arrived input (s₀ .end) b in
     let o : s₀ .last ≡ false = still-open _ _ _ _ _ h e in
     let before : (written ++ toCome (s₀ .next) (outputAfter (take (s₀ .held) table) (pending input₀ s₀ ++ (x ++ t)))) ≡ outputOf (read₀ ++ (x ++ t)) =
-    printed _ _ _ _ _ h (x ++ t) (λ z. let d : _≡_ {A = ℕ} 0 1 = cc in absurd (omega arith)) in
+    printed _ _ _ _ _ h (x ++ t) (λ z. true-false (cc)) in
     by b refl
     ∙ ap (λ (y : List ℕ). written ++ outputAfter (take (s₀ .held) table) (y ++ t)) (pending-received input₀ input s₀ (always-ready _ _ _ _ _ h .stands) b q)
     ∙ ap (λ (y : List ℕ). written ++ outputAfter (take (s₀ .held) table) y) (append-assoc (pending input₀ s₀) x t)

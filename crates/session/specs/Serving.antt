@@ -1,13 +1,14 @@
 -- The input comes in pieces and the lines leave through a buffer: what is answered of a stretch of the input.
 use Prim.Native.Nat.{ℕ, zero, suc, _+_, _*_, _≤_}
-use mathlib.Core.Bool.{Bool, true, false}
+use mathlib.Core.Bool.{Bool}
 use mathlib.Core.List.{List, [], _++_}
 use mathlib.Core.Path.{_≡_}
 use lib.ListN.{length, take, drop}
 use lib.Seq.{sets}
+use Rattle.common.specs.Choice.{pick}
 use Rattle.record.specs.declared.Record.{Record}
 use Rattle.record.specs.Record.{recordOf, waitsOf}
-use Rattle.record.specs.Line.{pick, errorLine, Put}
+use Rattle.record.specs.Line.{errorLine, lineRoom, Put}
 use Rattle.session.specs.declared.Stop.{Stop}
 use Rattle.session.specs.declared.Stop.the-variants.{Full, Waiting, Ended}
 use Rattle.session.specs.declared.Answered.{Answered}
@@ -33,15 +34,11 @@ stopped stop lines table buffer = record { lines = lines; table = table; buffer 
 abbrev pub prepend : List ℕ → ℕ → Serving → Serving
 prepend line size σ = record { lines = line ++ σ .lines; table = σ .table; buffer = σ .buffer; taken = size + σ .taken; stop = σ .stop }
 
-abbrev pub pickServing : Bool → (Unit {0} → Serving) → (Unit {0} → Serving) → Serving
-pickServing true x y = x tt
-pickServing false x y = y tt
-
 -- at most so many records of the stretch s, after which more input comes unless `last`
 unfoldable pub servingOf : ℕ → Bool → List ℕ → List ℕ → List ℕ → Serving
 servingOf zero last table buffer s = stopped Full [] table buffer
 servingOf (suc n) last table buffer s =
-    pickServing (waitsOf (recordOf s) last) (λ _. stopped Waiting [] table buffer)
+    pick (waitsOf (recordOf s) last) (λ _. stopped Waiting [] table buffer)
     (λ _. onRecord (recordOf s) (λ _. stopped Waiting [] table buffer)
     (λ kind size. prepend (lineOf (length buffer) table kind (take size s)) size
     (servingOf n last (tableAfter (length buffer) table kind (take size s)) (bufferAfter buffer kind (take size s)) (drop size s)))
@@ -54,7 +51,7 @@ pub record Answers (kind : ℕ) (r t b out : List ℕ) (at : ℕ) (b′ out′ :
   pub sound : Sound (take (a .held) b′)
   pub buffer : b′ ≡ bufferAfter b kind r
   pub line : Put out at (lineOf (length b) t kind r) out′ (a .next)
-  pub short : a .next ≤ at + 80
+  pub short : a .next ≤ at + lineRoom
 
 -- what a stretch leaves: a sound table, no more was taken than there is, and the lines have room
 pub record Serves (σ : Serving) (input out b′ out′ : List ℕ) (a : Served) : Type 0 where

@@ -1,16 +1,18 @@
 -- What the program `verdict` prints. Document 01, "Examples": "Kind 3 is a subscription text, which replaces the last one even if refused; kind 1 a notice. It prints `S number place length` or
 -- `N number verdict steps place` (.. no table gives 12), `X kind` for another kind, and `E` and stops where a record is cut, or its length is under 2 or over 16,380."
 use Prim.Native.Nat.{ℕ, zero, suc}
-use mathlib.Core.Bool.{Bool, true, false}
+use mathlib.Core.Bool.{true}
 use mathlib.Core.List.{List, [], _++_}
 use mathlib.Core.Logic.{_⊎_}
 use mathlib.Core.Path.{_≡_}
 use lib.Dec.{eqb}
 use lib.ListN.{length, take, drop}
+use Rattle.common.specs.Choice.{pick}
 use Rattle.record.specs.declared.Record.{Record}
 use Rattle.record.specs.declared.Record.the-variants.{End, Whole, Cut, Wrong}
 use Rattle.record.specs.Record.{recordOf}
-use Rattle.record.specs.Line.{pick, textLine, noticeLine, kindLine, errorLine}
+use Rattle.record.specs.Line.{textLine, noticeLine, kindLine, errorLine}
+use Rattle.table.specs.Table.{mostBytes}
 use Rattle.table.specs.Check.{checkOf}
 use Rattle.translator.specs.Translation.{Outcome, translationOf}
 use Rattle.interpreter.specs.Running.{runningOf}
@@ -54,13 +56,9 @@ outputFrom (suc n) room table s =
     (λ kind size. lineOf room table kind (take size s) ++ outputFrom n room (tableAfter room table kind (take size s)) (drop size s))
     (λ _. errorLine)
 
--- the bytes of the longest table: a header of 10, 512 entries of 12, a pool of 4,096
-abbrev pub mostTable : ℕ
-mostTable = 10250
-
--- What is printed for the bytes s, where `table` is the last text's. A record takes at least six bytes, so there are fewer than s has.
+-- What is printed for the bytes s, where `table` is the last text's and tables have room for the longest. A record takes at least six bytes, so there are fewer than s has.
 abbrev pub outputAfter : List ℕ → List ℕ → List ℕ
-outputAfter table s = outputFrom (length s) mostTable table s
+outputAfter table s = outputFrom (length s) mostBytes table s
 
 -- the whole output for the whole input
 abbrev pub outputOf : List ℕ → List ℕ

@@ -6,7 +6,7 @@ use mathlib.Core.Path.{_≡_}
 use lib.Dec.{ltb, eqb}
 use lib.ListN.{length, take, drop}
 use lib.Seq.{sets}
-use Rattle.record.specs.Line.{Put}
+use Rattle.record.specs.Line.{lineRoom, Put}
 use Rattle.session.specs.declared.Stop.{Stop}
 use Rattle.session.specs.declared.Stop.the-variants.{Full, Waiting, Ended}
 use Rattle.session.specs.declared.Next.{Next}
@@ -49,7 +49,7 @@ nextOf Ended last = Done
 
 -- what is answered of the bytes that are there, as many lines as `out` has room for
 abbrev pub servingNow : List ℕ → List ℕ → List ℕ → State → Serving
-servingNow input table out s = servingOf (length out / 80) (s .last) (take (s .held) table) table (pending input s)
+servingNow input table out s = servingOf (length out / lineRoom) (s .last) (take (s .held) table) table (pending input s)
 
 -- what is answered is no longer pending, its lines stand at the output's start, and the other bytes of the output stay
 pub record Turned (σ : Serving) (input table out : List ℕ) (s : State) (table′ out′ : List ℕ) (r : State) : Type 0 where

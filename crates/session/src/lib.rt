@@ -3,15 +3,13 @@ ghost use mathlib.Core.Path.{_≡_};
 ghost use mathlib.Core.List.{List};
 ghost use Prim.Native.Nat.{ℕ, _+_, _-_, _/_, _≤_};
 ghost use lib.ListN.{length, take};
-ghost use Rattle.record.specs.Line.{Put};
-ghost use Rattle.interpreter.specs.Running.{refused as refusedWith, runningOf};
+ghost use Rattle.record.specs.Line.{lineRoom, Put};
+ghost use Rattle.interpreter.specs.Running.{runningOf};
 ghost use Rattle.session.specs.Session.{ranLine, Sound};
 ghost use Rattle.session.specs.Serving.{Answers, Serves, servingOf};
 ghost use Rattle.session.specs.State.{first, Stands, Ready, nextOf, Turns, MakesRoom, receivedOf};
 use interpreter::Ran;
-use notice::Layout;
 use record::Record;
-use truth::Truth;
 
 // What a record leaves: the length of the table, 0 where there is none, and the place after the line.
 struct Answered {
@@ -21,7 +19,7 @@ struct Answered {
 
 // Kind 3. It asks for the kind, which the record reader found, and for room for a line.
 fn answer_text(bytes: &[u8], table: &mut [u8], out: &mut [u8], at: usize) -> Answered
-    requires { ⌜ (6 ≤ length (now bytes)) × (at + 80 ≤ length (now out)) ⌝ }
+    requires { ⌜ (6 ≤ length (now bytes)) × (at + lineRoom ≤ length (now out)) ⌝ }
     ensures { λ r. ⌜ ((t : List ℕ) → Answers 3 (now (bytes .entry)) t (now (table .entry)) (now (out .entry)) at (now (table .exit)) (now (out .exit)) r) ⌝ }
 {
     let t = translator::translate(&bytes[6..], table);
@@ -32,38 +30,23 @@ fn answer_text(bytes: &[u8], table: &mut [u8], out: &mut [u8], at: usize) -> Ans
     }
 }
 
-fn refused(number: u8, place: usize) -> Ran
-    ensures { λ r. ⌜ r ≡ refusedWith number place ⌝ }
-{
-    Ran {
-        number: number,
-        place: place,
-        verdict: Truth::Bottom,
-        steps: 0,
-    }
-}
-
-// What the guarded run answers, with no table check: an empty table fails it, and any other that is kept passes it.
-fn run_kept<'a>(table: &'a [u8], notice: &'a [u8]) -> Ran
+// The guarded run of the last text's table: an empty one fails the check, and any other that is kept passes it.
+fn run_last<'a>(table: &'a [u8], notice: &'a [u8]) -> Ran
     requires { ⌜ Sound (now table) ⌝ }
     ensures { λ r. ⌜ r ≡ runningOf (now (table .entry)) (now (notice .entry)) ⌝ }
 {
     if table.len() == 0 {
-        return refused(12, 0);
+        return interpreter::run(table, notice);
     }
-    let layout = notice::check(notice);
-    match layout {
-        Layout::WellFormed => interpreter::run_whole(table, notice),
-        Layout::Fault(place) => refused(11, place),
-    }
+    interpreter::run_kept(table, notice)
 }
 
 // Kind 1: the table on the notice. It asks for a table that is kept and for room for a line.
 fn put_verdict<'a>(table: &'a [u8], notice: &'a [u8], out: &mut [u8], at: usize) -> usize
-    requires { ⌜ Sound (now table) × (at + 80 ≤ length (now out)) ⌝ }
-    ensures { λ r. ⌜ Put (now (out .entry)) at (ranLine (runningOf (now (table .entry)) (now (notice .entry)))) (now (out .exit)) r × (r ≤ at + 80) ⌝ }
+    requires { ⌜ Sound (now table) × (at + lineRoom ≤ length (now out)) ⌝ }
+    ensures { λ r. ⌜ Put (now (out .entry)) at (ranLine (runningOf (now (table .entry)) (now (notice .entry)))) (now (out .exit)) r × (r ≤ at + lineRoom) ⌝ }
 {
-    let a = run_kept(table, notice);
+    let a = run_last(table, notice);
     let verdict = a.verdict;
     record::put_notice_line(
         out,
@@ -85,7 +68,7 @@ fn answer(
     out: &mut [u8],
     at: usize,
 ) -> Answered
-    requires { ⌜ (6 ≤ length (now bytes)) × (held ≤ length (now table)) × Sound (take held (now table)) × (at + 80 ≤ length (now out)) ⌝ }
+    requires { ⌜ (6 ≤ length (now bytes)) × (held ≤ length (now table)) × Sound (take held (now table)) × (at + lineRoom ≤ length (now out)) ⌝ }
     ensures { λ r. ⌜ Answers kind (now (bytes .entry)) (take held (now (table .entry))) (now (table .entry)) (now (out .entry)) at (now (table .exit)) (now (out .exit)) r ⌝ }
 {
     if kind == 3 {
@@ -123,16 +106,16 @@ struct Served {
     stop: Stop,
 }
 
-// Answers the records of a stretch of the input, as many as `out` has room for lines of 80 bytes. `last`: the input ends with the stretch.
+// Answers the records of a stretch of the input, as many as `out` has room for lines. `last`: the input ends with the stretch.
 // It asks that the table lies in its buffer and is sound, as one that it left is, and as none is.
 fn serve(input: &[u8], last: bool, table: &mut [u8], held: usize, out: &mut [u8]) -> Served
     requires { ⌜ (held ≤ length (now table)) × Sound (take held (now table)) ⌝ }
-    ensures { λ r. ⌜ Serves (servingOf (length (now (out .entry)) / 80) last (take held (now (table .entry))) (now (table .entry)) (now (input .entry))) (now (input .entry)) (now (out .entry)) (now (table .exit)) (now (out .exit)) r ⌝ }
+    ensures { λ r. ⌜ Serves (servingOf (length (now (out .entry)) / lineRoom) last (take held (now (table .entry))) (now (table .entry)) (now (input .entry))) (now (input .entry)) (now (out .entry)) (now (table .exit)) (now (out .exit)) r ⌝ }
 {
     let mut at = 0;
     let mut size_held = held;
     let mut written = 0;
-    let mut left = out.len() / 80;
+    let mut left = out.len() / record::LINE_ROOM;
     while 0 < left {
         let found = record::next_record(&input[at..]);
         if record::waits(found, last) {
@@ -251,7 +234,7 @@ pub fn make_room(input: &mut [u8], s: State) -> State
     let end = s.end;
     let next = s.next;
     if input.len() - end < 16384 {
-        record::move_down(input, from, end);
+        common::move_down(input, 0, from, end);
         return State {
             from: 0,
             end: end - from,

@@ -7,7 +7,7 @@ use lib.Dec.{lit<}
 use lib.ListN.{length, getD, take, drop, length-append, take-append-drop}
 use lib.Seq.{drop-at, take-add, drop-drop, getD-drop}
 use Rattle.word.specs.Word.{wordAt, wordBytes, Bytes}
-use Rattle.word.proofs.Laws.{length-leBytes}
+use Rattle.word.proofs.Laws.{length-wordBytes}
 use Rattle.word.proofs.Theorems.{bytes-read, read-bytes, bounded}
 use Rattle.table.specs.Table.{Entry, blank, Program, entryBytes, entriesBytes, bodyBytes, encode, countOf, poolLengthOf, entryAt, entriesFrom, entriesOf, poolOf, decode}
 use Rattle.table.specs.Theorems.{Fits, Limits}
@@ -17,7 +17,7 @@ use Rattle.table.proofs.Laid.{Laid, pool-length}
 -- ---- lengths
 
 length-entry : (e : Entry) → length (entryBytes e) ≡ 12
-length-entry e = simp (length-append, length-leBytes)
+length-entry e = simp (length-append, length-wordBytes)
 
 length-entriesBytes : (es : List Entry) → length (entriesBytes es) ≡ 12 * length es
 unfolding entriesBytes
@@ -30,11 +30,11 @@ length-entriesBytes (e ∷ es) =
 module _ (p : Program) where
   pub length-body : length (bodyBytes p) ≡ 6 + 12 * length (p .entries) + length (p .pool)
   unfolding bodyBytes
-  length-body = simp (length-append, length-leBytes, length-entriesBytes) (omega arith)
+  length-body = simp (length-append, length-wordBytes, length-entriesBytes) (omega arith)
 
   pub length-encode : length (encode p) ≡ 10 + 12 * length (p .entries) + length (p .pool)
   unfolding encode
-  length-encode = simp (length-append, length-leBytes, length-body) (omega arith)
+  length-encode = simp (length-append, length-wordBytes, length-body) (omega arith)
 
 -- ---- reading what was written
 
@@ -46,9 +46,9 @@ entry-read : (i : ℕ) (e : Entry) (pre post s : List ℕ) → s ≡ pre ++ (ent
 entry-read i e pre post s q l f =
     let o = word-at 2 (e .op) (10 + 12 * i) pre (wordBytes 2 (e .a) ++ (wordBytes 8 (e .b) ++ post)) s (q ∙ simp append-assoc) l (f .op) in
     let a =
-    word-at 2 (e .a) (12 + 12 * i) (pre ++ wordBytes 2 (e .op)) (wordBytes 8 (e .b) ++ post) s (q ∙ simp append-assoc) (simp (length-append, length-leBytes) (omega arith)) (f .a) in
+    word-at 2 (e .a) (12 + 12 * i) (pre ++ wordBytes 2 (e .op)) (wordBytes 8 (e .b) ++ post) s (q ∙ simp append-assoc) (simp (length-append, length-wordBytes) (omega arith)) (f .a) in
     let b =
-    word-at 8 (e .b) (14 + 12 * i) (pre ++ (wordBytes 2 (e .op) ++ wordBytes 2 (e .a))) post s (q ∙ simp append-assoc) (simp (length-append, length-leBytes) (omega arith)) (f .b) in
+    word-at 8 (e .b) (14 + 12 * i) (pre ++ (wordBytes 2 (e .op) ++ wordBytes 2 (e .a))) post s (q ∙ simp append-assoc) (simp (length-append, length-wordBytes) (omega arith)) (f .b) in
     rw (o, a, b)
 
 entries-read : (es : List Entry) (i : ℕ) (pre post s : List ℕ) → s ≡ pre ++ (entriesBytes es ++ post) → length pre ≡ 10 + 12 * i
@@ -58,7 +58,7 @@ entries-read [] i pre post s q l f = refl
 entries-read (e ∷ es) i pre post s q l f =
     let x = entry-read i e pre (entriesBytes es ++ post) s (q ∙ simp append-assoc) l (f 0 (omega arith)) in
     let y =
-    entries-read es (suc i) (pre ++ entryBytes e) post s (q ∙ simp append-assoc) (simp (length-append, length-leBytes) (omega arith)) (λ k h. f (suc k) (omega arith)) in
+    entries-read es (suc i) (pre ++ entryBytes e) post s (q ∙ simp append-assoc) (simp (length-append, length-wordBytes) (omega arith)) (λ k h. f (suc k) (omega arith)) in
     ap₂ (λ (z : Entry) (zs : List Entry). z ∷ zs) x y
 
 -- the header of what was written
@@ -69,33 +69,33 @@ module _ (p : Program) (l : Limits p) where
 
   kind-read : wordAt 2 (encode p) 4 ≡ 2
   unfolding encode bodyBytes
-  kind-read = word-at 2 2 4 (wordBytes 4 (length (bodyBytes p))) _ (encode p) refl (length-leBytes 4 (length (bodyBytes p))) (lit< tt)
+  kind-read = word-at 2 2 4 (wordBytes 4 (length (bodyBytes p))) _ (encode p) refl (length-wordBytes 4 (length (bodyBytes p))) (lit< tt)
 
   count-read : countOf (encode p) ≡ length (p .entries)
   unfolding encode bodyBytes
   count-read =
       word-at 2 (length (p .entries)) 6 (wordBytes 4 (length (bodyBytes p)) ++ wordBytes 2 2) (wordBytes 2 (length (p .pool)) ++ (entriesBytes (p .entries) ++ p .pool)) (encode p) (simp append-assoc)
-      (simp (length-append, length-leBytes)) (let m = l .few in omega arith)
+      (simp (length-append, length-wordBytes)) (let m = l .few in omega arith)
 
   size-read : poolLengthOf (encode p) ≡ length (p .pool)
   unfolding encode bodyBytes
   size-read =
       word-at 2 (length (p .pool)) 8 (wordBytes 4 (length (bodyBytes p)) ++ (wordBytes 2 2 ++ wordBytes 2 (length (p .entries)))) (entriesBytes (p .entries) ++ p .pool) (encode p) (simp append-assoc)
-      (simp (length-append, length-leBytes)) (let m = l .small in omega arith)
+      (simp (length-append, length-wordBytes)) (let m = l .small in omega arith)
 
   entries-same : entriesOf (encode p) ≡ p .entries
   unfolding encode bodyBytes
   entries-same =
       rw count-read
       (entries-read (p .entries) 0 (wordBytes 4 (length (bodyBytes p)) ++ (wordBytes 2 2 ++ (wordBytes 2 (length (p .entries)) ++ wordBytes 2 (length (p .pool))))) (p .pool) (encode p) (simp append-assoc)
-      (simp (length-append, length-leBytes)) (l .fit))
+      (simp (length-append, length-wordBytes)) (l .fit))
 
   pool-same : poolOf (encode p) ≡ p .pool
   unfolding encode bodyBytes
   pool-same =
       let pre = wordBytes 4 (length (bodyBytes p)) ++ (wordBytes 2 2 ++ (wordBytes 2 (length (p .entries)) ++ (wordBytes 2 (length (p .pool)) ++ entriesBytes (p .entries)))) in
       let e : encode p ≡ pre ++ p .pool = simp append-assoc in
-      rw (count-read, e) (drop-at pre (p .pool) (10 + 12 * length (p .entries)) (simp (length-append, length-leBytes, length-entriesBytes) (omega arith)))
+      rw (count-read, e) (drop-at pre (p .pool) (10 + 12 * length (p .entries)) (simp (length-append, length-wordBytes, length-entriesBytes) (omega arith)))
 
   pub read-written : decode (encode p) ≡ p
   read-written = λ i. record { entries = entries-same i; pool = pool-same i }

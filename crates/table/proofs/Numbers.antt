@@ -11,10 +11,11 @@ use native.Mathlib.Omega.{arith}
 use lib.Dec.{ltb, lit<}
 use lib.ListN.{length, replicate}
 use borrow.Author.Tests.{ltb-true, ltb-false}
+use Rattle.common.proofs.Choice.{false-true}
 use Rattle.opcode.specs.Opcode.{Kind, logic, value}
 use Rattle.table.specs.Check.{sameKind, popOne, pop, push, sameKinds, sameShape}
 use Rattle.table.specs.Number.{bitOf, kindsNumber, numberOf}
-use Rattle.table.proofs.Tests.{no-way, both-true}
+use Rattle.table.proofs.Tests.{both-true}
 
 bit-two : (k : Kind) → bitOf k < 2
 bit-two logic = omega arith
@@ -68,8 +69,8 @@ shapes-same (some ks) (some ls) e = ap some (kinds-same ks ls e)
 -- the tests of kinds, as equality
 pub kind-eq : (k l : Kind) → sameKind k l ≡ true → k ≡ l
 kind-eq logic logic e = refl
-kind-eq logic value e = no-way e
-kind-eq value logic e = no-way e
+kind-eq logic value e = false-true e
+kind-eq value logic e = false-true e
 kind-eq value value e = refl
 
 pub kind-self : (k : Kind) → sameKind k k ≡ true
@@ -78,8 +79,8 @@ kind-self value = refl
 
 kinds-eq : (ks ls : List Kind) → sameKinds ks ls ≡ true → ks ≡ ls
 kinds-eq [] [] e = refl
-kinds-eq [] (l ∷ ls) e = no-way e
-kinds-eq (k ∷ ks) [] e = no-way e
+kinds-eq [] (l ∷ ls) e = false-true e
+kinds-eq (k ∷ ks) [] e = false-true e
 kinds-eq (k ∷ ks) (l ∷ ls) e =
     let h = both-true (sameKind k l) (sameKinds ks ls) e in
     let a = kind-eq k l (h .0) in
@@ -92,8 +93,8 @@ kinds-self (k ∷ ks) = rw (kind-self k, kinds-self ks)
 
 pub shape-eq : (s t : Option (List Kind)) → sameShape s t ≡ true → s ≡ t
 shape-eq none none e = refl
-shape-eq none (some ls) e = no-way e
-shape-eq (some ks) none e = no-way e
+shape-eq none (some ls) e = false-true e
+shape-eq (some ks) none e = false-true e
 shape-eq (some ks) (some ls) e = ap some (kinds-eq ks ls e)
 
 shape-self : (s : Option (List Kind)) → sameShape s s ≡ true

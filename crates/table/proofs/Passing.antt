@@ -12,13 +12,14 @@ use borrow.Author.Tests.{leb-true, leb-false, le-leb, eqb-true, eqb-false}
 use lib.Dec.{leb, eqb}
 use lib.ListN.{length, getD, set, replicate, length-set}
 use lib.Seq.{getD-set-same, getD-set-other}
+use Rattle.common.proofs.Choice.{false-true}
 use Rattle.opcode.specs.Opcode.{opOf, Kind, logic}
 use Rattle.table.specs.Table.{Entry, countOf, entryAt, entriesOf, poolOf, layoutOf}
 use Rattle.table.specs.Check.{entryRight, pop, push, after, shapeFrom, shapeAt, isSkip, sameShape, skipRight, checkOf}
 use Rattle.table.specs.Groups.{groupOf, rightBy, takesBy, givesBy, skipBy}
 use Rattle.table.specs.declared.groups.Group.{Group}
 use Rattle.table.specs.Number.{numberOf, metBy, Landed}
-use Rattle.table.proofs.Tests.{no-way, are-true, both-true}
+use Rattle.table.proofs.Tests.{are-true, both-true}
 use Rattle.table.proofs.Grouped.{right-grouped, takes-grouped, gives-grouped, skip-grouped}
 use Rattle.table.proofs.Numbers.{shapes-same, eq-shape}
 use Rattle.table.proofs.Shapes.{from-next}
@@ -55,8 +56,8 @@ met-not : (w c : ℕ) → metBy w c ≡ false → (w ≡ 0 → ⊥) × (w ≡ c 
 met-not w c e = go (eqb w 0) (eqb w c) refl refl e
   where
     go : (a b : Bool) → eqb w 0 ≡ a → eqb w c ≡ b → (a || b) ≡ false → (w ≡ 0 → ⊥) × (w ≡ c → ⊥)
-    go true b p q f = no-way (sym f)
-    go false true p q f = no-way (sym f)
+    go true b p q f = false-true (sym f)
+    go false true p q f = false-true (sym f)
     go false false p q f = (eqb-false w 0 p, eqb-false w c q)
 
 met-is : (w c : ℕ) → metBy w c ≡ true → (w ≡ 0 → ⊥) → w ≡ c
@@ -132,14 +133,14 @@ module _ (s : List ℕ) where
 
     -- the entry by itself is wrong
     pub pass-wrong : (names : List ℕ) (r : Bool) → names ≡ poolOf s → r ≡ entryRight names (entryAt s i) → r ≡ false → false ≡ checkOf s
-    pass-wrong names r e f g = refuted s (λ t. no-way (sym (right-is names r false e f g) ∙ checked-entry s t i h .right))
+    pass-wrong names r e f g = refuted s (λ t. false-true (sym (right-is names r false e f g) ∙ checked-entry s t i h .right))
 
     -- its skip lands past the end, or where other kinds are wanted
     pub pass-lost : (v : List ℕ) (r : Bool) → Landed (isSkip (entryAt s i)) (countOf s) (to i) c w v r → r ≡ false → false ≡ checkOf s
     pass-lost v r f g = go (isSkip (entryAt s i)) (leb (to i) (countOf s)) refl refl (sym g ∙ f .answer)
       where
         go : (a b : Bool) → isSkip (entryAt s i) ≡ a → leb (to i) (countOf s) ≡ b → false ≡ (not a || (b && metBy (getD w (to i) 0) c)) → false ≡ checkOf s
-        go false b k l e = no-way e
+        go false b k l e = false-true e
         go true false k l e = let n = leb-false (to i) (countOf s) l in refuted s (λ t. let m = checked-skip s t i h k .0 in omega arith)
         go true true k l e =
             let n = met-not (getD w (to i) 0) c (sym e) in
@@ -198,7 +199,7 @@ module _ (s : List ℕ) where
           where
             held : (k : ℕ) → k < i + 1 → isSkip (entryAt s k) ≡ true → Dec (k < i) → Held w (i + 1) k
             held k l x (yes y) = let a = p .held k y x in record { there = a .there; inside = a .inside; past = found k y x; ahead = λ u. a .ahead (omega arith) }
-            held k l x (no y) = let q : k ≡ i = omega arith in no-way (sym b ∙ rw q at x)
+            held k l x (no y) = let q : k ≡ i = omega arith in false-true (sym b ∙ rw q at x)
 
         -- a skip wants its kinds where it lands
         pass-skip : isSkip (entryAt s i) ≡ true → to i ≤ countOf s → metBy (getD w (to i) 0) c ≡ true → Passed (set w (to i) c) (i + 1) d

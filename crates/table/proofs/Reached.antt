@@ -9,6 +9,7 @@ use native.Mathlib.Omega.{arith}
 use lib.Dec.{leb, ltb}
 use lib.ListN.{length, getD, length-append}
 use borrow.Author.Tests.{ltb-true, lt-ltb, leb-true, le-leb}
+use Rattle.common.proofs.Choice.{false-true}
 use Rattle.opcode.specs.Opcode.{Kind, logic}
 use Rattle.table.specs.Table.{Entry, blank}
 use Rattle.table.specs.Check.{pop, push, after, shapeFrom, shapeAt, isSkip, landing, landsRight, skipRight, skipsRight, endRight}
@@ -26,12 +27,12 @@ push-fits g ks h = rw (lt-ltb (length ks) 32 h)
 
 -- what came out of a push: the stack below it, and that there was room
 push-out : (g : Kind) (s : Option (List Kind)) (ls : List Kind) → push g s ≡ some ls → (ks : List Kind) × (s ≡ some ks) × (ls ≡ g ∷ ks) × (length ks < 32)
-push-out g none ls e = absurd (let z : _≡_ {A = ℕ} 0 1 = cc in omega arith)
+push-out g none ls e = false-true (cc)
 push-out g (some ks) ls e = go (ltb (length ks) 32) refl e
   where
     go : (b : Bool) → ltb (length ks) 32 ≡ b → cond b (some (g ∷ ks)) none ≡ some ls → (ms : List Kind) × (some ks ≡ some ms) × (ls ≡ g ∷ ms) × (length ms < 32)
     go true t q = (ks, refl, sym (Option·some-injective _ _ q), ltb-true (length ks) 32 t)
-    go false t q = absurd (let z : _≡_ {A = ℕ} 0 1 = cc in omega arith)
+    go false t q = false-true (cc)
 
 module _ (es : List Entry) where
   next : (i : ℕ) → i < length es → shapeAt es (suc i) ≡ push (givenAt es i) (pop (takenAt es i) (shapeAt es i))

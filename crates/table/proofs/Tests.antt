@@ -5,14 +5,12 @@ use Prim.Native.Nat.{ℕ, _+_, _-_, _^_, _≤_, _<_}
 use native.Mathlib.Omega.{arith}
 use lib.Dec.{leb, ltb}
 use borrow.Author.Tests.{leb-true, leb-false, le-leb, lt-leb, lt-ltb}
+use Rattle.common.proofs.Choice.{false-true}
 use Rattle.table.specs.Check.{inRange}
-
-pub no-way : {A : Type 0} → false ≡ true → A
-no-way e = absurd (let z : _≡_ {A = ℕ} 0 1 = cc in omega arith)
 
 pub both-true : (a b : Bool) → (a && b) ≡ true → (a ≡ true) × (b ≡ true)
 both-true true b e = (refl, e)
-both-true false b e = no-way e
+both-true false b e = false-true e
 
 pub are-true : (a b : Bool) → a ≡ true → b ≡ true → (a && b) ≡ true
 are-true a b e f = rw (e, f)

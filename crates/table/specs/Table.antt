@@ -24,10 +24,18 @@ unfoldable pub entriesBytes : List Entry → List ℕ
 entriesBytes [] = []
 entriesBytes (e ∷ es) = entryBytes e ++ entriesBytes es
 
+-- "u16 kind 2"
+abbrev pub tableKind : ℕ
+tableKind = 2
+
+-- the most bytes of a table: the header, 512 entries and a pool of 4,096
+abbrev pub mostBytes : ℕ
+mostBytes = 10 + 12 * 512 + 4096
+
 -- "u16 kind 2; u16 entry count N ..; u16 pool length ..; N entries of 12 bytes; pool"
 unfoldable pub bodyBytes : Program → List ℕ
 bodyBytes p =
-    wordBytes 2 2 ++ (wordBytes 2 (length (p .entries)) ++ (wordBytes 2 (length (p .pool)) ++ (entriesBytes (p .entries) ++ p .pool)))
+    wordBytes 2 tableKind ++ (wordBytes 2 (length (p .entries)) ++ (wordBytes 2 (length (p .pool)) ++ (entriesBytes (p .entries) ++ p .pool)))
 
 -- "u32 length of all after it"
 unfoldable pub encode : Program → List ℕ
@@ -64,6 +72,6 @@ unfoldable pub layoutOf : List ℕ → Bool
 layoutOf s =
     leb 10 (length s)
     && (eqb (4 + wordAt 4 s 0) (length s)
-    && (eqb (wordAt 2 s 4) 2
+    && (eqb (wordAt 2 s 4) tableKind
     && ((leb 1 (countOf s) && leb (countOf s) 512)
     && (leb (poolLengthOf s) 4096 && eqb (10 + 12 * countOf s + poolLengthOf s) (length s)))))

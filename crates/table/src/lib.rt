@@ -25,6 +25,12 @@ pub struct Entry {
 
 // ---- layout and decoding
 
+// "u16 kind 2"
+pub const KIND: u16 = 2;
+
+// The most bytes of a table: the header, 512 entries and a pool of 4,096.
+pub const MOST_BYTES: usize = 10 + 12 * 512 + 4096;
+
 // How many entries the table says that it has. It asks for the header, which the layout has.
 pub fn count(table: &[u8]) -> usize
     requires { ⌜ 10 ≤ length (now table) ⌝ }
@@ -87,7 +93,7 @@ fn layout_right(table: &[u8]) -> bool
     let n = count(table);
     let p = word::read_u16(table, 8) as usize;
     (4 + size == len)
-        & ((kind == 2) & (((1 <= n) & (n <= 512)) & ((p <= 4096) & (10 + 12 * n + p == len))))
+        & ((kind == KIND) & (((1 <= n) & (n <= 512)) & ((p <= 4096) & (10 + 12 * n + p == len))))
 }
 
 // ---- an entry by itself

@@ -10,10 +10,13 @@ use lib.ListN.{length, getD, take, drop, set, length-append, length-drop, take-a
 use lib.Seq.{sets, length-sets, drop-cons, take-all}
 use borrow.Rule.Slice.PartMut.{midOf, postOf, putMid}
 use borrow.Author.Tests.{eq-eqb, ne-eqb, eqb-true, eqb-false, leb-true}
+use Rattle.common.proofs.Choice.{false-true}
+use Rattle.common.proofs.Stores.{sets-append}
+use Rattle.lexer.specs.Kind.{naming, opening, closing, comma}
 use Rattle.lexer.specs.Token.{Token, name, int32, int64, real, text, symbol, kindOf, nameAt, stringAt}
 use Rattle.grammar.specs.Tree.{Tree, leaf, group, unary, binary, call, Trees, none, _then_}
-use Rattle.grammar.specs.Grammar.{rank, isPrefix, isLiteral, naming, opening, closing, comma}
-use Rattle.grammar.specs.Parse.{Result, ok, bad, andThen, pick, ended, tokenAt, kindAt, is, fuel, level, more, prefix, operand, arguments, levelOf, parseAll}
+use Rattle.grammar.specs.Grammar.{rank, isPrefix, isLiteral}
+use Rattle.grammar.specs.Parse.{Result, ok, bad, andThen, ended, tokenAt, kindAt, is, fuel, level, more, prefix, operand, arguments, levelOf, parseAll}
 use Rattle.grammar.specs.Size.{poolBytes, poolOf}
 use Rattle.grammar.specs.Stream.{tokensIn}
 use Rattle.grammar.proofs.Sound.{Holds, then-holds, pick-holds}
@@ -22,7 +25,6 @@ use Rattle.table.proofs.Tests.{both-true}
 use Rattle.translator.specs.Compile.{leafBytes, bytesOf, bytesIn}
 use Rattle.translator.specs.Pool.{broughtAt, broughtFrom}
 use Rattle.translator.proofs.Sound.{leaf-size, pool-size}
-use Rattle.translator.proofs.Stores.{sets-append}
 
 -- ---- one token
 
@@ -183,10 +185,7 @@ module _ (ks : List Token) where
   silent-rank i h = brought-none ks i (λ q. absurd (omega (arith, rw q at h))) (λ q. absurd (omega (arith, rw q at h)))
 
   silent-prefix : (i : ℕ) → isPrefix (kindAt ks i) ≡ true → broughtAt ks i ≡ []
-  silent-prefix i h = brought-none ks i (λ q. differ (rw q at h)) (λ q. differ (rw q at h))
-    where
-      differ : false ≡ true → ⊥
-      differ e = let z : _≡_ {A = ℕ} 0 1 = cc in omega arith
+  silent-prefix i h = brought-none ks i (λ q. false-true (rw q at h)) (λ q. false-true (rw q at h))
 
   record Pooled (i : ℕ) (t : Tree) (j : ℕ) : Type 0 where
     lt : i < j

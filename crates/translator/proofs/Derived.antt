@@ -6,10 +6,11 @@ use mathlib.Core.Bool.{Bool, true, false, not, _&&_}
 use mathlib.Core.List.{List, [], _∷_, _++_}
 use lib.Dec.{leb}
 use borrow.Author.Tests.{leb-true}
-use Rattle.table.proofs.Tests.{no-way, both-true}
+use Rattle.common.proofs.Choice.{false-true}
+use Rattle.table.proofs.Tests.{both-true}
 use Rattle.lexer.specs.Token.{Token, kindOf}
 use Rattle.grammar.specs.Tree.{Tree, leaf, group, unary, binary, call, Trees, none, _then_}
-use Rattle.grammar.specs.Grammar.{rank, isPrefix, isLiteral, naming, opening, closing, comma, Level, operator, tighter, tightest, Prefix, applied, plain, Operand, a-literal, a-name, a-group, a-call-none, a-call, Arguments, first, next}
+use Rattle.grammar.specs.Grammar.{rank, isPrefix, isLiteral, Level, operator, tighter, tightest, Prefix, applied, plain, Operand, a-literal, a-name, a-group, a-call-none, a-call, Arguments, first, next}
 use Rattle.grammar.specs.Function.{functionOf}
 use Rattle.grammar.specs.Size.{countOf}
 use Rattle.grammar.specs.Judge.{takesLogic, callRight, firstOf, laterTexts, isLogic, agrees, formsRight, formsIn, kindsRight, kindsIn}
@@ -31,12 +32,12 @@ all-rest (x ∷ xs) ys h = all-rest xs ys (h .1)
 
 agreed : (a b : Bool) → agrees a b ≡ true → b ≡ a
 agreed true true e = refl
-agreed true false e = no-way e
-agreed false true e = no-way e
+agreed true false e = false-true e
+agreed false true e = false-true e
 agreed false false e = refl
 
 is-no : (b : Bool) → not b ≡ true → b ≡ false
-is-no true e = no-way e
+is-no true e = false-true e
 is-no false e = refl
 
 mutual

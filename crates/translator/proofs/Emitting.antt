@@ -9,14 +9,16 @@ use lib.Dec.{eqb, leb}
 use lib.ListN.{length, length-append}
 use lib.Seq.{sets, length-sets}
 use borrow.Author.Tests.{leb-true, ne-eqb}
+use Rattle.common.proofs.Choice.{true-false}
 use Rattle.table.specs.declared.Entry.{Entry}
 use Rattle.table.specs.Table.{entryBytes, entriesBytes}
-use Rattle.table.proofs.Tests.{both-true, no-way}
+use Rattle.table.proofs.Tests.{both-true}
+use Rattle.lexer.specs.Kind.{naming, opening, closing, comma}
 use Rattle.lexer.specs.Token.{Token, name, int32, int64, real, text, symbol, kindOf}
 use Rattle.grammar.specs.Tree.{Tree, leaf, group, unary, binary, call, Trees, none, _then_}
-use Rattle.grammar.specs.Grammar.{rank, isPrefix, isLiteral, naming, opening, closing, comma}
+use Rattle.grammar.specs.Grammar.{rank, isPrefix, isLiteral}
 use Rattle.grammar.specs.Function.{functionOf}
-use Rattle.grammar.specs.Parse.{Result, ok, bad, andThen, pick, tokenAt, kindAt, is, fuel, level, arguments, levelOf, prefixOf, operandOf, argumentsOf}
+use Rattle.grammar.specs.Parse.{Result, ok, bad, andThen, tokenAt, kindAt, is, fuel, level, arguments, levelOf, prefixOf, operandOf, argumentsOf}
 use Rattle.grammar.specs.Size.{countOf, skips, entriesOf, entriesIn, poolBytes, poolOf, poolIn}
 use Rattle.grammar.specs.Answer.{answerOf}
 use Rattle.grammar.specs.Stream.{tokensIn}
@@ -44,7 +46,7 @@ pub kept : {x : Result} {i at : ℕ} {was now : List ℕ} {r : Emitted} → Writ
 kept w = ap length (w .bytes) ∙ simp length-sets
 
 pub no-call : {k n : ℕ} → k ≡ naming → n ≡ opening → (eqb k 5 && eqb n 9) ≡ false → ⊥
-no-call a b e = let z : true ≡ false = sym (rw (a, b)) ∙ e in no-way (sym z)
+no-call a b e = let z : true ≡ false = sym (rw (a, b)) ∙ e in true-false z
 
 -- the same result under another name
 pub accepts-as : {x y : Result} {i at long : ℕ} → x ≡ y → Accepts x i at long → Accepts y i at long

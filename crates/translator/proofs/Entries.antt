@@ -16,6 +16,7 @@ use borrow.Author.Tests.{eq-eqb, ne-eqb, eqb-true, leb-true, leb-false, le-leb, 
 use mir.Syntax.{w32, w64}
 use mir.Val.{SFits, ofZ}
 use mir.ValLaws.{ofZ-fits}
+use Rattle.common.proofs.Choice.{false-true}
 use Rattle.word.specs.Word.{Bytes}
 use Rattle.number.proofs.Theorems.{bits-bounded}
 use Rattle.notice.specs.Field.{nameRight}
@@ -24,7 +25,7 @@ use Rattle.opcode.specs.declared.Op.{Op}
 use Rattle.table.specs.declared.Entry.{Entry}
 use Rattle.table.specs.Check.{sameKind, after, isSkip, entryRight, inRange}
 use Rattle.table.specs.Theorems.{Fits}
-use Rattle.table.proofs.Tests.{no-way, both-true, are-true}
+use Rattle.table.proofs.Tests.{both-true, are-true}
 use Rattle.table.proofs.Numbers.{kind-eq}
 use Rattle.table.proofs.Shapes.{pop-front}
 use Rattle.table.proofs.Theorems.{widened}
@@ -57,7 +58,7 @@ below-at p (suc n) k e h = go (decLt k n) (below-at p n k)
 
 implied : (a b : Bool) → (not a || b) ≡ true → a ≡ true → b ≡ true
 implied true b e h = e
-implied false b e h = no-way h
+implied false b e h = false-true h
 
 -- ---- what an entry does
 
@@ -103,7 +104,7 @@ manyFits (Op.Skip s) = false
 manyFits Op.Unknown = false
 
 acts-unary : (k : ℕ) (t g : Kind) (op : Op) → opOf k ≡ op → k < 2 ^ 16 → unaryFits op t g ≡ true → Acts (entry k 0 0) (t ∷ []) g
-acts-unary k t g (Op.Load l) e f h = no-way h
+acts-unary k t g (Op.Load l) e f h = false-true h
 acts-unary k t g (Op.Unary u) e f h =
     let p = both-true _ _ h in
     record {
@@ -112,14 +113,14 @@ acts-unary k t g (Op.Unary u) e f h =
       plain = rw e;
       fits = record { op = f; a = lit< tt; b = lit< tt };
     }
-acts-unary k t g (Op.Binary b) e f h = no-way h
-acts-unary k t g (Op.Many m) e f h = no-way h
-acts-unary k t g (Op.Skip s) e f h = no-way h
-acts-unary k t g Op.Unknown e f h = no-way h
+acts-unary k t g (Op.Binary b) e f h = false-true h
+acts-unary k t g (Op.Many m) e f h = false-true h
+acts-unary k t g (Op.Skip s) e f h = false-true h
+acts-unary k t g Op.Unknown e f h = false-true h
 
 acts-binary : (k : ℕ) (t g : Kind) (op : Op) → opOf k ≡ op → k < 2 ^ 16 → binaryFits op t g ≡ true → Acts (entry k 0 0) (t ∷ t ∷ []) g
-acts-binary k t g (Op.Load l) e f h = no-way h
-acts-binary k t g (Op.Unary u) e f h = no-way h
+acts-binary k t g (Op.Load l) e f h = false-true h
+acts-binary k t g (Op.Unary u) e f h = false-true h
 acts-binary k t g (Op.Binary b) e f h =
     let p = both-true _ _ h in
     record {
@@ -128,14 +129,14 @@ acts-binary k t g (Op.Binary b) e f h =
       plain = rw e;
       fits = record { op = f; a = lit< tt; b = lit< tt };
     }
-acts-binary k t g (Op.Many m) e f h = no-way h
-acts-binary k t g (Op.Skip s) e f h = no-way h
-acts-binary k t g Op.Unknown e f h = no-way h
+acts-binary k t g (Op.Many m) e f h = false-true h
+acts-binary k t g (Op.Skip s) e f h = false-true h
+acts-binary k t g Op.Unknown e f h = false-true h
 
 acts-many : (k a : ℕ) (op : Op) → opOf k ≡ op → k < 2 ^ 16 → manyFits op ≡ true → 1 ≤ a → a ≤ 8 → Acts (entry k a 0) (replicate (suc a) value) logic
-acts-many k a (Op.Load l) e f h m n = no-way h
-acts-many k a (Op.Unary u) e f h m n = no-way h
-acts-many k a (Op.Binary b) e f h m n = no-way h
+acts-many k a (Op.Load l) e f h m n = false-true h
+acts-many k a (Op.Unary u) e f h m n = false-true h
+acts-many k a (Op.Binary b) e f h m n = false-true h
 acts-many k a (Op.Many o) e f h m n =
     record {
       does = record { takes = rw e; gives = rw e };
@@ -143,8 +144,8 @@ acts-many k a (Op.Many o) e f h m n =
       plain = rw e;
       fits = record { op = f; a = omega arith; b = lit< tt };
     }
-acts-many k a (Op.Skip s) e f h m n = no-way h
-acts-many k a Op.Unknown e f h m n = no-way h
+acts-many k a (Op.Skip s) e f h m n = false-true h
+acts-many k a Op.Unknown e f h m n = false-true h
 
 prefix-right : ℕ → Bool
 prefix-right k = not (isPrefix k) || unaryFits (opOf k) (kindBy (takesLogic k)) (kindBy (givesLogic k))
@@ -161,7 +162,7 @@ prefix-acts k e =
   where
     go : Dec (k < 41) → k < 41
     go (yes h) = h
-    go (no h) = no-way (rw (ne-eqb k 40 (λ q. omega arith), ne-eqb k 8 (λ q. omega arith)) at e)
+    go (no h) = false-true (rw (ne-eqb k 40 (λ q. omega arith), ne-eqb k 8 (λ q. omega arith)) at e)
 
 -- a binary operator
 pub binary-acts : (k : ℕ) → rank k < 11 → Acts (entry k 0 0) (kindBy (takesLogic k) ∷ kindBy (takesLogic k) ∷ []) (kindBy (givesLogic k))
@@ -189,7 +190,7 @@ many-right : ℕ → Bool
 many-right f = not (ofMany f) || (leb 56 f && manyFits (opOf f))
 
 not-false-of : (b : Bool) → not b ≡ true → b ≡ false
-not-false-of true e = no-way e
+not-false-of true e = false-true e
 not-false-of false e = refl
 
 one-acts : (f count : ℕ) → ofOne f ≡ true → count ≡ 1 → Acts (callEntry f count) (replicate count value) (kindBy (givesLogic f))
@@ -201,7 +202,7 @@ one-acts f count e n =
   where
     go : Dec (f < 55) → f < 55
     go (yes h) = h
-    go (no h) = no-way (rw (ne-eqb f 6 (λ q. omega arith), ne-eqb f 7 (λ q. omega arith), le-leb 48 f (omega arith), lt-leb f 54 (omega arith)) at e)
+    go (no h) = false-true (rw (ne-eqb f 6 (λ q. omega arith), ne-eqb f 7 (λ q. omega arith), le-leb 48 f (omega arith), lt-leb f 54 (omega arith)) at e)
 
 many-acts : (f count : ℕ) → ofMany f ≡ true → 2 ≤ count → count ≤ 9 → Acts (callEntry f count) (replicate count value) (kindBy (givesLogic f))
 unfolding many-right below
@@ -215,7 +216,7 @@ many-acts f count e m n =
   where
     go : Dec (f < 60) → f < 60
     go (yes h) = h
-    go (no h) = no-way (rw (ne-eqb f 59 (λ q. omega arith), le-leb 56 f (omega arith), lt-leb f 58 (omega arith)) at e)
+    go (no h) = false-true (rw (ne-eqb f 59 (λ q. omega arith), le-leb 56 f (omega arith), lt-leb f 58 (omega arith)) at e)
 
 -- a call whose arguments refusal 4 does not name
 pub call-acts : (f count : ℕ) (form : Form) (texts : Bool) → callRight f form count texts ≡ true → Acts (callEntry f count) (replicate count value) (kindBy (givesLogic f))
@@ -232,7 +233,7 @@ call-acts f count form texts h = go (eqb f 6) (eqb f 59) (leb 56 f && leb f 58) 
         let p = both-true (leb 2 count) (leb count 9 && texts) (both-true (isName form || isFolding form) (leb 2 count && (leb count 9 && texts)) r .1) in
         many-acts f count (rw (eb, ec)) (leb-true 2 count (p .0)) (leb-true count 9 (both-true (leb count 9) texts (p .1) .0))
     go false false false true ea eb ec ed r = one-acts f count (rw (ea, ed)) (eqb-true count 1 (both-true _ _ r .0))
-    go false false false false ea eb ec ed r = no-way r
+    go false false false false ea eb ec ed r = false-true r
 
 -- ---- skips, over n + 1 entries
 

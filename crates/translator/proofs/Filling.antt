@@ -8,14 +8,15 @@ use lib.Dec.{eqb, ltb}
 use lib.ListN.{length, length-append}
 use lib.Seq.{sets}
 use borrow.Author.Tests.{eqb-true, lt-ltb, le-ltb, ltb-true, ltb-false, eq-eqb, ne-eqb}
+use Rattle.common.specs.Choice.{pick}
+use Rattle.common.proofs.Stores.{sets-append}
 use Rattle.word.specs.Word.{wordBytes}
-use Rattle.word.proofs.Laws.{length-leBytes}
+use Rattle.word.proofs.Laws.{length-wordBytes}
 use Rattle.table.specs.Table.{entriesBytes, bodyBytes, encode}
 use Rattle.table.proofs.Encoding.{length-body, length-encode}
-use Rattle.table.proofs.Tests.{no-way}
 use Rattle.lexer.specs.Token.{Token}
 use Rattle.grammar.specs.Tree.{Tree}
-use Rattle.grammar.specs.Parse.{Result, ok, bad, pick, levelOf, parseAll}
+use Rattle.grammar.specs.Parse.{Result, ok, bad, levelOf, parseAll}
 use Rattle.grammar.specs.Size.{entriesOf, poolOf, depthOf}
 use Rattle.grammar.specs.Function.{orElse}
 use Rattle.grammar.specs.Judge.{formsRight, kindsRight, isLogic}
@@ -28,7 +29,7 @@ use Rattle.translator.specs.Translation.{refusalOf, ofTree, refusal, ans
 use Rattle.translator.specs.declared.Emitted.{Emitted}
 use Rattle.translator.specs.declared.Translated.{Translated}
 use Rattle.translator.proofs.Sound.{size, pool-size}
-use Rattle.translator.proofs.Stores.{sets-append, length-entries}
+use Rattle.translator.proofs.Stores.{length-entries}
 use Rattle.translator.proofs.Brought.{brought-all}
 
 -- ---- the header
@@ -42,7 +43,7 @@ header-written s s1 s2 s3 s4 v n p e a b c d =
     (c ∙ ap (λ (l : List ℕ). sets l 6 (wordBytes 2 n)) (b ∙ ap (λ (l : List ℕ). sets l 4 (wordBytes 2 2)) (a ∙ ap (λ (w : ℕ). sets s 0 (wordBytes 4 w)) e)))
 
 length-header : (n p : ℕ) → length (headerBytes n p) ≡ 10
-length-header n p = simp (length-append, length-leBytes)
+length-header n p = simp (length-append, length-wordBytes)
 
 -- ---- the whole table
 

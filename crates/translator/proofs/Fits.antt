@@ -8,7 +8,8 @@ use native.Mathlib.Omega.{arith}
 use borrow.Author.Tests.{ltb-false}
 use lib.Dec.{eqb, ltb}
 use lib.ListN.{length}
-use Rattle.lexer.specs.Token.{Token, Placed, kindOf, pick, Lexed, tokens, refused, tokensOf}
+use Rattle.common.specs.Choice.{pick}
+use Rattle.lexer.specs.Token.{Token, Placed, kindOf, Lexed, tokens, refused, tokensOf}
 use Rattle.grammar.specs.Tree.{Tree}
 use Rattle.grammar.specs.Parse.{Result, ok, bad, parseAll}
 use Rattle.grammar.specs.Nesting.{tooDeep}

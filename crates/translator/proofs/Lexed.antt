@@ -12,19 +12,21 @@ use lib.ListN.{length, getD, drop, length-append}
 use borrow.Author.Tests.{leb-true, le-leb, ltb-true, ne-eqb, eqb-true}
 use mir.Syntax.{w32, w64}
 use mir.Val.{SFits}
+use Rattle.common.specs.Choice.{pick}
+use Rattle.common.specs.Each.{Each}
 use Rattle.word.specs.Word.{Bytes}
 use Rattle.number.specs.Real.{scaledOf, signedReal, decimalOf, inLimits}
 use Rattle.number.specs.Integer.{fitsIn, isNegative}
 use Rattle.notice.specs.Field.{printable, nameRight}
-use Rattle.table.proofs.Tests.{no-way, both-true, are-true}
+use Rattle.table.proofs.Tests.{both-true, are-true}
 use Rattle.lexer.specs.Byte.{within, startsName, startsNumber, isQuote, isPlain, isDelimiter}
 use Rattle.lexer.specs.Run.{takes, ends, runFrom, runOf, unescaped, hasEscape, legalByte, legalName, nameFits, bodyOf, isClosed}
 use Rattle.lexer.specs.Integer.{isLong, isInteger, integerFits, integerOf}
 use Rattle.lexer.specs.Digits.{isMinus, wholeOf}
 use Rattle.lexer.specs.Real.{realDigits, scaleOf, isReal, realFits, realOf}
 use Rattle.lexer.specs.Symbol.{symbolOf, symbolLength}
-use Rattle.lexer.specs.Token.{Token, name, int32, int64, real, text, symbol, kindOf, Placed, Scan, good, bad, judged, pick, scanName, integerToken, scanRun, scanNumber, scanString, scanBytes, scanSymbol, scanOf, tokens, tokensOf, found}
-use Rattle.lexer.specs.Theorems.{Each, Laid, Nothing, ValueAt}
+use Rattle.lexer.specs.Token.{Token, name, int32, int64, real, text, symbol, kindOf, Placed, Scan, good, bad, judged, scanName, integerToken, scanRun, scanNumber, scanString, scanBytes, scanSymbol, scanOf, tokens, tokensOf, found}
+use Rattle.lexer.specs.Theorems.{Laid, Nothing, ValueAt}
 use Rattle.lexer.proofs.Theorems.{whole, values}
 use Rattle.grammar.specs.Size.{poolBytes}
 use Rattle.grammar.specs.Stream.{tokenOf, tokensIn}

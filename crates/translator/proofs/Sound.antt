@@ -10,12 +10,15 @@ use mathlib.Core.Option.{Option, some}
 use lib.Dec.{eqb, leb}
 use lib.ListN.{length, replicate, getD, length-append, length-replicate}
 use borrow.Author.Tests.{eqb-true, le-leb}
+use Rattle.common.specs.Each.{Each}
+use Rattle.common.proofs.Choice.{false-true}
+use Rattle.common.proofs.Each.{each-append, each-at}
 use Rattle.opcode.specs.Opcode.{Kind, logic, value}
 use Rattle.table.specs.declared.Entry.{Entry}
 use Rattle.table.specs.Table.{blank}
 use Rattle.table.specs.Check.{after, shapeFrom, shapeAt, isSkip, entryRight, landing, landsRight, skipRight, skipsRight, sameShape}
 use Rattle.table.specs.Theorems.{Fits}
-use Rattle.table.proofs.Tests.{no-way, both-true, are-true}
+use Rattle.table.proofs.Tests.{both-true, are-true}
 use Rattle.table.proofs.Numbers.{eq-shape}
 use Rattle.table.proofs.Shapes.{from-front}
 use Rattle.table.proofs.Passes.{all-land, all-right}
@@ -190,7 +193,7 @@ lands-append [] ys s a b = b
 lands-append (x ∷ xs) ys s a b = (landing-more x xs ys s (a .0), lands-append xs ys (after x s) (a .1) b)
 
 plain-lands : (e : Entry) (s : Option (List Kind)) → isSkip e ≡ false → Lands (e ∷ []) s
-plain-lands e s h = (λ t. no-way (sym h ∙ t), tt)
+plain-lands e s h = (λ t. false-true (sym h ∙ t), tt)
 
 -- a skip over all of some entries, which leave the kinds as they were
 module _ (n : ℕ) (es : List Entry) (ks : List Kind) (h : length ks < 32) (l : length es ≡ n + 1) where
@@ -280,19 +283,6 @@ skips-right t d h = all-land (codeOf 0 t) (length (codeOf 0 t)) (λ i l. go i l 
 abbrev pub EntryGood : List ℕ → Entry → Type 0
 EntryGood pool e = (entryRight pool e ≡ true) × Fits e
 
-abbrev Each : (Entry → Type 0) → List Entry → Type 0
-Each P [] = Unit {0}
-Each P (e ∷ es) = P e × Each P es
-
-each-append : (P : Entry → Type 0) (xs ys : List Entry) → Each P xs → Each P ys → Each P (xs ++ ys)
-each-append P [] ys a b = b
-each-append P (x ∷ xs) ys a b = (a .0, each-append P xs ys (a .1) b)
-
-each-at : (P : Entry → Type 0) (es : List Entry) → Each P es → (i : ℕ) → i < length es → P (getD es i blank)
-each-at P [] a i h = absurd (not-suc-le-zero h)
-each-at P (e ∷ es) a zero h = a .0
-each-at P (e ∷ es) a (suc i) h = each-at P es (a .1) i (le-of-suc-le-suc h)
-
 skip-good : (pool : List ℕ) (k n : ℕ) → n ≤ 512 → Each (EntryGood pool) (skipEntries k n)
 skip-good pool k n h = go (eqb k 41) (eqb k 43)
   where
@@ -344,7 +334,7 @@ mutual
       each-append (EntryGood pool) (codeIn at ts) (codeOf (at + poolIn ts) t) left right
 
 pub good-at : (t : Tree) → Sound t → poolOf t ≤ 4096 → entriesOf t ≤ 512 → (i : ℕ) → i < length (codeOf 0 t) → EntryGood (bytesOf t) (getD (codeOf 0 t) i blank)
-good-at t d p n i h = each-at (EntryGood (bytesOf t)) (codeOf 0 t) (rw append-nil at (good d 0 [] [] refl (omega arith) n)) i h
+good-at t d p n i h = each-at (EntryGood (bytesOf t)) (codeOf 0 t) blank (rw append-nil at (good d 0 [] [] refl (omega arith) n)) i h
 
 pub entries-some : (t : Tree) → 1 ≤ entriesOf t
 unfolding entriesOf

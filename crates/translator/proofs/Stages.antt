@@ -6,7 +6,8 @@ use mathlib.Core.Bool.{Bool, true, false}
 use mathlib.Core.List.{List, map}
 use mathlib.Core.Logic.{_⊎_, inl, inr}
 use lib.ListN.{length, getD}
-use Rattle.lexer.specs.Token.{Token, Placed, kindOf, pick, Lexed, tokens, refused, tokensOf}
+use Rattle.common.specs.Choice.{pick}
+use Rattle.lexer.specs.Token.{Token, Placed, kindOf, Lexed, tokens, refused, tokensOf}
 use Rattle.lexer.specs.Theorems.{Laid, BadToken, HasNumber}
 use Rattle.lexer.proofs.Theorems.{whole, numbered}
 use Rattle.grammar.specs.Tree.{Tree}

@@ -5,17 +5,12 @@ use mathlib.Core.Path.{_≡_, refl, sym, ap, _∙_}
 use mathlib.Core.List.{List, [], _∷_, _++_, append-assoc, append-nil}
 use lib.ListN.{length, set, drop, length-append}
 use lib.Seq.{sets, sets-eq, set-comm, drop-length, length-sets}
-use Rattle.word.proofs.Laws.{length-leBytes}
+use Rattle.common.proofs.Stores.{sets-append}
+use Rattle.word.proofs.Laws.{length-wordBytes}
 use Rattle.word.specs.Word.{wordBytes}
 use Rattle.table.specs.declared.Entry.{Entry}
 use Rattle.table.specs.Table.{entryBytes, entriesBytes}
 use Rattle.translator.specs.Emit.{entryStart}
-
-pub sets-append : (xs ys l : List ℕ) (i : ℕ) → sets l i (xs ++ ys) ≡ sets (sets l i xs) (i + length xs) ys
-sets-append [] ys l i = let e : i + 0 ≡ i = omega arith in rw e
-sets-append (x ∷ xs) ys l i =
-    let e : i + suc (length xs) ≡ suc i + length xs = omega arith in
-    rw e (sets-append xs ys (set l i x) (suc i))
 
 set-sets : (ys l : List ℕ) (i j a : ℕ) → i < j → set (sets l j ys) i a ≡ sets (set l i a) j ys
 set-sets [] l i j a h = refl
@@ -34,7 +29,7 @@ sets-all xs l e =
 -- ---- entries
 
 pub length-entry : (e : Entry) → length (entryBytes e) ≡ 12
-length-entry e = simp (length-append, length-leBytes)
+length-entry e = simp (length-append, length-wordBytes)
 
 pub length-entries : (es : List Entry) → length (entriesBytes es) ≡ 12 * length es
 unfolding entriesBytes

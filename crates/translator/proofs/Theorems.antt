@@ -8,9 +8,10 @@ use mathlib.Core.Logic.{_↔_}
 use lib.Dec.{eqb}
 use lib.ListN.{length}
 use borrow.Author.Tests.{eqb-true}
+use Rattle.common.specs.Choice.{pick}
 use Rattle.word.specs.Word.{Bytes}
 use Rattle.table.specs.Table.{encode}
-use Rattle.lexer.specs.Token.{Placed, pick, tokens, tokensOf}
+use Rattle.lexer.specs.Token.{Placed, tokens, tokensOf}
 use Rattle.grammar.specs.Tree.{Tree}
 use Rattle.grammar.specs.Grammar.{Level}
 use Rattle.grammar.specs.Size.{poolOf}

@@ -8,6 +8,7 @@ use lib.Ieee.{binary64, toBits}
 use lib.ListN.{length}
 use mir.Syntax.{w64}
 use mir.Val.{ofZ}
+use Rattle.opcode.specs.Number.{int32Op, int64Op, real64Op, textOp, nameOp, andOp, orOp, skipIfFalseOp, skipIfTrueOp, beginsWithOp}
 use Rattle.lexer.specs.Token.{Token, name, int32, int64, real, text, symbol}
 use Rattle.grammar.specs.Tree.{Tree, leaf, group, unary, binary, call, Trees, none, _then_}
 use Rattle.grammar.specs.Function.{functionOf}
@@ -20,24 +21,24 @@ entry op a b = record { op = op; a = a; b = b }
 
 -- the entry that pushes a literal or a name; its bytes stand in the pool from `at` on. "b: two's complement or bits, int32 widened by sign"; "a length, b pool offset"
 abbrev pub leafEntry : ℕ → Token → Entry
-leafEntry at (name s escaped) = entry 5 (length s) at
-leafEntry at (int32 z) = entry 1 0 (ofZ w64 z)
-leafEntry at (int64 z) = entry 2 0 (ofZ w64 z)
-leafEntry at (real x) = entry 3 0 (toBits binary64 x)
-leafEntry at (text s) = entry 4 (length s) at
+leafEntry at (name s escaped) = entry nameOp (length s) at
+leafEntry at (int32 z) = entry int32Op 0 (ofZ w64 z)
+leafEntry at (int64 z) = entry int64Op 0 (ofZ w64 z)
+leafEntry at (real x) = entry real64Op 0 (toBits binary64 x)
+leafEntry at (text s) = entry textOp (length s) at
 leafEntry at (symbol k) = entry k 0 0
 
 -- the op of the skip of `&&` and of `||`; 0 for any other operator
 abbrev pub skipOp : ℕ → ℕ
-skipOp k = cond (eqb k 41) 44 (cond (eqb k 43) 45 0)
+skipOp k = cond (eqb k andOp) skipIfFalseOp (cond (eqb k orOp) skipIfTrueOp 0)
 
 -- the skip before the right side of `&&` and of `||`, which has n entries
 abbrev pub skipEntries : ℕ → ℕ → List Entry
-skipEntries k n = cond (eqb k 41) (entry 44 (n + 1) 0 ∷ []) (cond (eqb k 43) (entry 45 (n + 1) 0 ∷ []) [])
+skipEntries k n = cond (eqb k andOp) (entry skipIfFalseOp (n + 1) 0 ∷ []) (cond (eqb k orOp) (entry skipIfTrueOp (n + 1) 0 ∷ []) [])
 
 -- "56..59 .. (a: literals or values, 1..8; taken from the stack with the first)"
 abbrev pub callEntry : ℕ → ℕ → Entry
-callEntry f count = entry f (cond (leb 56 f) (count - 1) 0) 0
+callEntry f count = entry f (cond (leb beginsWithOp f) (count - 1) 0) 0
 
 -- the entries of a tree whose names and strings stand in the pool from `at` on
 unfoldable mutual

@@ -6,7 +6,7 @@ use mathlib.Core.List.{List, _++_}
 use lib.ListN.{length}
 use lib.Seq.{sets}
 use Rattle.word.specs.Word.{wordBytes}
-use Rattle.table.specs.Table.{entriesBytes, encode}
+use Rattle.table.specs.Table.{entriesBytes, tableKind, encode}
 use Rattle.lexer.specs.Token.{Token}
 use Rattle.grammar.specs.Tree.{Tree}
 use Rattle.grammar.specs.Parse.{Result, ok, parseAll}
@@ -72,7 +72,7 @@ tableAnswer entries pool = record { number = 0; place = 0; length = entryStart e
 
 -- "u32 length of all after it; u16 kind 2; u16 entry count N ..; u16 pool length .."
 abbrev pub headerBytes : ℕ → ℕ → List ℕ
-headerBytes entries pool = wordBytes 4 (6 + 12 * entries + pool) ++ (wordBytes 2 2 ++ (wordBytes 2 entries ++ wordBytes 2 pool))
+headerBytes entries pool = wordBytes 4 (6 + 12 * entries + pool) ++ (wordBytes 2 tableKind ++ (wordBytes 2 entries ++ wordBytes 2 pool))
 
 -- `refusalOf` of specs/Translation.antt, by what is known of the expression
 abbrev pub refusalBy : Found → ℕ → ℕ

@@ -3,7 +3,7 @@ use Prim.Native.Nat.{ℕ, zero, suc, _+_}
 use mathlib.Core.Bool.{cond, _&&_}
 use mathlib.Core.List.{List, [], _++_}
 use Rattle.lexer.specs.Token.{Token}
-use Rattle.grammar.specs.Grammar.{naming, opening}
+use Rattle.lexer.specs.Kind.{naming, opening}
 use Rattle.grammar.specs.Parse.{tokenAt, is}
 use Rattle.translator.specs.Compile.{leafBytes}
 

@@ -6,7 +6,8 @@ use mathlib.Core.List.{List, [], map}
 use lib.Dec.{eqb, ltb}
 use lib.ListN.{length, getD}
 use lib.Seq.{sets}
-use Rattle.lexer.specs.Token.{Token, Placed, kindOf, pick, Lexed, tokens, refused, tokensOf}
+use Rattle.common.specs.Choice.{pick}
+use Rattle.lexer.specs.Token.{Token, Placed, kindOf, Lexed, tokens, refused, tokensOf}
 use Rattle.lexer.specs.Answer as lexing
 use Rattle.lexer.specs.declared.Lexing.the-variants.{Refused}
 use Rattle.grammar.specs.Tree.{Tree}

@@ -3,6 +3,7 @@ ghost use mathlib.Core.Path.{_≡_};
 ghost use Prim.Native.Nat.{_+_, _-_, _*_, _≤_, _<_};
 ghost use lib.ListN.{length, getD};
 ghost use lib.Seq.{sets};
+ghost use Rattle.lexer.specs.Kind.{int32Kind, naming, ending};
 ghost use Rattle.grammar.specs.Grammar.{isLiteral};
 ghost use Rattle.grammar.specs.Parse.{tokenAt};
 ghost use Rattle.grammar.specs.Stream.{tokensIn};
@@ -11,6 +12,17 @@ ghost use Rattle.translator.specs.Compile.{entry, leafEntry, callEntry, 
 ghost use Rattle.translator.specs.Emit.{entryStart, skipCount};
 use grammar::stream;
 use table::Entry;
+
+// The ops that an entry is given by name, as wide as an entry has them.
+const REAL64: u16 = opcode::REAL64 as u16;
+
+const TEXT: u16 = opcode::TEXT as u16;
+
+const NAME: u16 = opcode::NAME as u16;
+
+const SKIP_IF_FALSE: u16 = opcode::SKIP_IF_FALSE as u16;
+
+const SKIP_IF_TRUE: u16 = opcode::SKIP_IF_TRUE as u16;
 
 // The entry, over the whole of a part of 12 bytes.
 fn put_entry(part: &mut [u8], e: Entry)
@@ -44,19 +56,19 @@ pub fn operator_entry(k: u8) -> Entry
 
 // The entry that pushes the literal or name at a token, whose bytes stand in the pool from `pool` on. It asks that a literal or a name stands there.
 pub fn leaf_entry(text: &[u8], kinds: &[u8], starts: &[u16], at: usize, pool: usize) -> Entry
-    requires { ⌜ (length (now text) ≤ 4096) × (1 ≤ getD (now kinds) at 99) × (getD (now kinds) at 99 ≤ 5) ⌝ }
+    requires { ⌜ (length (now text) ≤ 4096) × (int32Kind ≤ getD (now kinds) at ending) × (getD (now kinds) at ending ≤ naming) ⌝ }
     ensures { λ r. ⌜ r ≡ leafEntry pool (tokenAt (tokensIn (now (text .entry)) (now (kinds .entry)) (now (starts .entry))) at) ⌝ }
 {
     let k = stream::kind(kinds, at);
     let s = stream::start(starts, at);
-    if k == 5 {
-        return part_entry(5, lexer::name_length(text, s), pool);
+    if k == lexer::NAME {
+        return part_entry(NAME, lexer::name_length(text, s), pool);
     }
-    if k == 4 {
-        return part_entry(4, lexer::string_length(text, s), pool);
+    if k == lexer::TEXT {
+        return part_entry(TEXT, lexer::string_length(text, s), pool);
     }
-    if k == 3 {
-        return literal_entry(3, number::bits_of_real(lexer::real_value(text, s)));
+    if k == lexer::REAL64 {
+        return literal_entry(REAL64, number::bits_of_real(lexer::real_value(text, s)));
     }
     literal_entry(k as u16, word::bits_of_i64(lexer::int_value(text, s)))
 }
@@ -85,7 +97,7 @@ pub fn call_entry(f: u8, count: usize) -> Entry
     requires { ⌜ count ≤ 4096 ⌝ }
     ensures { λ r. ⌜ r ≡ callEntry f count ⌝ }
 {
-    if f < 56 {
+    if f < opcode::BEGINS_WITH {
         return operator_entry(f);
     }
     if count == 0 {
@@ -98,11 +110,11 @@ pub fn call_entry(f: u8, count: usize) -> Entry
 fn skip_op(k: u8) -> u16
     ensures { λ r. ⌜ r ≡ skipOp k ⌝ }
 {
-    if k == 41 {
-        return 44;
+    if k == opcode::AND {
+        return SKIP_IF_FALSE;
     }
-    if k == 43 {
-        return 45;
+    if k == opcode::OR {
+        return SKIP_IF_TRUE;
     }
     0
 }

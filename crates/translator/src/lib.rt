@@ -3,6 +3,7 @@ ghost use mathlib.Core.Path.{_≡_};
 ghost use Prim.Native.Nat.{_+_, _≤_, _<_};
 ghost use lib.ListN.{length, getD};
 ghost use lib.Seq.{sets};
+ghost use Rattle.lexer.specs.Kind.{naming, opening, ending};
 ghost use Rattle.grammar.specs.Parse.{levelOf, prefixOf, operandOf, parseAll};
 ghost use Rattle.grammar.specs.Stream.{tokensIn};
 ghost use Rattle.translator.specs.Emit.{Accepts, Writes, Judged, Filled, Known, tableAnswer, headerBytes, refusalBy};
@@ -106,7 +107,7 @@ fn operand(
     ensures { λ r. ⌜ Writes (operandOf (tokensIn (now (text .entry)) (now (kinds .entry)) (now (starts .entry))) at) i pool (now (out .entry)) (now (out .exit)) r ⌝ }
 {
     let k = stream::kind(kinds, at);
-    if k == 9 {
+    if k == lexer::OPEN {
         let inner = level(text, kinds, starts, out, at + 1, 0, i, pool);
         return Emitted {
             next: inner.next + 1,
@@ -114,7 +115,7 @@ fn operand(
             pool: inner.pool,
         };
     }
-    if (k == 5) & (stream::kind(kinds, at + 1) == 9) {
+    if (k == lexer::NAME) & (stream::kind(kinds, at + 1) == lexer::OPEN) {
         return arguments(text, kinds, starts, out, at, i, pool);
     }
     let e = entry::leaf_entry(text, kinds, starts, at, pool);
@@ -136,11 +137,11 @@ fn arguments(
     i: usize,
     pool: usize,
 ) -> Emitted
-    requires { ⌜ (length (now text) ≤ 4096) × (length (now kinds) ≤ 4096) × (getD (now kinds) at 99 ≡ 5) × (getD (now kinds) (at + 1) 99 ≡ 9) × Accepts (operandOf (tokensIn (now text) (now kinds) (now starts)) at) i pool (length (now out)) ⌝ }
+    requires { ⌜ (length (now text) ≤ 4096) × (length (now kinds) ≤ 4096) × (getD (now kinds) at ending ≡ naming) × (getD (now kinds) (at + 1) ending ≡ opening) × Accepts (operandOf (tokensIn (now text) (now kinds) (now starts)) at) i pool (length (now out)) ⌝ }
     ensures { λ r. ⌜ Writes (operandOf (tokensIn (now (text .entry)) (now (kinds .entry)) (now (starts .entry))) at) i pool (now (out .entry)) (now (out .exit)) r ⌝ }
 {
     let function = stream::function(text, stream::start(starts, at));
-    if stream::kind(kinds, at + 2) == 10 {
+    if stream::kind(kinds, at + 2) == lexer::CLOSE {
         entry::put(out, i, entry::call_entry(function, 0));
         return Emitted {
             next: at + 3,
@@ -158,7 +159,7 @@ fn arguments(
         end = arg.end;
         pool_end = arg.pool;
         count += 1;
-        if stream::kind(kinds, after) == 10 {
+        if stream::kind(kinds, after) == lexer::CLOSE {
             entry::put(out, end, entry::call_entry(function, count));
             return Emitted {
                 next: after + 1,
@@ -176,7 +177,7 @@ fn put_header(out: &mut [u8], entries: usize, pool: usize)
     ensures { λ _. ⌜ now (out .exit) ≡ sets (now (out .entry)) 0 (headerBytes entries pool) ⌝ }
 {
     word::write_u32(out, 0, (6 + 12 * entries + pool) as u32);
-    word::write_u16(out, 4, 2);
+    word::write_u16(out, 4, table::KIND);
     word::write_u16(out, 6, entries as u16);
     word::write_u16(out, 8, pool as u16);
 }

@@ -3,6 +3,7 @@ ghost use mathlib.Core.Path.{_≡_};
 ghost use Prim.Native.Nat.{_+_, _≤_, _<_};
 ghost use lib.ListN.{length, getD};
 ghost use lib.Seq.{sets};
+ghost use Rattle.lexer.specs.Kind.{ending};
 ghost use Rattle.grammar.specs.Stream.{tokensIn};
 ghost use Rattle.translator.specs.Pool.{broughtAt, broughtFrom};
 use grammar::stream;
@@ -10,7 +11,7 @@ use grammar::stream;
 // The kind of the token after the token i: a name before `(` is a function's, and brings nothing.
 fn kind_after(kinds: &[u8], i: usize) -> u8
     requires { ⌜ i < length (now kinds) ⌝ }
-    ensures { λ r. ⌜ r ≡ getD (now (kinds .entry)) (i + 1) 99 ⌝ }
+    ensures { λ r. ⌜ r ≡ getD (now (kinds .entry)) (i + 1) ending ⌝ }
 {
     stream::kind(kinds, i + 1)
 }
@@ -30,14 +31,14 @@ fn put_brought(
 {
     let k = stream::kind(kinds, i);
     let s = stream::start(starts, i);
-    if k == 4 {
+    if k == lexer::TEXT {
         let n = lexer::copy_string(text, s, &mut out[at..]);
         return at + n;
     }
-    if k != 5 {
+    if k != lexer::NAME {
         return at;
     }
-    if kind_after(kinds, i) == 9 {
+    if kind_after(kinds, i) == lexer::OPEN {
         return at;
     }
     let n = lexer::copy_name(text, s, &mut out[at..]);

@@ -10,6 +10,7 @@ use lib.ListN.{length, take, drop}
 use lib.Ieee.{Float, binary64, isNan, ofBits}
 use mir.Syntax.{w32, w64}
 use mir.Val.{toZ}
+use Rattle.common.specs.Choice.{pick}
 use Rattle.word.specs.Word.{wordAt}
 use Rattle.truth.specs.declared.Truth.{Truth}
 use Rattle.truth.specs.declared.Truth.the-variants.{False, Bottom, True}
@@ -30,7 +31,6 @@ use Rattle.number.specs.declared.Number.{Number}
 use Rattle.number.specs.Number.{arithmeticOf, bitwiseOf, complementOf, shiftOf, equalOf, orderOf}
 use Rattle.notice.specs.declared.Found.{Found}
 use Rattle.notice.specs.Field.{Field}
-use Rattle.notice.specs.Layout.{pick}
 use Rattle.notice.specs.Lookup.{lookupOf}
 
 pub data Value : Type 0 where

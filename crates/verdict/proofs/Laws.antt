@@ -15,11 +15,11 @@ use borrow.Author.Tests.{ltb-true}
 use borrow.Rule.Slice.PartMut.{putMid, take-put}
 use Rattle.libc.specs.Io.{Moved}
 use Rattle.io.specs.Counts.{clamped}
+use Rattle.table.specs.Table.{mostBytes}
 use Rattle.session.specs.declared.Brought.{Brought}
 use Rattle.session.specs.declared.Brought.the-variants.{UpTo, Again}
 use Rattle.session.specs.declared.State.{State}
 use Rattle.session.specs.declared.Next.the-variants.{Read}
-use Rattle.session.specs.Session.{mostTable}
 use Rattle.session.specs.State.{first, crowded, MakesRoom, Reaches, Reads, arrived, receivedOf}
 use Rattle.session.specs.History.{Session, begins, moves, reads}
 use Rattle.session.proofs.Steps.{moved-next}
@@ -80,7 +80,7 @@ module _ (z : ℤ) (f : SFits w64 z) where
 
 -- ---- a session's history
 
-pub starts : (input table : List ℕ) (s : State) → length input ≡ 65536 → length table ≡ mostTable → s ≡ first → Session input table s [] []
+pub starts : (input table : List ℕ) (s : State) → length input ≡ 65536 → length table ≡ mostBytes → s ≡ first → Session input table s [] []
 starts input table s h g e = let l : 16384 ≤ length input = omega arith in subst (λ (x : State). Session input table x [] []) (sym e) (begins l g)
 
 pub reads-on : {input input₁ input₂ table read written : List ℕ} {s r t : State} {b : Brought}

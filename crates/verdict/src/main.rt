@@ -99,7 +99,7 @@ fn step(input: &mut [u8], table: &mut [u8], out: &mut [u8], s: State) -> Stage
 // Nothing says that the input ends, so the steps are counted down, from a number that no run uses up.
 fn main() {
     let mut input_space = [0u8; 65536];
-    let mut table_space = [0u8; 10250];
+    let mut table_space = [0u8; table::MOST_BYTES];
     let mut out_space = [0u8; 65536];
     let input: &mut [u8] = &mut input_space;
     let table: &mut [u8] = &mut table_space;

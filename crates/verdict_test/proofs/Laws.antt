@@ -4,16 +4,16 @@ use mathlib.Core.List.{List, []}
 use Prim.Native.Nat.{ℕ, _+_, _≤_}
 use native.Mathlib.Omega.{arith}
 use lib.ListN.{length}
+use Rattle.table.specs.Table.{mostBytes}
 use Rattle.session.specs.declared.Brought.the-variants.{UpTo}
 use Rattle.session.specs.declared.State.{State}
-use Rattle.session.specs.Session.{mostTable}
 use Rattle.session.specs.State.{first, Ready, MakesRoom, receivedOf}
 use Rattle.session.specs.History.{begins}
 use Rattle.session.proofs.Steps.{room-ready, received-ready}
 use Rattle.session.proofs.Theorems.{always-ready}
 use Rattle.verdict_test.specs.Feeding.{Feeds}
 
-pub start-ready : (input table : List ℕ) (s : State) → length input ≡ 20000 → length table ≡ mostTable → s ≡ first → Ready input table s
+pub start-ready : (input table : List ℕ) (s : State) → length input ≡ 20000 → length table ≡ mostBytes → s ≡ first → Ready input table s
 start-ready input table s h g e = let l : 16384 ≤ length input = omega arith in subst (λ (x : State). Ready input table x) (sym e) (always-ready input table [] [] first (begins l g))
 
 pub fed-ready : {bytes input input₁ input₂ table : List ℕ} {at n : ℕ} {s r t : State} → Ready input table s → MakesRoom input s input₁ r → Feeds bytes at input₁ (r .end) input₂ n

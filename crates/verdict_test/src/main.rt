@@ -87,7 +87,7 @@ fn step(bytes: &[u8], input: &mut [u8], table: &mut [u8], out: &mut [u8], s: Sta
 // Nothing says that a session ends, so the steps are counted down.
 fn serve(bytes: &[u8]) {
     let mut input_space = [0u8; 20000];
-    let mut table_space = [0u8; 10250];
+    let mut table_space = [0u8; table::MOST_BYTES];
     let mut out_space = [0u8; 4096];
     let input: &mut [u8] = &mut input_space;
     let table: &mut [u8] = &mut table_space;

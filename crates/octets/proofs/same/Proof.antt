@@ -1,83 +1,114 @@
-use Prim.Native.Nat.{_≤_, _-_}
-use mathlib.Core.Path.{_≡_, refl, sym, _∙_}
+use mathlib.Core.Path.{sym}
 use native.Mathlib.Omega.{arith}
-use lib.ListN.{length}
-use Rattle.octets.specs.Octets.{fold, folded, sameOf}
-use Rattle.octets.proofs.Laws.{lengths-differ, sameFrom, same-more, same-stop, same-end}
+use Rattle.octets.specs.Octets.{fold}
+use Rattle.octets.proofs.Laws.{lengths-differ, rest}
+use Rattle.octets.proofs.Sames.{left-folded, right-folded, none-folded}
 use borrow.Author.Needs.{needs}
 use Rattle.octets.proofs.same.Statement.{statement}
 use Rattle.octets.proofs.same.Tie as tie
-use Rattle.octets.proofs.same.Reads as reads
-use Rattle.octets.proofs.same.Lts as lts
-use Rattle.octets.proofs.fold.Reads as fold-reads
 
-abbrev Inv-loop : tie.InvT-loop
-Inv-loop s s-mark t t-mark i₀ i = (i ≤ length s) × (sameFrom (fold s-mark) (fold t-mark) s t i ≡ sameOf (folded s-mark s) (folded t-mark t))
-
-abbrev μ-loop : tie.MeasureT-loop
-μ-loop s s-mark t t-mark i₀ i = length s - i
-
-returns : tie.Need-returns Inv-loop μ-loop
+returns : tie.Need-returns
 returns c =
-    lengths-differ (fold (c .before .before .before .args .s-mark)) (fold (c .before .before .before .args .t-mark)) (c .before .before .before .args .s .now) (c .before .before .before .args .t .now) (c .if1 .taken)
+    let a = c .before .before .before .args in
+    lengths-differ (fold (a .s-mark)) (fold (a .t-mark)) (a .s .now) (a .t .now) (c .if1 .taken)
 
-loop-holds : tie.Need-loop-holds Inv-loop μ-loop
-loop-holds c = (omega arith, refl)
+-- where s is folded
+sub-same-folded : tie.Need-sub-same-folded
+sub-same-folded c = search needs
 
-shared-slice-read-fold : tie.Need-shared-slice-read-fold Inv-loop μ-loop
-shared-slice-read-fold c = search needs
+part-same-folded-start : tie.Need-part-same-folded-start
+part-same-folded-start c = search needs
 
-fold-requires : tie.Need-fold-requires Inv-loop μ-loop
-fold-requires c κs = search needs
+part-same-folded-end : tie.Need-part-same-folded-end
+part-same-folded-end c = search needs
 
-shared-slice-read-fold-2 : tie.Need-shared-slice-read-fold-2 Inv-loop μ-loop
-shared-slice-read-fold-2 c = search needs
+sub-same-folded-2 : tie.Need-sub-same-folded-2
+sub-same-folded-2 c = search needs
 
-fold-requires-2 : tie.Need-fold-requires-2 Inv-loop μ-loop
-fold-requires-2 c κs = search needs
+part-same-folded-start-2 : tie.Need-part-same-folded-start-2
+part-same-folded-start-2 c = search needs
 
-returns-2 : tie.Need-returns-2 Inv-loop μ-loop
+part-same-folded-end-2 : tie.Need-part-same-folded-end-2
+part-same-folded-end-2 c = search needs
+
+same-folded-requires : tie.Need-same-folded-requires
+same-folded-requires c κs =
+    let a = c .before .before .before .before .before .before .args in
+    rw (rest (a .s .now) 0, rest (a .t .now) 0) (c .before .before .before .if1 .left)
+
+returns-2 : tie.Need-returns-2
 returns-2 c =
-    let a = c .before .before .before .before .before .before .before .before .before .before .args in
-    let l = c .before .before .before .before .before .before .loop in
-    same-stop (fold (a .s-mark)) (fold (a .t-mark)) (a .s .now) (a .t .now) (l .i) (omega arith) (omega arith)
-    (λ e. c .if2 .taken (c .before .before .before .fold .ensures ∙ e ∙ sym (c .before .fold2 .ensures))) ∙ l .inv .1
+    let a = c .before .before .before .before .before .before .before .args in
+    left-folded (a .s-mark) (a .t-mark) (a .s .now) (a .t .now) _ (c .before .before .before .if2 .taken) (rw (rest (a .s .now) 0, rest (a .t .now) 0) at (c .same-folded .ensures))
 
-add-i : tie.Need-add-i Inv-loop μ-loop
-add-i c = search needs
+-- where only t is
+sub-same-folded-3 : tie.Need-sub-same-folded-3
+sub-same-folded-3 c = search needs
 
-loop-less : tie.Need-loop-less Inv-loop μ-loop
-loop-less c = search needs
+part-same-folded-start-3 : tie.Need-part-same-folded-start-3
+part-same-folded-start-3 c = search needs
 
-loop-again : tie.Need-loop-again Inv-loop μ-loop
-loop-again c =
-    let a = c .before .before .before .before .before .before .before .before .before .before .args in
-    let l = c .before .before .before .before .before .before .loop in (
-      omega arith,
-      same-more (fold (a .s-mark)) (fold (a .t-mark)) (a .s .now) (a .t .now) (l .i) (omega arith) (omega arith)
-          (sym (c .before .before .before .fold .ensures) ∙ c .if2 .left ∙ c .before .fold2 .ensures) ∙ l .inv .1,
-    )
+part-same-folded-end-3 : tie.Need-part-same-folded-end-3
+part-same-folded-end-3 c = search needs
 
-returns-3 : tie.Need-returns-3 Inv-loop μ-loop
+sub-same-folded-4 : tie.Need-sub-same-folded-4
+sub-same-folded-4 c = search needs
+
+part-same-folded-start-4 : tie.Need-part-same-folded-start-4
+part-same-folded-start-4 c = search needs
+
+part-same-folded-end-4 : tie.Need-part-same-folded-end-4
+part-same-folded-end-4 c = search needs
+
+same-folded-requires-2 : tie.Need-same-folded-requires-2
+same-folded-requires-2 c κs =
+    let a = c .before .before .before .before .before .before .before .args in
+    rw (rest (a .s .now) 0, rest (a .t .now) 0) (sym (c .before .before .before .before .if1 .left))
+
+returns-3 : tie.Need-returns-3
 returns-3 c =
-    let a = c .before .before .before .before .before .args in
-    let l = c .before .loop in
-    same-end (fold (a .s-mark)) (fold (a .t-mark)) (a .s .now) (a .t .now) (l .i) (omega arith) (omega arith) ∙ l .inv .1
+    let a = c .before .before .before .before .before .before .before .before .args in
+    right-folded (a .s-mark) (a .t-mark) (a .s .now) (a .t .now) _ (c .before .before .before .before .if2 .left) (c .before .before .before .if3 .taken) (rw (rest (a .s .now) 0, rest (a .t .now) 0) at (c .same-folded2 .ensures))
+
+-- where none is
+same-bytes-requires : tie.Need-same-bytes-requires
+same-bytes-requires c κs = omega arith
+
+returns-4 : tie.Need-returns-4
+returns-4 c =
+    let a = c .before .before .before .before .before .before .before .args in
+    none-folded (a .s-mark) (a .t-mark) (a .s .now) (a .t .now) _ (c .before .before .before .if2 .left) (c .before .before .if3 .left) (c .same-bytes .ensures)
+
+same-words-requires : tie.Need-same-words-requires
+same-words-requires c κs = (omega arith, omega arith)
+
+returns-5 : tie.Need-returns-5
+returns-5 c =
+    let a = c .before .before .before .before .before .before .before .args in
+    none-folded (a .s-mark) (a .t-mark) (a .s .now) (a .t .now) _ (c .before .before .before .if2 .left) (c .before .before .if3 .left) (c .same-words .ensures)
 
 pub same-spec : {M : Type 1} → statement M
 same-spec =
     tie.close
     (tie.spec
-    Inv-loop
-    μ-loop
     returns
-    loop-holds
-    shared-slice-read-fold
-    fold-requires
-    shared-slice-read-fold-2
-    fold-requires-2
+    sub-same-folded
+    part-same-folded-start
+    part-same-folded-end
+    sub-same-folded-2
+    part-same-folded-start-2
+    part-same-folded-end-2
+    same-folded-requires
     returns-2
-    add-i
-    loop-less
-    loop-again
-    returns-3)
+    sub-same-folded-3
+    part-same-folded-start-3
+    part-same-folded-end-3
+    sub-same-folded-4
+    part-same-folded-start-4
+    part-same-folded-end-4
+    same-folded-requires-2
+    returns-3
+    same-bytes-requires
+    returns-4
+    same-words-requires
+    returns-5)

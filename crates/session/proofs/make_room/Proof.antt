@@ -1,11 +1,11 @@
 -- `session::make_room` meets its contract: by whether a longest record has room. Assumes nothing.
+use Rattle.common.proofs.move_down.Reads as move-down-reads
 use Rattle.session.proofs.Steps.{room-made, room-there}
 use borrow.Author.Needs.{needs}
 use Rattle.session.proofs.make_room.Statement.{statement}
 use Rattle.session.proofs.make_room.Tie as tie
 use Rattle.session.proofs.make_room.Reads as reads
 use Rattle.session.proofs.make_room.Lts as lts
-use Rattle.record.proofs.move_down.Reads as move-down-reads
 
 sub-if1 : tie.Need-sub-if1
 sub-if1 c = search needs

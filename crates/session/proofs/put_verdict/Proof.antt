@@ -6,11 +6,11 @@ use Rattle.session.proofs.put_verdict.Statement.{statement}
 use Rattle.session.proofs.put_verdict.Tie as tie
 use Rattle.session.proofs.put_verdict.Reads as reads
 use Rattle.session.proofs.put_verdict.Lts as lts
-use Rattle.session.proofs.run_kept.Reads as run-kept-reads
+use Rattle.session.proofs.run_last.Reads as run-last-reads
 use Rattle.record.proofs.put_notice_line.Reads as put-notice-line-reads
 
-run-kept-requires : tie.Need-run-kept-requires
-run-kept-requires c κs = search needs
+run-last-requires : tie.Need-run-last-requires
+run-last-requires c κs = search needs
 
 cast-put-notice-line : tie.Need-cast-put-notice-line
 cast-put-notice-line c = search needs
@@ -23,9 +23,9 @@ same-length c = search needs
 
 returns : tie.Need-returns
 returns c =
-    (renamed (ap ranLine (c .before .before .before .before .before .run-kept .ensures)) (c .before .before .put-notice-line .ensures .0), c .before .before .put-notice-line .ensures .1)
+    (renamed (ap ranLine (c .before .before .before .before .before .run-last .ensures)) (c .before .before .put-notice-line .ensures .0), c .before .before .put-notice-line .ensures .1)
 
 pub put-verdict-spec : {M : Type 1} → statement M
 put-verdict-spec =
     tie.close
-    (tie.spec run-kept-requires cast-put-notice-line put-notice-line-requires same-length returns)
+    (tie.spec run-last-requires cast-put-notice-line put-notice-line-requires same-length returns)

@@ -10,6 +10,7 @@ use Rattle.record.proofs.Record.{the-type}
 use denote.Enum.Declared.{tagOf}
 use Rattle.record.specs.Record.{recordOf, waitsOf}
 use Rattle.record.proofs.Theorems.{whole-lies}
+use Rattle.record.specs.Line.{lineRoom}
 use Rattle.session.proofs.Laws.{to-end, between, between-length, not-whole, Along, along-first, along-more, along-full, along-waits, along-error}
 use borrow.Author.Needs.{needs}
 use Rattle.session.proofs.serve.Statement.{statement}
@@ -22,7 +23,7 @@ use Rattle.record.proofs.waits.Reads as waits-reads
 use Rattle.session.proofs.answer.Reads as answer-reads
 
 abbrev Inv-loop : tie.InvT-loop
-Inv-loop input last table₀ held out₀ at₀ size-held₀ written₀ left₀ table out at size-held written left = Along input last table₀ held out₀ (length out₀ / 80) table out at size-held written left
+Inv-loop input last table₀ held out₀ at₀ size-held₀ written₀ left₀ table out at size-held written left = Along input last table₀ held out₀ (length out₀ / lineRoom) table out at size-held written left
 
 abbrev μ-loop : tie.MeasureT-loop
 μ-loop input last table₀ held out₀ at₀ size-held₀ written₀ left₀ table out at size-held written left = left
@@ -45,7 +46,7 @@ lies c =
 
 loop-holds : tie.Need-loop-holds Inv-loop μ-loop
 loop-holds c =
-    let a = c .before .before .before .args in along-first (a .input .now) (a .last) (a .table .now) (a .held) (a .out .now) (length (a .out .now) / 80) (c .before .before .before .pre .0) (c .before .before .before .pre .1) (omega arith)
+    let a = c .before .before .before .args in along-first (a .input .now) (a .last) (a .table .now) (a .held) (a .out .now) (length (a .out .now) / lineRoom) (c .before .before .before .pre .0) (c .before .before .before .pre .1) (omega arith)
 
 sub-next-record : tie.Need-sub-next-record Inv-loop μ-loop
 sub-next-record c = omega (arith, c .before .loop .inv .placed)

@@ -1,7 +1,7 @@
 use mathlib.Core.Path.{refl, sym, _∙_}
 use borrow.Author.Tests.{lt-leb, le-leb, not-true, not-false}
-use Rattle.table.proofs.Tests.{no-way}
 use borrow.Author.Needs.{needs}
+use Rattle.common.proofs.Choice.{false-true}
 use Rattle.table.proofs.land.Statement.{statement}
 use Rattle.table.proofs.land.Tie as tie
 use Rattle.table.proofs.land.Reads as reads
@@ -15,7 +15,7 @@ add-to-2 : tie.Need-add-to-2
 add-to-2 c = search needs
 
 returns : tie.Need-returns
-returns c = record { answer = rw (lt-leb _ _ (c .if1 .taken)); wants = λ t. no-way t }
+returns c = record { answer = rw (lt-leb _ _ (c .if1 .taken)); wants = λ t. false-true t }
 
 mul-w : tie.Need-mul-w
 mul-w c = search needs
@@ -27,7 +27,7 @@ meets-requires : tie.Need-meets-requires
 meets-requires c κs = search needs
 
 returns-2 : tie.Need-returns-2
-returns-2 c = record { answer = rw (le-leb _ _ (c .before .before .before .if1 .left), sym (c .before .meets .ensures) ∙ not-true _ (c .if2 .taken)); wants = λ t. no-way t }
+returns-2 c = record { answer = rw (le-leb _ _ (c .before .before .before .if1 .left), sym (c .before .meets .ensures) ∙ not-true _ (c .if2 .taken)); wants = λ t. false-true t }
 
 mul-wanted : tie.Need-mul-wanted
 mul-wanted c = search needs

@@ -4,7 +4,7 @@ use Prim.Native.Nat.{ℕ}
 use native.Mathlib.Omega.{arith}
 use mathlib.Core.Path.{_≡_, _∙_, sym, ap}
 use Prim.Native.Nat.{_+_}
-use Rattle.grammar.specs.Grammar.{opening, closing, naming, comma}
+use Rattle.lexer.specs.Kind.{comma}
 use Rattle.grammar.specs.Function.{functionOf}
 use Rattle.grammar.specs.Stream.{tokensIn}
 use Rattle.grammar.proofs.Sound.{at-kind}

@@ -4,7 +4,8 @@ use Prim.Native.Nat.{ℕ}
 use native.Mathlib.Omega.{arith}
 use mathlib.Core.Path.{_≡_, _∙_, sym, ap}
 use Prim.Native.Nat.{_+_}
-use Rattle.grammar.specs.Grammar.{isLiteral, opening, closing, naming}
+use Rattle.lexer.specs.Kind.{opening}
+use Rattle.grammar.specs.Grammar.{isLiteral}
 use Rattle.grammar.specs.Stream.{tokensIn}
 use Rattle.grammar.proofs.Sound.{at-kind}
 use Rattle.grammar.proofs.Streams.{length-tokens, kind-is}

@@ -20,6 +20,9 @@ loop-holds c =
     let e : c .before .args .n - 0 ≡ c .before .args .n = omega arith in
     (omega arith, rw e)
 
+add-loop : tie.Need-add-loop Inv-loop μ-loop
+add-loop c = omega (arith, c .loop .inv .0, c .before .before .pre .few)
+
 add-has : tie.Need-add-has Inv-loop μ-loop
 add-has c = search needs
 
@@ -66,6 +69,7 @@ differ-spec =
     Inv-loop
     μ-loop
     loop-holds
+    add-loop
     add-has
     value-requires
     has-requires

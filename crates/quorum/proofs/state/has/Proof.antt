@@ -1,10 +1,10 @@
 -- `state::has` meets its contract: v is among the values from i on exactly if among all. Assumes nothing.
-use mathlib.Core.Path.{_≡_, refl, _∙_, ap}
-use mathlib.Core.List.{List}
-use Prim.Native.Nat.{_≤_, _-_, ℕ}
+use mathlib.Core.Path.{_≡_, refl, _∙_, ap₂}
+use Prim.Native.Nat.{_≤_, _-_}
 use native.Mathlib.Omega.{arith}
 use borrow.Author.Needs.{needs}
 use Rattle.octets.specs.Octets.{sameOf}
+use Rattle.octets.proofs.Theorems.{not-folded}
 use Rattle.quorum.specs.Decision.{has, valueAt, valuesFrom}
 use Rattle.quorum.proofs.Reading.{size-at, has-found, has-passed, has-end}
 use Rattle.quorum.proofs.state.has.Statement.{statement}
@@ -31,7 +31,7 @@ same-requires c κs = search needs
 -- what `same` told of the value in place i
 same-is : (c : tie.After-same Inv-loop μ-loop) → let a = c .before .before .before .before .before .before .args in
     c .same .result ≡ sameOf (valueAt (a .buffer .now) (c .before .before .before .loop .i)) (a .v .now)
-same-is c = c .same .ensures ∙ ap (λ (x : List ℕ). sameOf x (c .before .before .before .before .before .before .args .v .now)) (c .before .value .ensures)
+same-is c = c .same .ensures ∙ ap₂ sameOf (not-folded _ ∙ c .before .value .ensures) (not-folded _)
 
 returns : tie.Need-returns Inv-loop μ-loop
 returns c =

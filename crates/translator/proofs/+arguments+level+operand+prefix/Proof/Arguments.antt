@@ -6,7 +6,7 @@ use mathlib.Core.Path.{_≡_, _∙_, sym, ap, subst}
 use Prim.Native.Nat.{_<_, _+_}
 use lib.ListN.{length}
 use lib.Seq.{length-sets}
-use Rattle.grammar.specs.Grammar.{opening, naming, closing, comma}
+use Rattle.lexer.specs.Kind.{naming}
 use Rattle.grammar.specs.Parse.{kindAt, operandOf}
 use Rattle.grammar.specs.Stream.{tokensIn}
 use Rattle.grammar.proofs.Sound.{at-kind}

@@ -9,8 +9,8 @@ use lib.Dec.{eqb}
 use lib.ListN.{length}
 use lib.Seq.{length-sets}
 use borrow.Author.Tests.{eqb-true, eq-eqb}
-use Rattle.table.proofs.Tests.{both-true, no-way}
-use Rattle.grammar.specs.Grammar.{opening, naming}
+use Rattle.lexer.specs.Kind.{opening}
+use Rattle.table.proofs.Tests.{both-true}
 use Rattle.grammar.specs.Parse.{tokenAt, kindAt, operandOf}
 use Rattle.table.specs.declared.Entry.{Entry}
 use Rattle.grammar.specs.Stream.{tokensIn}
