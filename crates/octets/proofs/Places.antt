@@ -8,9 +8,10 @@ use native.Mathlib.Omega.{arith}
 use lib.ListN.{length, getD, drop, drop-of-length-le, length-map, length-drop}
 use lib.Seq.{drop-cons}
 use borrow.Author.Tests.{eq-eqb, ne-eqb}
+use Rattle.common.proofs.Choice.{true-false}
 use Rattle.octets.specs.Octets.{beginsOf, containsOf}
 use Rattle.octets.proofs.Laws.{begins-long, passed}
-use Rattle.octets.proofs.Theorems.{empty-fits, true-false}
+use Rattle.octets.proofs.Theorems.{empty-fits}
 
 module _ (f g : ℕ → ℕ) (s p : List ℕ) where
   -- whether p from byte j on begins s at place x

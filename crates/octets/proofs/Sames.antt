@@ -6,11 +6,12 @@ use Prim.Native.Nat.{ℕ, _+_, _≤_, _<_}
 use native.Mathlib.Omega.{arith}
 use lib.ListN.{length, getD, take, drop}
 use lib.Seq.{take-add, take-take, take-all}
+use Rattle.common.proofs.Choice.{true-false}
 use Rattle.word.specs.Word.{wordAt, wordBytes, Bytes}
 use Rattle.word.proofs.Theorems.{read-bytes}
 use Rattle.word.proofs.Laws.{word-one}
 use Rattle.octets.specs.Octets.{folded, sameOf}
-use Rattle.octets.proofs.Theorems.{same, true-false, not-folded}
+use Rattle.octets.proofs.Theorems.{same, not-folded}
 
 module _ (s t : List ℕ) where
   -- what differs in a word is not the same

@@ -8,23 +8,18 @@ use native.Mathlib.Decide.{decLt, decLe}
 use native.Mathlib.Omega.{arith}
 use lib.Dec.{eqb, ltb, leb}
 use borrow.Author.Tests.{eq-eqb, ne-eqb, lt-ltb, le-ltb, le-leb, lt-leb, eqb-true, ltb-true}
+use Rattle.common.proofs.Choice.{true-false, false-true}
 use Rattle.octets.specs.Octets.{lower, fold, folded, sameOf, beforeOf, beginsOf, containsOf, endsOf}
 use Rattle.octets.specs.Theorems.{Same, Begins, Contains, Ends, EmptyFits, Before, BeforeIrreflexive, BeforeTransitive, BeforeTotal, FoldedTwice, NotFolded}
 
 -- tests that hold together, and one of two
 pub and-parts : (a b : Bool) → (a && b) ≡ true → (a ≡ true) × (b ≡ true)
 and-parts true b e = (refl, e)
-and-parts false b e = absurd (never e)
-  where
-    never : false ≡ true → ⊥
-    never e = let z : _≡_ {A = ℕ} 0 1 = cc in omega arith
+and-parts false b e = false-true e
 
 pub or-parts : (a b : Bool) → (a || b) ≡ true → (a ≡ true) ⊎ (b ≡ true)
 or-parts true b e = inl refl
 or-parts false b e = inr e
-
-pub true-false : {A : Type 0} → true ≡ false → A
-true-false e = let z : _≡_ {A = ℕ} 0 1 = cc in absurd (omega arith)
 
 -- same
 pub same-refl : (s : List ℕ) → sameOf s s ≡ true

@@ -17,7 +17,7 @@ use Rattle.truth.specs.declared.Truth.{Truth}
 use Rattle.truth.specs.declared.Truth.the-variants.{False, Bottom, True}
 use Rattle.truth.specs.Truth.{orOf, xorOf, ofBool}
 use Rattle.truth.proofs.Theorems.{false-and as false-and-t, true-or as true-or-t}
-use Rattle.octets.proofs.Theorems.{true-false}
+use Rattle.common.proofs.Choice.{true-false}
 use Rattle.opcode.specs.declared.Load.{Load}
 use Rattle.opcode.specs.declared.Arithmetic.{Arithmetic}
 use Rattle.opcode.specs.declared.Bitwise.{Bitwise}
