@@ -214,17 +214,24 @@ pub fn copy_name(text: &[u8], at: usize, part: &mut [u8]) -> usize
     copy_plain(rest(text, at), 0, part)
 }
 
-// Whether the name is the word, with no escape. Most words differ from a name in the first byte, which is told before the name's end is looked for.
+// Whether the name is the word, with no escape.
+fn spells(text: &[u8], at: usize, word: &[u8]) -> bool
+    ensures { λ r. ⌜ r ≡ nameIs (now (text .entry)) at (now (word .entry)) ⌝ }
+{
+    if octets::same(run(text, at, 0), false, word, false) {
+        return !has_escape(word);
+    }
+    false
+}
+
+// The same. Most words differ from a name in the first byte, which is told before the name's end is looked for, in a function that is small enough to be laid in line.
 pub fn name_is(text: &[u8], at: usize, word: &[u8]) -> bool
     ensures { λ r. ⌜ r ≡ nameIs (now (text .entry)) at (now (word .entry)) ⌝ }
 {
     if (0 < word.len()) & (byte_at(text, at) != byte_at(word, 0)) {
         return false;
     }
-    if octets::same(run(text, at, 0), false, word, false) {
-        return !has_escape(word);
-    }
-    false
+    spells(text, at, word)
 }
 
 pub fn string_length(text: &[u8], at: usize) -> usize
