@@ -1,7 +1,7 @@
 #!/usr/bin/env python3
-"""run_vectors.py [VECTORS]: writes crates/interpreter_test/stdin and stdout from VECTORS/run.txt, document 01's own runs, and runs at the limits that document 01 names.
+"""run_vectors.py [VECTORS]: writes crates/interpreter_test/stdin and stdout from VECTORS/run.txt and 01-run.txt, document 01's own runs, and runs at the limits that the documents name.
 
-A vector's answer is its own. Those of the other cases follow from document 01's sentences, which are named beside them."""
+A vector's answer is its own. Those of the other cases follow from the documents' sentences, which are named beside them."""
 import struct
 import sys
 from pathlib import Path
@@ -46,11 +46,31 @@ def cases():
         yield table([NAME] + [two] * 7 + [(1, 0, last), (59, 8, 0)]), OP42, "0 0 %s 10" % verdict
 
 
+def cab(value, kind=4):
+    field = struct.pack("<HHB", 6 + len(value), kind, 3) + b"Cab" + value
+    return struct.pack("<IHH", 4 + len(field), 1, 1) + field
+
+
+def wildcards():
+    # document 02, request 1: `wildcard (Cab, "T-4?", "V*")`; "the whole value must fit a pattern"; "same bottom rule"
+    dispatch = table([(5, 3, 0), (4, 4, 3), (4, 2, 7), (60, 2, 0)], b"CabT-4?V*")
+    for value, verdict in ((b"T-41", "true"), (b"T-4", "false"), (b"T-412", "false"), (b"V", "true"), (b"V-1", "true"), (b"AV", "false"), (b"", "false")):
+        yield dispatch, cab(value), "0 0 %s 4" % verdict
+    yield dispatch, cab(b"T-41", 5), "0 0 bottom 4"
+    yield dispatch, E, "0 0 bottom 4"
+    # a folded value beside a pattern, which is not folded
+    for pattern, verdict in ((b"t-4?", "true"), (b"T-4?", "false")):
+        yield table([(5, 3, 0), (6, 0, 0), (4, 4, 3), (60, 1, 0)], b"Cab" + pattern), cab(b"T-41"), "0 0 %s 4" % verdict
+    # "the table check gives 12 for it and for a pattern operand that is no op 4 entry directly before"
+    yield table([(5, 3, 0), (4, 2, 3), (60, 1, 0)], b"Cab[]"), cab(b"[]"), "12 0 bottom 0"
+    yield table([(5, 3, 0), (4, 1, 3), (6, 0, 0), (60, 1, 0)], b"Cab*"), cab(b"[]"), "12 0 bottom 0"
+
+
 def main(vectors=Path(__file__).resolve().with_name("vectors")):
     here = Path(__file__).resolve().parent.parent / "crates" / "interpreter_test"
-    rows = list(cases())
-    for line in (Path(vectors) / "run.txt").read_text().split("\n"):
-        if line:
+    rows = [*cases(), *wildcards()]
+    for name in ("run.txt", "01-run.txt"):
+        for line in (Path(vectors) / name).read_text().splitlines():
             t, notice, *answer = line.split()
             rows.append((*(b"" if s == "-" else bytes.fromhex(s) for s in (t, notice)), " ".join(answer)))
     (here / "stdin").write_bytes(b"".join(struct.pack("<I", len(s)) + s for row in rows for s in row[:2]))

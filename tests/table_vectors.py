@@ -1,5 +1,5 @@
 #!/usr/bin/env python3
-"""table_vectors.py [VECTORS]: writes crates/table_test/stdin and stdout from the tables of VECTORS/run.txt, document 01's 48-byte table, and tables at the limits that document 01 names.
+"""table_vectors.py [VECTORS]: writes crates/table_test/stdin and stdout from the tables of VECTORS/run.txt, 01-run.txt and 01-check.txt, document 01's 48-byte table, and tables at the limits that the documents name.
 
 A vector says whether its table is refused by 12. What a table holds is read by struct."""
 import struct
@@ -16,7 +16,7 @@ def table(entries, pool=b"", kind=2, count=None, size=None, spare=b"", word=0):
 
 
 def limits():
-    """Tables with document 01's own answer: whether they pass."""
+    """Tables with the documents' own answer: whether they pass."""
     name, number, compare = (5, 2, 0), (1, 0, 42), (32, 0, 0)
     op42 = [name, number, compare]
     yield table(op42, b"Op"), True
@@ -67,7 +67,7 @@ def limits():
         yield table([name, number, (op, 1, 1)], b"Op"), False
         yield table([number, (op, 1, 0)]), False
     # ops that are not named
-    for op in (0, 9, 15, 27, 31, 38, 39, 46, 47, 55, 60, 65535):
+    for op in (0, 9, 15, 27, 31, 38, 39, 46, 47, 55, 61, 65535):
         yield table(op42 + [(op, 0, 0)], b"Op"), False
     # "each entry has enough operands of the right kind"; "the end has one logic slot"
     yield table([number]), False
@@ -94,6 +94,45 @@ def limits():
         yield table(op42 + [(op, 1, 0)], b"Op"), False
 
 
+def wildcards():
+    """The same of document 02's request 1: op 60."""
+    name, star = (5, 1, 0), (4, 1, 1)
+    for a in (0, 1, 8, 9):
+        yield table([name] + [star] * a + [(60, a, 0)], b"a*"), 1 <= a <= 8
+    yield table([name, star, (60, 1, 1)], b"a*"), False
+    yield table([star, (60, 1, 0)], b"a*"), False
+    yield table([star, star, (60, 1, 0)], b"a*"), True
+    # "It gets op 60.": it has its operands' kinds as `begins-with` has
+    yield table([(1, 0, 1), (1, 0, 1), (32, 0, 0), star, (60, 1, 0)], b"a*"), False
+    yield table([name, star, (60, 1, 0), (40, 0, 0)], b"a*"), True
+    yield table([name, star, (60, 1, 0), (8, 0, 0)], b"a*"), False
+    # ".. and for a pattern operand that is no op 4 entry directly before"
+    for entries in ([name], [star, (6, 0, 0)], [(1, 0, 1)], [star, name], [name, star], [star, star, (25, 0, 0)]):
+        yield table([name] + entries + [(60, 1 if (6, 0, 0) in entries or (25, 0, 0) in entries else len(entries), 0)], b"a*"), False
+    yield table([name, (6, 0, 0), star, (60, 1, 0)], b"a*"), True
+    yield table([name, (1, 0, 1), star, (60, 2, 0)], b"a*"), False
+    yield table([(1, 0, 1), star, star, (60, 2, 0)], b"a*"), True
+    # a skip to where the patterns stand would find other kinds
+    equal = [(1, 0, 1), (1, 0, 1), (32, 0, 0)]
+    yield table(equal + [(44, 4, 0), name, star, (60, 1, 0), (41, 0, 0)], b"a*"), True
+    for a in (1, 2, 3):
+        yield table(equal + [(44, a, 0), name, star, (60, 1, 0), (41, 0, 0)], b"a*"), False
+    # "An unclosed or empty set (`[!]` too), a range that falls and a backslash at the end are ill-formed, nothing else.": "the table check gives 12 for it"
+    ill = [b"[", b"a[b", b"[!", b"[]", b"[!]", b"[]a]", b"[!]]", b"[b-a]", b"[a--]", b"[\xff-\xfe]", b"[\\b-\\a]", b"[\\]", b"[a\\]", b"\\", b"a\\", b"\\\\\\"]
+    well = [b"", b"]", b"-", b"!", b"[a-]", b"[-a]", b"[--a]", b"[!-z]", b"[a-b-c]", b"[[]", b"[*?]", b"[!!]", b"[a-a]", b"[\0-\xff]", b"[\\]]", b"[\\!]", b"[b\\-a]", b"\\\\", b"\0\xff"]
+    for pattern, right in [(p, False) for p in ill] + [(p, True) for p in well]:
+        yield table([name, (4, len(pattern), 1), (60, 1, 0)], b"a" + pattern), right
+        # the last of two, and the first
+        yield table([name, (4, 0, 0), (4, len(pattern), 1), (60, 2, 0)], b"a" + pattern), right
+        yield table([name, (4, len(pattern), 1), (4, 0, 0), (60, 2, 0)], b"a" + pattern), right
+    # a pattern of the whole pool; one whose set closes past its own end in the pool; a string that passes the pool's end
+    yield table([(4, 4096, 0), (4, 4096, 0), (60, 1, 0)], b"?" * 4095 + b"*"), True
+    yield table([(4, 4096, 0), (4, 4096, 0), (60, 1, 0)], b"?" * 4095 + b"["), False
+    yield table([name, (4, 2, 1), (60, 1, 0)], b"a[b]"), False
+    yield table([name, (4, 3, 1), (60, 1, 0)], b"a[b]"), True
+    yield table([name, (4, 4, 1), (60, 1, 0)], b"a[b]"), False
+
+
 def reading(t):
     n, p = struct.unpack_from("<HH", t, 6)
     fields = "".join("%d %d %d " % struct.unpack_from("<HHQ", t, 10 + 12 * i) for i in range(n))
@@ -102,11 +141,11 @@ def reading(t):
 
 def main(vectors=Path(__file__).resolve().with_name("vectors")):
     here = Path(__file__).resolve().parent.parent / "crates" / "table_test"
-    cases = list(limits())
-    for line in (Path(vectors) / "run.txt").read_text().split("\n"):
-        if line:
-            t, _, number = line.split()[:3]
-            cases.append((bytes.fromhex(t) if t != "-" else b"", number != "12"))
+    cases = [*limits(), *wildcards()]
+    for name, at in (("run.txt", 2), ("01-run.txt", 2), ("01-check.txt", 1)):
+        for line in (Path(vectors) / name).read_text().splitlines():
+            words = line.split()
+            cases.append((bytes.fromhex(words[0]) if words[0] != "-" else b"", words[at] != "12"))
     cases = list(dict.fromkeys(cases))
     (here / "stdin").write_bytes(b"".join(struct.pack("<I", len(t)) + t for t, _ in cases))
     (here / "stdout").write_text("".join((reading(t) if right else "12") + "\n" for t, right in cases))

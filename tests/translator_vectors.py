@@ -1,8 +1,8 @@
 #!/usr/bin/env python3
-"""translator_vectors.py [VECTORS]: writes crates/translator_test/stdin and stdout from translate.txt (VECTORS, or in the folder VECTORS), document 01's own examples, and texts at the limits that it names.
+"""translator_vectors.py [VECTORS]: writes crates/translator_test/stdin and stdout from translate.txt and 01-translate.txt in the folder VECTORS, document 01's own examples, and texts at the limits that it and document 02 name.
 
 A vector's answer is its own. A vector with a buffer of 65,536 bytes is asked again with none, and one with a table also with a buffer of the table's length and with one byte less: "9 | lent buffer shorter than the table", the
-last of the refusals. The answers of the other cases follow from document 01's sentences, which are named beside them."""
+last of the refusals. The answers of the other cases follow from the documents' sentences, which are named beside them."""
 import struct
 import sys
 from pathlib import Path
@@ -95,6 +95,30 @@ def limits():
     yield from refused(wide + b" ^^ " + high, 7)
 
 
+def wildcards():
+    # document 02, request 1: "Dispatch wants `wildcard (Cab, "T-4?", "V*")`. Same argument forms as `begins-with`"; "It gets op 60."
+    yield from accepted(b'wildcard (Cab, "T-4?", "V*")', table([(5, 3, 0), (4, 4, 3), (4, 2, 7), (60, 2, 0)], b"CabT-4?V*"))
+    yield from accepted(b'wildcard (fold-case (Cab), "")', table([(5, 3, 0), (6, 0, 0), (4, 0, 3), (60, 1, 0)], b"Cab"))
+    eight = b",".join([b"'*'"] * 8)
+    yield from accepted(b"wildcard (a, " + eight + b")", table([(5, 1, 0)] + [(4, 1, 1 + i) for i in range(8)] + [(60, 8, 0)], b"a********"))
+    for text in (b"wildcard (a)", b"wildcard (a, b)", b"wildcard ('a', '*')", b"wildcard (a, " + eight + b",'*')", b"w\\ildcard (a, '*')"):
+        yield from refused(text, 4)
+    # "a backslash makes the next byte plain, in a set too": in the text a string's own escapes are taken off first
+    yield from accepted(b'wildcard (a, "[\\\\]]")', table([(5, 1, 0), (4, 4, 1), (60, 1, 0)], b"a[\\]]"))
+    # "An unclosed or empty set (`[!]` too), a range that falls and a backslash at the end are ill-formed, nothing else."
+    for pattern in (b"[", b"a[b", b"[!", b"[]", b"[!]", b"[]a]", b"[!]]", b"[b-a]", b"[a--]", b"[\\\\]", b"\\\\", b"a\\\\"):
+        yield from refused(b'wildcard (a, "*", "' + pattern + b'")', 18)
+    for pattern in (b"]", b"-", b"!", b"[a-]", b"[-a]", b"[--a]", b"[!-z]", b"[a-b-c]", b"[[]", b"[*?]", b"[!!]"):
+        pool = b"a" + pattern
+        yield from accepted(b'wildcard (a, "' + pattern + b'")', table([(5, 1, 0), (4, len(pattern), 1), (60, 1, 0)], pool))
+    # "18 for an ill-formed pattern, after 4 and before 5 in translation": over the whole text
+    yield from refused(b"wildcard (a, '[') == f (a)", 4)
+    yield from refused(b"wildcard (a, '[') == 1", 18)
+    yield from refused(b"1 && wildcard (a, '[')", 18)
+    yield from refused(b"wildcard (a, '[]') ^^ " + b" ^^ ".join([b"1 == 1"] * 129), 18)
+    yield from refused(b"wildcard (a, '*') == 1", 5)
+
+
 def asked(path):
     for line in path.read_text().split("\n"):
         if not line:
@@ -112,7 +136,7 @@ def asked(path):
 def main(vectors=Path(__file__).resolve().with_name("vectors")):
     here = Path(__file__).resolve().parent.parent / "crates" / "translator_test"
     path = Path(vectors)
-    rows = [*examples(), *names(), *limits(), *asked(path / "translate.txt" if path.is_dir() else path)]
+    rows = [*examples(), *names(), *limits(), *wildcards(), *asked(path / "translate.txt"), *asked(path / "01-translate.txt")]
     part = lambda s: struct.pack("<I", len(s)) + s
     (here / "stdin").write_bytes(b"".join(part(struct.pack("<I", room)) + part(text) for text, room, *_ in rows))
     (here / "stdout").write_text("".join("%d %d %d %s kept\n" % (number, place, len(t), t.hex() or "-") for _, _, number, place, t in rows))

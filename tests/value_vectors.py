@@ -1,12 +1,13 @@
 #!/usr/bin/env python3
-"""Writes crates/value_test/stdin and stdout: what document 01's ops give on values, by Python's integers, floats and bytes.
+"""Writes crates/value_test/stdin and stdout: what the ops of tables give on values, by Python's integers, floats, bytes and regular expressions.
 
 A value is None (bottom) or a pair of a field's kind (1 int32, 2 int64, 3 real64, 4 string, 5 opaque) and an int, a float or bytes. A truth value is
-"true", "bottom" or "false". The rules are those of document 01, "Meaning" and "Table"; numbers are those of number_vectors.py.
+"true", "bottom" or "false". The rules are those of document 01, "Meaning" and "Table", and of document 02, request 1; numbers are those of number_vectors.py.
 """
 import itertools
 import math
 import random
+import re
 import struct
 from pathlib import Path
 
@@ -83,7 +84,45 @@ def test(op, v):
     return truth(v[0] == op - 47)
 
 
+def members(p, at):
+    """The set whose members begin at `at`, as (low, high) pairs, and where its `]` ends."""
+    xs = []
+    while p[at] != ord("]"):
+        escaped = p[at] == ord("\\")
+        xs.append((p[at + escaped], escaped))
+        at += 1 + escaped
+    pairs = []
+    while xs:
+        span = 3 if len(xs) > 2 and xs[1] == (ord("-"), False) else 1
+        pairs.append((xs[0][0], xs[span - 1][0]))
+        xs = xs[span:]
+    return pairs, at + 1
+
+
+def expression(p):
+    """A well-formed pattern of `wildcard` as a regular expression."""
+    out, at = b"", 0
+    while at < len(p):
+        c = p[at:at + 1]
+        at += 1
+        if c == b"*":
+            out += b".*"
+        elif c == b"?":
+            out += b"."
+        elif c == b"[":
+            out_of = p[at:at + 1] == b"!"
+            pairs, at = members(p, at + out_of)
+            fit = [b for b in range(256) if any(low <= b <= high for low, high in pairs) != out_of]
+            out += b"(?:" + b"|".join(re.escape(bytes([b])) for b in fit) + b")" if fit else b"(?!)"
+        else:
+            at += c == b"\\"
+            out += re.escape(p[at - 1:at])
+    return out
+
+
 def fits(op, s, p):
+    if op == 60:
+        return re.fullmatch(expression(p), s, re.DOTALL) is not None
     return {56: s.startswith(p), 57: p in s, 58: s.endswith(p)}[op]
 
 
@@ -238,7 +277,25 @@ def all_cases(rng):
     for x in every:
         c.add(59, x, gone[0], x, gone[0])
         c.add(59, gone[0], x)
+    wildcards(c, rng, every, strings)
     return c
+
+
+def wildcards(c, rng, every, strings):
+    """Document 02, request 1: "Same argument forms as `begins-with`, same bottom rule; the whole value must fit a pattern." """
+    patterns = [c.literal((STRING, p)) for p in (
+        b"", b"*", b"?", b"???", b"A*", b"*c", b"*b*", b"a?c", b"A?C", b"**?**", b"[A-Z]*", b"[!A-Z]*", b"[A-Zb]?[!\\]-z]", b"[a-b-c]??", b"[-A]bc", b"[A-]bc", b"[--A]bc",
+        b"[\\A]bc", b"\\Abc", b"\\*", b"[*]", b"@[[][`]*", b"*\xc1", b"*[\x80-\xff]", b"[!!]??", b"[\\]]*", b"[\0-\xff]*", b"[!\0-\xff]*")]
+    patterns += [c.folded(p) for p in patterns[10:13]]
+    values = strings + [c.literal((STRING, s)) for s in (b"*", b"]Abc", b"a" * 30, b"-bc")]
+    for x, y in itertools.product(values, patterns):
+        c.add(60, x, y)
+    for x in every:
+        c.add(60, x, patterns[1])
+        if not is_string(x[3]):
+            c.add(60, strings[1], patterns[4], x, patterns[4])
+    for _ in range(200):
+        c.add(60, rng.choice(every), *(rng.choice(patterns) for _ in range(rng.randrange(1, 9))))
 
 
 def main():

@@ -41,6 +41,8 @@ def limits():
     # "which replaces the last one even if refused"
     yield text(b"Op == 42") + text(b"Op") + OP42, "S 0 0 48\nS 5 0 0\nN 12 bottom 0 0\n"
     yield text(b"") + text(b"a -5") + text(b"09 == 9"), "S 2 0 0\nS 2 2 0\nS 1 0 0\n"
+    # document 02, request 1: 18, after 4 and before 5
+    yield text(b"wildcard (Op, '[') == 1") + OP42, "S 18 0 0\nN 12 bottom 0 0\n"
     # "11", with its place
     yield text(b"Op == 42") + record(1, b"\0\0x"), "S 0 0 48\nN 11 bottom 0 8\n"
     yield text(b"Op == 42") + record(1, b""), "S 0 0 48\nN 11 bottom 0 0\n"

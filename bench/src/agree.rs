@@ -1,9 +1,10 @@
 //! Both sides on random texts, tables and notices: every answer and every byte must be the same.
 
+use crate::hostile;
 use crate::load::{self, Dice};
 use bench::{expert, ours, translate};
 
-const TOKENS: [&str; 60] = [
+const TOKENS: [&str; 64] = [
     "a",
     "Op",
     "Subject",
@@ -64,6 +65,10 @@ const TOKENS: [&str; 60] = [
     "equals (Op, 1, 42)",
     "ends-with (fold-case (Event), \"D\", \"x\")",
     "begins-with (Subject, \"al\")",
+    "wildcard (Subject, \"*e*l*\")",
+    "wildcard (fold-case (Event), \"[!a-d]?*[s-]\", \"x\")",
+    "wildcard (Op, \"*\\\\*\")",
+    "wildcard (Subject, \"[\")",
 ];
 
 const SIZES: [usize; 5] = [1, 2, 8, 32, 64];
@@ -92,7 +97,9 @@ fn logic(dice: &mut Dice, depth: usize) -> String {
             TOKENS[28 + dice.next(6)],
             value(dice, 2)
         ),
-        1 => TOKENS[52 + dice.next(8)].to_string(),
+        // the last one's pattern is ill-formed
+        1 if dice.next(100) == 0 => TOKENS[63].to_string(),
+        1 => TOKENS[52 + dice.next(11)].to_string(),
         2 => format!("! ({})", logic(dice, depth - 1)),
         _ => format!(
             "({} {} {})",
@@ -125,12 +132,35 @@ fn text(dice: &mut Dice) -> Vec<u8> {
     t
 }
 
+/// A table of one pattern, of bytes that mean something in patterns, on a short value.
+fn wildcard(dice: &mut Dice) -> Vec<u8> {
+    let mut bytes = |of: &[u8], most: usize| -> Vec<u8> {
+        let n = dice.next(most + 1);
+        (0..n).map(|_| of[dice.next(of.len())]).collect()
+    };
+    let (value, pattern) = (bytes(b"ab-]!A", 6), bytes(b"**??[[]]!-\\aab", 9));
+    let mut entries = vec![hostile::string(value.len(), 0)];
+    if dice.next(4) == 0 {
+        entries.push(hostile::FOLD);
+    }
+    entries.push(hostile::string(pattern.len(), value.len()));
+    entries.push((60, 1, 0));
+    hostile::table(&entries, &[value, pattern].concat())
+}
+
 pub fn agree(cases: usize) {
     let mut dice = Dice(0xdead_beef_cafe_f00d);
     let notices: Vec<Vec<u8>> = SIZES.map(load::notice).to_vec();
     let (mut x, mut y) = (vec![0u8; 10250], vec![0u8; 10250]);
     let (mut accepted, mut passed) = (0, 0);
     for _ in 0..cases {
+        let table = wildcard(&mut dice);
+        passed += ours::check(&table) as usize;
+        assert_eq!(
+            ours::guarded(&table, &hostile::EMPTY),
+            expert::guarded(&table, &hostile::EMPTY),
+            "{table:?}"
+        );
         let t = text(&mut dice);
         let room = if dice.next(50) == 0 {
             dice.next(600)

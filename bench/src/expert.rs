@@ -2,6 +2,7 @@
 //! enum, stack in an array that is not initialised, no allocation, no test that a check has made already.
 //! Same answers as document 01 asks; written for this benchmark only.
 
+use crate::wildcard;
 use std::mem::MaybeUninit;
 
 pub const FALSE: u8 = 0;
@@ -96,6 +97,7 @@ pub enum Ins {
     Contains(u8),
     Ends(u8),
     Equals(u8),
+    Wildcard(u8),
 }
 
 pub type Code = [MaybeUninit<Ins>; 512];
@@ -143,6 +145,23 @@ fn name_right(name: &[u8]) -> bool {
         let (a, b, c) = (*p, *p.add(n / 2), *p.add(n - 1));
         a.wrapping_sub(32) <= 94 && b.wrapping_sub(32) <= 94 && c.wrapping_sub(32) <= 94
     }
+}
+
+/// Whether the `a` entries directly before the entry i are strings, which the check has passed, and well-formed patterns.
+fn patterns_right(table: &[u8], pool: &[u8], i: usize, a: usize) -> bool {
+    i >= a
+        && (i - a..i).all(|k| {
+            let at = 10 + 12 * k;
+            // SAFETY: the entry lies in the table
+            let (op, len, start) = unsafe {
+                (
+                    u16_at(table, at),
+                    u16_at(table, at + 2) as usize,
+                    u64_at(table, at + 4) as usize,
+                )
+            };
+            op == 4 && wildcard::well_formed(&pool[start..start + len])
+        })
 }
 
 /// The check in one pass over the entries, with decoding into `code` where asked for. The kinds on the stack are
@@ -306,8 +325,11 @@ fn check_decode<const DECODE: bool>(table: &[u8], code: &mut Code) -> usize {
                     _ => Ins::IsKind(op as u8 - 47),
                 }
             }
-            56..=59 => {
+            56..=60 => {
                 if a == 0 || a > 8 || b != 0 {
+                    return 0;
+                }
+                if op == 60 && !patterns_right(table, pool, i, a as usize) {
                     return 0;
                 }
                 let mask = (2u64 << a) - 1;
@@ -319,7 +341,8 @@ fn check_decode<const DECODE: bool>(table: &[u8], code: &mut Code) -> usize {
                     56 => Ins::Begins(a as u8),
                     57 => Ins::Contains(a as u8),
                     58 => Ins::Ends(a as u8),
-                    _ => Ins::Equals(a as u8),
+                    59 => Ins::Equals(a as u8),
+                    _ => Ins::Wildcard(a as u8),
                 }
             }
             _ => return 0,
@@ -619,6 +642,10 @@ fn contains(s: &[u8], s_mark: bool, t: &[u8], t_mark: bool) -> bool {
 }
 
 fn fits(how: u8, s: &[u8], s_mark: bool, t: &[u8], t_mark: bool) -> bool {
+    if how == 3 {
+        // a pattern has no mark: its entry stands directly before the operator
+        return wildcard::fits(t, s, s_mark);
+    }
     if t.len() > s.len() {
         return false;
     }
@@ -933,6 +960,7 @@ pub unsafe fn run(p: &Program, notice: &[u8]) -> (u8, usize) {
             Ins::Begins(n) => many!(n, x, later, fit(pool, notice, 0, x, later)),
             Ins::Contains(n) => many!(n, x, later, fit(pool, notice, 1, x, later)),
             Ins::Ends(n) => many!(n, x, later, fit(pool, notice, 2, x, later)),
+            Ins::Wildcard(n) => many!(n, x, later, fit(pool, notice, 3, x, later)),
             Ins::Equals(n) => many!(n, x, later, {
                 let mut t = FALSE;
                 for &y in later {

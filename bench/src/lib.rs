@@ -3,3 +3,4 @@
 pub mod expert;
 pub mod ours;
 pub mod translate;
+mod wildcard;

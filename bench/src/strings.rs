@@ -3,7 +3,7 @@
 use crate::clock::{compare, Pace};
 use crate::hostile::{self, Entry};
 use crate::load::Dice;
-use crate::{entries_of, head, row};
+use crate::{entries_of, head, row, table_of};
 use bench::{expert, ours};
 use std::hint::black_box;
 
@@ -11,6 +11,7 @@ pub fn rows(pace: Pace) {
     hostile_tables(pace);
     short_literals(pace);
     long_equality(pace);
+    wildcards(pace);
 }
 
 /// A row of the guarded run of a table, in its own unit: `unit` nanoseconds, of each of `ops` operators.
@@ -153,6 +154,66 @@ fn short_literals(pace: Pace) {
             &format!("{name}, 5 bytes on 20, folded"),
             &table,
             &hostile::EMPTY,
+            pace,
+            ops,
+        );
+    }
+}
+
+/// A notice of one field `Cab`.
+fn cab(value: &[u8]) -> Vec<u8> {
+    hostile::notice(&[(b"Cab".to_vec(), 4, value.to_vec())])
+}
+
+fn wildcards(pace: Pace) {
+    head("wildcard, guarded run, per notice", "ns");
+    let dispatch = table_of("wildcard (Cab, \"T-4?\", \"V*\")");
+    for value in ["T-41", "T-412", "V-417"] {
+        let name = format!("T-4? and V* on {value}");
+        guarded(&name, &dispatch, &cab(value.as_bytes()), pace, 1.0, 1);
+    }
+    head("wildcard, inner run, per operator", "ns");
+    let rows: [(&str, &[u8], Vec<u8>); 6] = [
+        (
+            "T-4? on a field of 4 bytes, which fits",
+            b"T-4?",
+            b"T-41".to_vec(),
+        ),
+        ("T-4? on a field of 5 bytes", b"T-4?", b"T-412".to_vec()),
+        (
+            "[A-Z]-[!0-3]* on a field of 5 bytes",
+            b"[A-Z]-[!0-3]*",
+            b"T-412".to_vec(),
+        ),
+        (
+            "*ab*ab*b on a field of 20 bytes",
+            b"*ab*ab*b",
+            b"aab".repeat(7)[..20].to_vec(),
+        ),
+        (
+            "*a*a*a*a*b on a field of 1,024 bytes",
+            b"*a*a*a*a*b",
+            vec![b'a'; 1024],
+        ),
+        (
+            "*aaaaaaab on a field of 1,024 bytes",
+            b"*aaaaaaab",
+            vec![b'a'; 1024],
+        ),
+    ];
+    for (name, pattern, value) in rows {
+        let pool = [b"Cab", pattern].concat();
+        let group = [
+            hostile::name(3, 0),
+            hostile::string(pattern.len(), 3),
+            (60, 1, 0),
+        ];
+        let entries = hostile::often(&group);
+        let ops = (entries.len() + 1) / (group.len() + 1);
+        inner(
+            name,
+            &hostile::table(&entries, &pool),
+            &cab(&value),
             pace,
             ops,
         );

@@ -1,6 +1,7 @@
 //! Text to table as an expert would write it for speed: one pass that makes tokens with their values, one
 //! recursive descent over them that judges and writes entries and pool into local buffers, and two copies.
 
+use crate::wildcard;
 use std::mem::MaybeUninit;
 
 const NAME: u8 = 5;
@@ -334,6 +335,7 @@ struct Parser<'a> {
     depth: usize,
     most: usize,
     forms: bool,
+    patterns: bool,
     kinds: bool,
 }
 
@@ -369,6 +371,15 @@ impl Parser<'_> {
     fn push(&mut self) {
         self.depth += 1;
         self.most = self.most.max(self.depth);
+    }
+
+    /// The pool's bytes from the place on.
+    fn pooled(&self, start: usize) -> &[u8] {
+        // SAFETY: the pool's bytes up to its length were written
+        unsafe {
+            let p = (self.pool.as_ptr() as *const u8).add(start);
+            std::slice::from_raw_parts(p, self.pool_len - start)
+        }
     }
 
     /// A name's or string's bytes to the pool; the entry.
@@ -483,6 +494,7 @@ impl Parser<'_> {
             b"contains" => 57,
             b"ends-with" => 58,
             b"equals" => 59,
+            b"wildcard" => 60,
             _ => 0,
         };
         self.next += 2;
@@ -494,12 +506,16 @@ impl Parser<'_> {
             self.next += 1;
         } else {
             loop {
+                let start = self.pool_len;
                 let (form, logic) = self.level(0)?;
                 self.kinds &= !logic;
                 if count == 0 {
                     first = form;
                 } else {
                     texts &= form == Form::Text;
+                    if f == 60 && form == Form::Text {
+                        self.patterns &= wildcard::well_formed(self.pooled(start));
+                    }
                 }
                 count += 1;
                 let k = self.token(self.next).kind;
@@ -515,7 +531,7 @@ impl Parser<'_> {
         self.forms &= match f {
             6 => count == 1 && first != Form::Other,
             7 | 48..=54 => count == 1 && first == Form::Name,
-            56..=58 => {
+            56..=58 | 60 => {
                 (2..=9).contains(&count) && texts && matches!(first, Form::Name | Form::Fold)
             }
             59 => (2..=9).contains(&count) && first == Form::Name,
@@ -591,6 +607,7 @@ pub fn translate(text: &[u8], out: &mut [u8]) -> (u8, usize, usize) {
         depth: 0,
         most: 0,
         forms: true,
+        patterns: true,
         kinds: true,
     };
     let logic = match p.level(0) {
@@ -600,6 +617,9 @@ pub fn translate(text: &[u8], out: &mut [u8]) -> (u8, usize, usize) {
     };
     if !p.forms {
         return (4, 0, 0);
+    }
+    if !p.patterns {
+        return (18, 0, 0);
     }
     if !p.kinds || !logic {
         return (5, 0, 0);

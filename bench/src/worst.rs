@@ -79,6 +79,7 @@ pub fn rows() {
     );
     told("virentolex_run: strings", strings());
     told("virentolex_run: names and numbers", names_and_numbers());
+    told("virentolex_run: patterns", patterns());
     told("virentolex_check", checks());
     told("virentolex_check_notice, virentolex_read", notices());
     told("virentolex_write (with 16,384 bytes copied)", writes());
@@ -329,6 +330,66 @@ fn names_and_numbers() -> Vec<Family> {
     all
 }
 
+/// `wildcard` with eight patterns on a field of so many a's, as often as it fits.
+fn wildcard(n: usize, pattern: Vec<u8>) -> Case {
+    let group = eight(&[name(1, 0)], &[string(pattern.len(), 1)], 60);
+    let bytes = groups(&group) * both(n, pattern.len());
+    let field = notice(&[(b"s".to_vec(), 4, vec![b'a'; n])]);
+    run(
+        &often(&group),
+        &[b"s".to_vec(), pattern].concat(),
+        &field,
+        bytes,
+    )
+}
+
+/// Document 02, request 1. A pattern may cost its bytes times the value's.
+fn patterns() -> Vec<Family> {
+    let mut all = vec![
+        family("*a*a*a*a*b on a field of 1,024", |k| {
+            wildcard(512 * k, b"*a*a*a*a*b".to_vec())
+        }),
+        family("* and a's by turns, then b, 512 on a field of 1,024", |k| {
+            wildcard(
+                512 * k,
+                [b"*a".repeat(128 * k - 1), b"*b".to_vec()].concat(),
+            )
+        }),
+        family("*, 511 a's and b on a field of 1,024", |k| {
+            let literal = vec![b'a'; 256 * k - 1];
+            wildcard(512 * k, [b"*".to_vec(), literal, b"b".to_vec()].concat())
+        }),
+        family("* and a set of 500 members on a field of 1,024", |k| {
+            let members = vec![b'b'; 248 * k];
+            wildcard(512 * k, [b"*[".to_vec(), members, b"]".to_vec()].concat())
+        }),
+        family("*, 511 times ? and b on a field of 1,024", |k| {
+            let any = vec![b'?'; 256 * k - 1];
+            wildcard(512 * k, [b"*".to_vec(), any, b"b".to_vec()].concat())
+        }),
+    ];
+    all.push(family(
+        "* and 2,047 a's on 4,095 in the pool, the last b",
+        |k| {
+            // the pattern begins the pool, and the value is all but the pool's first byte
+            let m = 1024 * k;
+            let pool = [b"*".to_vec(), vec![b'a'; 2 * m - 2], b"b".to_vec()].concat();
+            let group = eight(&[string(2 * m - 1, 1)], &[string(m, 0)], 60);
+            let bytes = groups(&group) * both(2 * m - 1, m);
+            run(&often(&group), &pool, &hostile::EMPTY, bytes)
+        },
+    ));
+    all.push(family("*, 1,361 a's, b and * on 2,728 in the pool", |k| {
+        let (n, m) = (1364 * k, 682 * k);
+        let pattern = [b"*".to_vec(), vec![b'a'; m - 3], b"b*".to_vec()].concat();
+        let group = eight(&[string(n, m)], &[string(m, 0)], 60);
+        let pool = [pattern, vec![b'a'; n]].concat();
+        let bytes = groups(&group) * both(n, m);
+        run(&often(&group), &pool, &hostile::EMPTY, bytes)
+    }));
+    all
+}
+
 // ---- table checks
 
 fn check(entries: &[Entry], pool: &[u8], number: u8) -> Case {
@@ -359,6 +420,21 @@ fn checks() -> Vec<Family> {
         family("`equals` of 8 numbers", |k| {
             let group = eight(&[(1, 0, 1)], &[(1, 0, 1)], 59);
             check(&hostile::times(&group, 23 * k), b"", 0)
+        }),
+        family("368 patterns of 4,000 bytes", |k| {
+            let n = 2000 * k;
+            let group = eight(&[string(0, 0)], &[string(n, 0)], 60);
+            let mut case = check(&often(&group), &b"[!a-z]\\*?x".repeat(n / 10), 0);
+            case.bytes += groups(&group) * 8 * n;
+            case
+        }),
+        family("368 patterns of one set of 4,000 bytes", |k| {
+            let n = 2000 * k;
+            let group = eight(&[string(0, 0)], &[string(n, 0)], 60);
+            let pool = [b"[".to_vec(), b"a-".repeat(n / 2 - 1), b"]".to_vec()].concat();
+            let mut case = check(&often(&group), &pool, 0);
+            case.bytes += groups(&group) * 8 * n;
+            case
         }),
         family("508 skips to one place", move |k| {
             let mut entries = equal.to_vec();
@@ -710,6 +786,46 @@ fn translations() -> Vec<Family> {
             s(""),
             s("ends-with (a, 'b')"),
             " || ",
+            s(""),
+            7,
+        ),
+        (
+            "one pattern of sets",
+            s("wildcard(a,'"),
+            s("[a]"),
+            "",
+            s("')"),
+            0,
+        ),
+        (
+            "one pattern of one set",
+            s("wildcard(a,'[!"),
+            s("a-z"),
+            "",
+            s("]')"),
+            0,
+        ),
+        (
+            "one pattern that opens sets",
+            s("wildcard(a,'"),
+            s("["),
+            "",
+            s("')"),
+            18,
+        ),
+        (
+            "one pattern of escapes",
+            s("wildcard(a,'"),
+            s("\\\\"),
+            "",
+            s("a')"),
+            0,
+        ),
+        (
+            "calls of wildcard",
+            s(""),
+            s("wildcard(a,'*')"),
+            "||",
             s(""),
             7,
         ),

@@ -74,9 +74,10 @@ fn truth(verdict: virentolex::Verdict) -> Truth {
 }
 
 /// The kinds in turn, by the case's number.
-const KINDS: [&str; 20] = [
+const KINDS: [&str; 21] = [
     "text", "table", "notice", "write", "text", "operator", "text", "notice", "text", "table",
     "text", "write", "text", "table", "notice", "text", "write", "text", "table", "quorum",
+    "wildcard",
 ];
 /// So many operators are tried in one case of theirs.
 const OPERATORS: usize = 20;
@@ -100,6 +101,7 @@ impl Case<'_> {
             "notice" => self.notice(),
             "write" => self.write(),
             "quorum" => self.quorum(),
+            "wildcard" => self.wildcard(),
             "operator" => (0..OPERATORS).try_for_each(|_| self.operator()),
             _ => self.program(),
         }
@@ -136,7 +138,7 @@ impl Case<'_> {
     }
 
     /// One translation; the whole buffer and its guards are compared.
-    fn translation(&mut self, text: &[u8], room: usize) -> Outcome {
+    pub fn translation(&mut self, text: &[u8], room: usize) -> Outcome {
         let mut lent = patterned(room, self.random.below(256));
         let mut meant = lent.clone();
         let library = virentolex::translate(text, &mut lent[GUARD..GUARD + room]);
@@ -152,7 +154,7 @@ impl Case<'_> {
 
     /// The letter, number 3, of an accepted text and a well-formed notice. The table is the library's
     /// own, since the translations have agreed.
-    fn demand_3(&mut self, text: &[u8], table: &[u8], notice: &[u8]) -> Outcome {
+    pub fn demand_3(&mut self, text: &[u8], table: &[u8], notice: &[u8]) -> Outcome {
         let inputs = [("text", text), ("table", table), ("notice", notice)];
         same(
             "check of the text's table",
@@ -176,7 +178,7 @@ impl Case<'_> {
     }
 
     /// One run; the steps answered.
-    fn running(&mut self, table: &[u8], notice: &[u8]) -> Result<usize, String> {
+    pub fn running(&mut self, table: &[u8], notice: &[u8]) -> Result<usize, String> {
         let mut watch = Watch::of(table, notice);
         let mut show = |entry: &Entry, stack: &[Slot]| watch.see(entry, stack);
         let library = virentolex::run(table, notice);
@@ -224,6 +226,19 @@ impl Case<'_> {
         ops.into_iter().for_each(|op| self.tally.count("op", op));
     }
 
+    /// One check of a table; the number answered.
+    pub fn checking(&mut self, table: &[u8]) -> Result<u8, String> {
+        let reference = reference::check(table);
+        self.tally.count("check", reference);
+        same(
+            "check",
+            &[("table", table)],
+            virentolex::check(table),
+            reference,
+        )?;
+        Ok(reference)
+    }
+
     /// A table, its check, and its run on notices of each sort.
     fn table(&mut self) -> Outcome {
         let notice = notices::well_formed(&mut self.random);
@@ -231,14 +246,7 @@ impl Case<'_> {
         let table = tables::table(&mut self.random, &about);
         self.count("edge", edges::of_table(&table));
         self.count("edge", edges::of_entries(&table));
-        let reference = reference::check(&table);
-        self.tally.count("check", reference);
-        same(
-            "check",
-            &[("table", &table)],
-            virentolex::check(&table),
-            reference,
-        )?;
+        let reference = self.checking(&table)?;
         let steps = self.running(&table, &notice)?;
         if reference == 0 {
             self.count_skips("table runs", &table, steps);
@@ -477,7 +485,7 @@ mod tests {
         kinds.dedup();
         assert_eq!(
             kinds,
-            ["notice", "operator", "program", "quorum", "table", "text", "write"]
+            ["notice", "operator", "program", "quorum", "table", "text", "wildcard", "write"]
         );
     }
 }

@@ -3,6 +3,7 @@
 
 use crate::edges::word;
 use crate::operands::*;
+use crate::wildcard_corners::WILDCARDS;
 use reference::compile::Entry;
 use reference::op::Op;
 use reference::table::{operands, pool_part};
@@ -22,7 +23,7 @@ pub struct Visit<'a> {
 }
 
 /// What holds at a corner of the ops.
-type Corner = (&'static str, &'static [Op], fn(&Visit) -> bool);
+pub type Corner = (&'static str, &'static [Op], fn(&Visit) -> bool);
 
 const NAME: &[Op] = &[Op::Name];
 const SIZE: &[Op] = &[Op::Size];
@@ -229,7 +230,11 @@ const NAMES: [Corner; 12] = [
 ];
 
 fn all() -> impl Iterator<Item = &'static Corner> {
-    NUMBERS.iter().chain(&STRINGS).chain(&NAMES)
+    NUMBERS
+        .iter()
+        .chain(&STRINGS)
+        .chain(&NAMES)
+        .chain(&WILDCARDS)
 }
 
 fn name_of(corner: &Corner, op: Op) -> String {
@@ -252,7 +257,7 @@ fn by_op() -> &'static [Vec<&'static Corner>] {
                 .filter(|corner| corner.1.iter().any(|op| op.code() == code))
                 .collect()
         };
-        (0..=Op::Equals.code()).map(of).collect()
+        (0..=Op::Wildcard.code()).map(of).collect()
     })
 }
 

@@ -9,7 +9,7 @@ use reference::tokens::tokens;
 use std::collections::BTreeSet;
 
 /// What must occur in a run of many cases.
-pub const EDGES: [&str; 58] = [
+pub const EDGES: [&str; 60] = [
     "text of 4096 bytes",
     "text of 4097 bytes",
     "text with 24 open",
@@ -38,6 +38,8 @@ pub const EDGES: [&str; 58] = [
     "table with op 58 of 9",
     "table with op 59 of 8",
     "table with op 59 of 9",
+    "table with op 60 of 8",
+    "table with op 60 of 9",
     "notice of 64 fields",
     "notice of 65 fields",
     "notice with a name of 64",
@@ -151,8 +153,8 @@ pub fn of_entries(table: &[u8]) -> Vec<String> {
         let (name, less) = match (entry.op.code(), entry.a) {
             (5, 64) => ("name of 64".to_string(), table.to_vec()),
             (5, 65) => ("name of 65".to_string(), with_a(table, at, 64)),
-            (op @ 56..=59, 8) => (format!("op {op} of 8"), table.to_vec()),
-            (op @ 56..=59, 9) if at > 0 => (
+            (op @ 56..=60, 8) => (format!("op {op} of 8"), table.to_vec()),
+            (op @ 56..=60, 9) if at > 0 => (
                 format!("op {op} of 9"),
                 without(&with_a(table, at, 8), at - 1),
             ),

@@ -2,6 +2,7 @@
 //! that notices have.
 
 use crate::about::About;
+use crate::patterns;
 use crate::random::Random;
 use crate::words;
 
@@ -152,7 +153,8 @@ impl Maker<'_> {
     }
 
     fn matching(&mut self) {
-        self.put_any(&MATCHES);
+        let function = self.random.pick(&[&MATCHES[..], &["wildcard"]].concat());
+        self.put(function);
         self.put("(");
         match self.random.below(4) {
             0 => {
@@ -166,9 +168,23 @@ impl Maker<'_> {
         }
         for _ in 0..self.random.pick(&[1, 1, 1, 2, 2, 3, 7, 8]) {
             self.put(",");
-            self.string();
+            match function {
+                "wildcard" => self.pattern(),
+                _ => self.string(),
+            }
         }
         self.put(")");
+    }
+
+    /// A pattern for one of the strings, seldom an ill-formed one.
+    fn pattern(&mut self) {
+        let text = words::text(self.random);
+        let pattern = match self.random.below(12) {
+            0 => patterns::pattern(self.random, &text),
+            _ => patterns::well_formed(self.random, &text),
+        };
+        let string = quoted(self.random, &pattern);
+        self.put(string);
     }
 
     fn equals(&mut self, size: usize, deep: usize) {

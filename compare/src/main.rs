@@ -13,6 +13,7 @@ mod inputs;
 mod notices;
 mod operands;
 mod operations;
+mod patterns;
 mod pointed;
 mod program;
 mod quorum;
@@ -22,6 +23,8 @@ mod spellings;
 mod tables;
 mod tally;
 mod texts;
+mod wildcard;
+mod wildcard_corners;
 mod words;
 
 use cases::{kind_of, Case};

@@ -58,7 +58,7 @@ fn whole(slot: &Slot) -> Option<i64> {
     }
 }
 
-fn text(slot: &Slot) -> Option<&[u8]> {
+pub fn text(slot: &Slot) -> Option<&[u8]> {
     match value(slot) {
         Some(Value::Text(bytes)) => Some(bytes),
         _ => None,
@@ -225,6 +225,10 @@ impl Visit<'_> {
         self.operands.len() == 9
             && self.with_later(7) == Truth::False
             && self.with_later(8) == Truth::True
+    }
+
+    pub fn first_of_8(&self) -> bool {
+        self.operands.len() == 9 && self.with_later(1) == Truth::True
     }
 
     pub fn none_of_8(&self) -> bool {

@@ -2,6 +2,7 @@
 
 use crate::expressions::{integer, quoted, spelled, Maker, COMPARISONS, MATCHES, TESTS};
 use crate::notices::Field;
+use crate::patterns;
 use crate::words;
 
 /// The little-endian integer of a value's bytes.
@@ -124,7 +125,7 @@ impl Maker<'_> {
     }
 
     fn about_string(&mut self, field: &Field) {
-        match self.random.below(4) {
+        match self.random.below(5) {
             0 => {
                 self.of_name("fold-case", field);
                 self.put_any(&COMPARISONS[..2]);
@@ -136,8 +137,21 @@ impl Maker<'_> {
                 self.put_any(&COMPARISONS[..2]);
                 self.close_to(&field.value);
             }
+            2 => self.pattern_of(field),
             _ => self.last_of_literals(field),
         }
+    }
+
+    /// A pattern that the field's value fits, or nearly.
+    fn pattern_of(&mut self, field: &Field) {
+        self.put("wildcard");
+        self.put("(");
+        self.name(field);
+        self.put(",");
+        let pattern = patterns::well_formed(self.random, &field.value);
+        let string = quoted(self.random, &pattern);
+        self.put(string);
+        self.put(")");
     }
 
     /// The string, or one that differs in its last byte.

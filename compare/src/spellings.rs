@@ -5,7 +5,7 @@ use reference::grammar::{fault, tree, Tree};
 use reference::judge::calls_right;
 use reference::tokens::{tokens, Placed, Token};
 
-const FUNCTIONS: [&str; 4] = ["begins-with", "contains", "ends-with", "equals"];
+const FUNCTIONS: [&str; 5] = ["begins-with", "contains", "ends-with", "equals", "wildcard"];
 
 /// What must occur in a run of many cases.
 pub fn names() -> Vec<String> {

@@ -1,7 +1,7 @@
 //! What occurred: how many cases of each kind, and each answer, op, verdict, limit and corner.
 
 use crate::edges::EDGES;
-use crate::{corners, quorum_edges, spellings};
+use crate::{corners, quorum_edges, spellings, wildcard};
 use reference::op::OPS;
 use std::collections::BTreeMap;
 
@@ -16,7 +16,7 @@ const RAREST: usize = 8;
 
 /// What must occur in a run of many cases.
 const NUMBERS: [(&str, &[u8]); 8] = [
-    ("translate", &[0, 1, 2, 3, 4, 5, 6, 7, 8, 9, 10]),
+    ("translate", &[0, 1, 2, 3, 4, 5, 6, 7, 8, 9, 10, 18]),
     ("check", &[0, 12]),
     ("run", &[0, 11, 12]),
     ("check_notice", &[0, 11]),
@@ -25,11 +25,11 @@ const NUMBERS: [(&str, &[u8]); 8] = [
     ("quorum open", &[0, 9, 12, 21]),
     ("quorum show", &[0, 11, 12, 19, 20]),
 ];
-const WORDS: [(&str, &[&str]); 8] = [
+const WORDS: [(&str, &[&str]); 9] = [
     (
         "case",
         &[
-            "text", "table", "operator", "notice", "write", "program", "quorum",
+            "text", "table", "operator", "notice", "write", "program", "quorum", "wildcard",
         ],
     ),
     ("verdict", &["True", "False", "Bottom"]),
@@ -52,6 +52,7 @@ const WORDS: [(&str, &[&str]); 8] = [
     ),
     ("edge", &EDGES),
     ("quorum", &quorum_edges::EDGES),
+    ("wildcard", &wildcard::CAUSES),
 ];
 
 impl Tally {

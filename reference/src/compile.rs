@@ -1,8 +1,8 @@
 //! Translation: a text's table, or the first refusal "in this order: 10, then 1 or 3 at the first bad
-//! token, 6, 2, 4, 5, 7, 8, 9".
+//! token, 6, 2, 4, 5, 7, 8, 9"; 18 "after 4 and before 5" (document 02, request 1).
 
 use crate::grammar::{fault, too_deep, tree, Tree};
-use crate::judge::{calls_right, function, kind, Kind};
+use crate::judge::{calls_right, function, kind, patterns_right, Kind};
 use crate::op::Op;
 use crate::table::operands;
 use crate::tokens::tokens;
@@ -68,7 +68,7 @@ pub fn table_of(text: &[u8]) -> Result<Vec<u8>, (u8, usize)> {
     Ok(layout(&code))
 }
 
-/// The tree of a text to which none of 10, 1, 3, 6, 2, 4, 5 applies.
+/// The tree of a text to which none of 10, 1, 3, 6, 2, 4, 18, 5 applies.
 pub fn accepted(text: &[u8]) -> Result<Tree, (u8, usize)> {
     if text.len() > MOST_TEXT {
         return Err((10, 0));
@@ -83,6 +83,9 @@ pub fn accepted(text: &[u8]) -> Result<Tree, (u8, usize)> {
     let tree = tree(&tokens);
     if !calls_right(&tree) {
         return Err((4, 0));
+    }
+    if !patterns_right(&tree) {
+        return Err((18, 0));
     }
     // "The whole text must be logic."
     if kind(&tree) != Some(Kind::Logic) {
@@ -157,7 +160,7 @@ impl Code {
     fn add_call(&mut self, op: Op, arguments: &[Tree]) {
         arguments.iter().for_each(|argument| self.add(argument));
         let later = match op {
-            Op::Begins | Op::Contains | Op::Ends | Op::Equals => arguments.len() - 1,
+            Op::Begins | Op::Contains | Op::Ends | Op::Equals | Op::Wildcard => arguments.len() - 1,
             _ => 0,
         };
         self.push(op, later, 0);
@@ -225,12 +228,39 @@ mod tests {
             ("int32 ((a))", 4, 0),
             ("0x80000000 == 0", 3, 0),
             ("begins-with ((fold-case (a)), \"x\")", 4, 0),
-            ("wildcard (a, \"*\")", 4, 0),
+            ("regex (a, \"*\")", 4, 0),
+            ("wildcard (a)", 4, 0),
+            ("wildcard (a, b)", 4, 0),
+            ("wildcard (\"a\", \"b\")", 4, 0),
+            ("w\\ildcard (a, \"*\")", 4, 0),
+            ("wildcard (a, \"[\") == f (a)", 4, 0),
+            ("wildcard (a, \"*\", \"[]\")", 18, 0),
+            ("wildcard (a, \"[\") == 1", 18, 0),
+            ("a && ! (wildcard (a, \"x\\\\\"))", 18, 0),
+            ("wildcard (a, \"*\") == 1", 5, 0),
             ("equals (a, b == c)", 5, 0),
         ];
         for (text, number, place) in refused {
             assert_eq!(table_of(text.as_bytes()), Err((number, place)), "{text}");
         }
+    }
+
+    #[test]
+    fn a_wildcard_call_becomes_op_60() {
+        let table = table_of(b"wildcard (Cab, \"T-4?\", \"V*\")").unwrap();
+        let mut meant = vec![0x3f, 0, 0, 0, 2, 0, 4, 0, 9, 0];
+        meant.extend([5, 0, 3, 0, 0, 0, 0, 0, 0, 0, 0, 0]);
+        meant.extend([4, 0, 4, 0, 3, 0, 0, 0, 0, 0, 0, 0]);
+        meant.extend([4, 0, 2, 0, 7, 0, 0, 0, 0, 0, 0, 0]);
+        meant.extend([60, 0, 2, 0, 0, 0, 0, 0, 0, 0, 0, 0]);
+        meant.extend(b"CabT-4?V*");
+        assert_eq!(table, meant);
+    }
+
+    #[test]
+    fn eighteen_does_not_ask_for_the_buffer() {
+        let answer = translate(b"wildcard (a, \"[!]\")", &mut []);
+        assert_eq!((answer.number, answer.place, answer.length), (18, 0, 0));
     }
 
     #[test]

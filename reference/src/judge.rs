@@ -1,10 +1,11 @@
-//! Refusals 4 and 5 over the tree: functions with their arguments, and kinds.
+//! Refusals 4, 18 and 5 over the tree: functions with their arguments, patterns, and kinds.
 
 use crate::grammar::Tree;
 use crate::op::Op;
+use crate::wildcard::Pattern;
 
 /// The functions by name, with the op that each becomes.
-const FUNCTIONS: [(&[u8], Op); 13] = [
+const FUNCTIONS: [(&[u8], Op); 14] = [
     (b"int32", Op::IsInt32),
     (b"int64", Op::IsInt64),
     (b"real64", Op::IsReal64),
@@ -18,6 +19,8 @@ const FUNCTIONS: [(&[u8], Op); 13] = [
     (b"ends-with", Op::Ends),
     (b"equals", Op::Equals),
     (b"fold-case", Op::FoldCase),
+    // document 02, request 1
+    (b"wildcard", Op::Wildcard),
 ];
 
 /// The function of a called name; "Function names take no escapes".
@@ -46,8 +49,9 @@ fn call_right(function: Option<Op>, arguments: &[Tree]) -> bool {
         return false;
     };
     match op {
-        // "take a name or a `fold-case` call, then 1..8 string literals"
-        Op::Begins | Op::Contains | Op::Ends => {
+        // "take a name or a `fold-case` call, then 1..8 string literals"; document 02, request 1: "Same
+        // argument forms as `begins-with`"
+        Op::Begins | Op::Contains | Op::Ends | Op::Wildcard => {
             let first_right = is_name(first) || is_fold_case(first);
             first_right && (1..=8).contains(&later.len()) && later.iter().all(is_text)
         }
@@ -69,6 +73,21 @@ pub fn calls_right(tree: &Tree) -> bool {
         Tree::Binary(_, left, right) => calls_right(left) && calls_right(right),
         Tree::Call(name, escaped, arguments) => {
             call_right(function(name, *escaped), arguments) && arguments.iter().all(calls_right)
+        }
+        _ => true,
+    }
+}
+
+/// Whether no call in the tree has refusal 18, "for an ill-formed pattern", document 02, request 1.
+pub fn patterns_right(tree: &Tree) -> bool {
+    match tree {
+        Tree::Parens(inner) | Tree::Prefix(_, inner) => patterns_right(inner),
+        Tree::Binary(_, left, right) => patterns_right(left) && patterns_right(right),
+        Tree::Call(name, escaped, arguments) => {
+            let wildcard = function(name, *escaped) == Some(Op::Wildcard);
+            let ill =
+                |tree: &Tree| matches!(tree, Tree::Text(bytes) if Pattern::of(bytes).is_err());
+            !(wildcard && arguments.iter().any(ill)) && arguments.iter().all(patterns_right)
         }
         _ => true,
     }

@@ -16,6 +16,7 @@ pub mod tokens;
 pub mod value;
 pub mod vectors;
 pub mod verdict;
+pub mod wildcard;
 
 pub use compile::{translate, Translation};
 pub use meaning::meaning;

@@ -8,7 +8,7 @@ use crate::notice::{fields, value_of, Field};
 use crate::op::Op;
 use crate::value::{binary, logic, many, not, unary, Slot, Truth, Value};
 
-/// The verdict that the meaning gives, if none of 10, 1, 3, 6, 2, 4, 5 applies to the text and the
+/// The verdict that the meaning gives, if none of 10, 1, 3, 6, 2, 4, 18, 5 applies to the text and the
 /// notice keeps its layout.
 pub fn meaning(text: &[u8], notice: &[u8]) -> Option<Truth> {
     let tree = accepted(text).ok()?;
@@ -63,7 +63,7 @@ impl On<'_> {
             arguments.iter().map(|tree| self.value(tree)).collect();
         let first = values.remove(0);
         match op {
-            Op::Begins | Op::Contains | Op::Ends | Op::Equals => {
+            Op::Begins | Op::Contains | Op::Ends | Op::Equals | Op::Wildcard => {
                 Slot::Truth(many(op, first, values))
             }
             _ => unary(op, first),

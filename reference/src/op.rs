@@ -53,11 +53,13 @@ pub enum Op {
     Contains = 57,
     Ends = 58,
     Equals = 59,
+    // document 02, request 1: "It gets op 60."
+    Wildcard = 60,
 }
 
 use Op::*;
 
-pub const OPS: [Op; 42] = [
+pub const OPS: [Op; 43] = [
     Int32,
     Int64,
     Real64,
@@ -100,6 +102,7 @@ pub const OPS: [Op; 42] = [
     Contains,
     Ends,
     Equals,
+    Wildcard,
 ];
 
 impl Op {

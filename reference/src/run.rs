@@ -121,7 +121,7 @@ impl Machine<'_> {
                 let right = self.pop_truth();
                 Slot::Truth(logic(entry.op, self.pop_truth(), right))
             }
-            Op::Begins | Op::Contains | Op::Ends | Op::Equals => self.many(entry),
+            Op::Begins | Op::Contains | Op::Ends | Op::Equals | Op::Wildcard => self.many(entry),
             op if op.code() >= Op::IsInt32.code() || op.code() <= Op::Complement.code() => {
                 unary(op, self.pop_value())
             }

@@ -4,6 +4,7 @@ use crate::compile::Entry;
 use crate::judge::Kind;
 use crate::notice::name_right;
 use crate::op::Op;
+use crate::wildcard::Pattern;
 use crate::{word, MOST_ENTRIES, MOST_POOL, MOST_SLOTS};
 
 /// A table's entries and pool as they lie in the lent bytes.
@@ -83,9 +84,24 @@ fn entry_right(table: &Table, at: usize, entry: &Entry) -> bool {
         Op::Begins | Op::Contains | Op::Ends | Op::Equals => {
             (1..=8).contains(&entry.a) && entry.b == 0
         }
+        Op::Wildcard => {
+            (1..=8).contains(&entry.a) && entry.b == 0 && patterns_right(table, at, entry)
+        }
         // "Unused a and b are zero."
         _ => entry.a == 0 && entry.b == 0,
     }
+}
+
+/// Document 02, request 1: "the table check gives 12 for it [an ill-formed pattern] and for a pattern
+/// operand that is no op 4 entry directly before".
+fn patterns_right(table: &Table, at: usize, entry: &Entry) -> bool {
+    let Some(first) = at.checked_sub(usize::from(entry.a)) else {
+        return false;
+    };
+    table.entries[first..at].iter().all(|operand| {
+        let pattern = pool_part(table.pool, operand).filter(|_| operand.op == Op::Text);
+        pattern.is_some_and(|bytes| Pattern::of(bytes).is_ok())
+    })
 }
 
 /// Where a skip goes: "a + 1 entries on".
@@ -149,7 +165,7 @@ fn effect(entry: &Entry) -> (usize, Kind, Kind) {
         // "A skip keeps its operand."
         Op::Not | Op::SkipFalse | Op::SkipTrue => (1, Logic, Logic),
         Op::And | Op::Xor | Op::Or => (2, Logic, Logic),
-        Op::Begins | Op::Contains | Op::Ends | Op::Equals => {
+        Op::Begins | Op::Contains | Op::Ends | Op::Equals | Op::Wildcard => {
             (usize::from(entry.a) + 1, Value, Logic)
         }
         Op::IsInt32
@@ -183,6 +199,36 @@ mod tests {
             assert_eq!(check(&damaged), 12, "{at}");
         }
         assert_eq!(check(&table[..table.len() - 1]), 12);
+    }
+
+    #[test]
+    fn a_pattern_is_well_formed_and_stands_directly_before() {
+        let table = table_of(b"wildcard (a, \"x*\", \"[y]\")").unwrap();
+        assert_eq!(check(&table), 0);
+        let pool = 10 + 12 * 4;
+        assert_eq!(&table[pool..], b"ax*[y]");
+        let with = |at: usize, byte: u8| {
+            let mut table = table.clone();
+            table[at] = byte;
+            check(&table)
+        };
+        assert_eq!(with(pool + 2, b'['), 12);
+        assert_eq!(with(pool + 4, b']'), 12);
+        assert_eq!(with(pool + 5, b'y'), 12);
+        // an operand that is a name, which is as right as the string
+        assert_eq!(with(10 + 12, 5), 12);
+        // the string in a fold, so that another entry stands directly before
+        let fold = [6, 0, 0, 0, 0, 0, 0, 0, 0, 0, 0, 0];
+        let mut folded = table.clone();
+        folded.splice(46..46, fold);
+        folded[0] += 12;
+        folded[6] += 1;
+        assert_eq!(check(&folded), 12);
+        let mut first = table.clone();
+        first.splice(22..22, fold);
+        first[0] += 12;
+        first[6] += 1;
+        assert_eq!(check(&first), 0);
     }
 
     #[test]

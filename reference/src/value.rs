@@ -1,6 +1,7 @@
 //! "Meaning": values, truth values, and what each operator and function gives.
 
 use crate::op::Op;
+use crate::wildcard::Pattern;
 
 #[derive(Clone, Copy, PartialEq, Eq, Debug)]
 pub enum Truth {
@@ -284,7 +285,7 @@ fn test(op: Op, value: &Value) -> bool {
     }
 }
 
-/// Ops 56..59 on the first operand and the later ones.
+/// Ops 56..60 on the first operand and the later ones.
 pub fn many(op: Op, first: Option<Value>, later: Vec<Option<Value>>) -> Truth {
     if op == Op::Equals {
         return equals(first, later);
@@ -295,7 +296,7 @@ pub fn many(op: Op, first: Option<Value>, later: Vec<Option<Value>>) -> Truth {
     };
     let literals: Option<Vec<Vec<u8>>> = later.into_iter().map(text_of).collect();
     match literals {
-        // "In 56..58 a later operand that is no string gives bottom."
+        // "In 56..58 a later operand that is no string gives bottom."; that of 60 is an op 4 entry
         None => Bottom,
         // "true if any literal fits, else false"
         Some(literals) => truth(literals.iter().any(|literal| fits(op, &text, literal))),
@@ -309,11 +310,12 @@ fn text_of(value: Option<Value>) -> Option<Vec<u8>> {
     }
 }
 
-/// "An empty literal always fits."
+/// "An empty literal always fits."; document 02, request 1: "the whole value must fit a pattern"
 fn fits(op: Op, text: &[u8], literal: &[u8]) -> bool {
     match op {
         Op::Begins => text.starts_with(literal),
         Op::Ends => text.ends_with(literal),
+        Op::Wildcard => Pattern::of(literal).is_ok_and(|pattern| pattern.fits(text)),
         _ => literal.is_empty() || text.windows(literal.len()).any(|part| part == literal),
     }
 }

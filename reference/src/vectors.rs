@@ -6,12 +6,16 @@
 //! - `read.txt`: notice, k, number, place, kind, name, value
 //! - `write.txt`: buffer, named length, name, kind, value, number, place, new length, buffer afterwards
 //! - `program.txt`: standard input, standard output of `verdict`
+//! - `01-translate.txt`, `01-run.txt`: as without the number, of texts and tables with `wildcard`
+//! - `01-check.txt`: table, number
+//! - `01-patterns.txt`: pattern, value, whether the pattern is well-formed (1, 0), whether the value fits
 //! - `03-quorum.txt`: table, needed number, number of notices, the notices, `:`, then for the opening and
 //!   each notice number, place, count, reached, parted by `|`
 //! - `03-states.txt`: a decision (table, needed number, values parted by commas), a notice, then number,
 //!   place, count, reached
 
 use crate::quorum::{self, Decision, Shown};
+use crate::wildcard::Pattern;
 use crate::Truth;
 
 /// Whether the lines of the file of that name agree; the number of lines, or the first that differs.
@@ -29,8 +33,10 @@ pub fn agree(file: &str, lines: &str) -> Result<usize, String> {
 /// How many words of the line are given, and the answer in words.
 fn answer(file: &str, words: &[&str]) -> Option<(usize, String)> {
     match (file, words.len()) {
-        ("translate.txt", 5) => Some((2, translate(words)?)),
-        ("run.txt", 6) => Some((2, run(words)?)),
+        ("translate.txt" | "01-translate.txt", 5) => Some((2, translate(words)?)),
+        ("run.txt" | "01-run.txt", 6) => Some((2, run(words)?)),
+        ("01-check.txt", 2) => Some((1, crate::check(&bytes(words[0])?).to_string())),
+        ("01-patterns.txt", 4) => Some((2, pattern(words)?)),
         ("read.txt", 7) => Some((2, read(words)?)),
         ("write.txt", 9) => Some((5, write(words)?)),
         ("program.txt", 2) => Some((1, hex(&crate::verdict(&bytes(words[0])?)))),
@@ -91,6 +97,13 @@ fn write(words: &[&str]) -> Option<String> {
         answer.length,
         hex(&buffer)
     ))
+}
+
+fn pattern(words: &[&str]) -> Option<String> {
+    let pattern = Pattern::of(&bytes(words[0])?);
+    let value = bytes(words[1])?;
+    let fits = pattern.as_ref().is_ok_and(|pattern| pattern.fits(&value));
+    Some(format!("{} {}", u8::from(pattern.is_ok()), u8::from(fits)))
 }
 
 /// A decision in a buffer of its size, opened and shown each notice. Between the number of no notices

@@ -11,6 +11,10 @@ fn the_vectors_agree() {
         ("read.txt", 700),
         ("write.txt", 700),
         ("program.txt", 150),
+        ("01-translate.txt", 500),
+        ("01-run.txt", 600),
+        ("01-check.txt", 300),
+        ("01-patterns.txt", 900),
         ("03-quorum.txt", 250),
         ("03-states.txt", 250),
     ];

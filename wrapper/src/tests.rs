@@ -49,7 +49,7 @@ fn a_table_is_written_and_later_bytes_stay() {
 
 #[test]
 fn a_refused_text_changes_no_byte() {
-    let cases: [(&str, u8, usize); 9] = [
+    let cases: [(&str, u8, usize); 12] = [
         ("pipe=>20", 5, 0),
         ("Op", 5, 0),
         ("! Op == 42", 5, 0),
@@ -58,6 +58,9 @@ fn a_refused_text_changes_no_byte() {
         ("Op == 42 &&", 2, 11),
         ("09 == 9", 1, 0),
         ("int32 ((a))", 4, 0),
+        ("wildcard (a, \"[\") == f (a)", 4, 0),
+        ("wildcard (a, \"*\", \"[\") == 1", 18, 0),
+        ("wildcard (a, \"*\") == 1", 5, 0),
         ("0x80000000 == 0", 3, 0),
     ];
     for (text, number, place) in cases {
@@ -237,6 +240,31 @@ fn shown(number: u8, place: usize, count: u8, reached: bool) -> Shown {
         count,
         reached,
     }
+}
+
+#[test]
+fn the_whole_cab_number_fits_a_pattern() {
+    let table = table("wildcard (Cab, \"T-4?\", \"V*\")");
+    assert_eq!(table[..10], [0x3F, 0, 0, 0, 2, 0, 4, 0, 9, 0]);
+    assert_eq!(table[46..48], [60, 0]);
+    let cases = [
+        ("T-41", Verdict::True),
+        ("T-412", Verdict::False),
+        ("T-4", Verdict::False),
+        ("V", Verdict::True),
+        ("V-7", Verdict::True),
+        ("AV", Verdict::False),
+    ];
+    for (cab, verdict) in cases {
+        let r = run(&table, &strings(&[("Cab", cab)]));
+        assert_eq!((r.number, r.verdict, r.steps), (0, verdict, 4), "{cab}");
+    }
+    assert_eq!(run(&table, &EMPTY_NOTICE).verdict, Verdict::Bottom);
+    // the last pattern with a set that is not closed
+    let mut ill_formed = table.clone();
+    ill_formed[66] = b'[';
+    assert_eq!(check(&ill_formed), 12);
+    assert_eq!(run(&ill_formed, &EMPTY_NOTICE).number, 12);
 }
 
 #[test]

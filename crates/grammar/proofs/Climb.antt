@@ -13,7 +13,7 @@ use Rattle.grammar.specs.Tree.{Tree, binary}
 use Rattle.grammar.specs.Grammar.{rank}
 use Rattle.grammar.specs.Parse.{Result, ok, bad, andThen, kindAt, level, more, prefix, levelOf, moreOf, prefixOf, fuel}
 use Rattle.grammar.specs.Size.{skips, entriesOf, poolOf, depthOf}
-use Rattle.grammar.specs.Judge.{isLogic, formsRight, kindsRight}
+use Rattle.grammar.specs.Judge.{isLogic, formsRight, patternsRight, kindsRight}
 use Rattle.grammar.specs.Answer.{foundOf, binaryFound, answerOf}
 use Rattle.grammar.specs.declared.found.Found.{Found}
 use Rattle.grammar.specs.declared.Parsed.{Parsed}
@@ -214,7 +214,7 @@ pub climb-bad-start : (ks : List Token) (at l : ℕ) → l ≤ 11 → {p : ℕ} 
 climb-bad-start ks at l le b = rw (spine-bad ks at l le b)
 
 binary-found : (k : ℕ) (t u : Tree) → foundOf (binary k t u) ≡ binaryFound k (foundOf t) (foundOf u)
-unfolding entriesOf poolOf depthOf isLogic formsRight kindsRight
+unfolding entriesOf poolOf depthOf isLogic formsRight patternsRight kindsRight
 binary-found k t u = refl
 
 module _ {ks : List Token} {at l next : ℕ} {f : Found} (g : Climbing ks at l next f) (r : ℕ) (is-r : r ≡ rank (kindAt ks next)) where

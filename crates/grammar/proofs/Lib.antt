@@ -4,6 +4,7 @@ pub mod Fuel
 pub mod Laws
 pub mod Complete
 pub mod Sizes
+pub mod Literals
 pub mod Climb
 pub mod Steps
 pub mod First

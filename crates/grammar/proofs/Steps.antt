@@ -1,5 +1,5 @@
 -- What each return and each turn of the parser shows, from the definition's equations. Assumes nothing.
-use Prim.Native.Nat.{ℕ, zero, suc, _+_, _-_, _*_, _<_, _≤_, max}
+use Prim.Native.Nat.{ℕ, zero, suc, _+_, _-_, _*_, _^_, _<_, _≤_, max}
 use native.Mathlib.Omega.{arith}
 use mathlib.Core.Path.{_≡_, refl, sym, ap, ap₂, _∙_}
 use mathlib.Core.Bool.{Bool, true, false, _&&_}
@@ -14,7 +14,7 @@ use Rattle.grammar.specs.Grammar.{rank, isPrefix, isLiteral}
 use Rattle.grammar.specs.Parse.{Result, ok, bad, andThen, tokenAt, kindAt, is, levelOf, moreOf, prefixOf, operandOf, argumentsOf, parseAll}
 use Rattle.grammar.specs.Function.{functionOf}
 use Rattle.grammar.specs.Size.{countOf, entriesOf, entriesIn, poolOf, poolIn, depthOf, depthIn}
-use Rattle.grammar.specs.Judge.{isText, formOf, firstOf, laterTexts, isLogic, formsRight, formsIn, kindsRight, kindsIn}
+use Rattle.grammar.specs.Judge.{isText, formOf, firstOf, laterTexts, isLogic, laterRight, formsRight, formsIn, patternsRight, kindsRight, kindsIn}
 use Rattle.grammar.specs.Answer.{foundOf, argsOf, answerOf, unaryFound, groupFound, noArgs, moreArgs, callFound}
 use Rattle.grammar.specs.declared.found.Found.{Found}
 use Rattle.grammar.specs.declared.found.Args.{Args}
@@ -27,32 +27,32 @@ use Rattle.grammar.proofs.Laws.{prefix-applied, operand-literal, operan
 -- ---- the numbers of a tree from those of its parts
 
 unary-found : (k : ℕ) (t : Tree) → foundOf (unary k t) ≡ unaryFound k (foundOf t)
-unfolding entriesOf poolOf depthOf isLogic formsRight kindsRight
+unfolding entriesOf poolOf depthOf isLogic formsRight patternsRight kindsRight
 unary-found k t = refl
 
 group-found : (t : Tree) → foundOf (group t) ≡ groupFound (foundOf t)
-unfolding entriesOf poolOf depthOf isLogic formsRight kindsRight
+unfolding entriesOf poolOf depthOf isLogic formsRight patternsRight kindsRight
 group-found t = refl
 
-call-found : (x : Token) (ts : Trees) → foundOf (call x ts) ≡ callFound (functionOf x) (argsOf ts)
-unfolding entriesOf poolOf depthOf isLogic formsRight kindsRight countOf firstOf laterTexts
+call-found : (x : Token) (ts : Trees) → foundOf (call x ts) ≡ callFound (functionOf x) (argsOf (functionOf x) ts)
+unfolding entriesOf poolOf depthOf isLogic formsRight patternsRight kindsRight countOf firstOf laterTexts
 call-found x ts = refl
 
-no-args : argsOf none ≡ noArgs
-unfolding entriesOf poolOf depthOf formsRight kindsRight countOf firstOf laterTexts
-no-args = refl
+no-args : (f : ℕ) → argsOf f none ≡ noArgs
+unfolding entriesOf poolOf depthOf formsRight patternsRight kindsRight countOf firstOf laterTexts
+no-args f = refl
 
-more-args : (ts : Trees) (t : Tree) → argsOf (_then_ ts t) ≡ moreArgs (argsOf ts) (foundOf t)
-unfolding entriesOf poolOf depthOf isLogic formsRight kindsRight countOf firstOf laterTexts
-more-args none t = refl
-more-args (_then_ ts u) t = rw (ne-eqb (countOf ts + 1) 0 (λ e. omega arith))
+more-args : (f : ℕ) (ts : Trees) (t : Tree) → argsOf f (_then_ ts t) ≡ moreArgs (argsOf f ts) (foundOf t) (laterRight f (countOf ts) t)
+unfolding entriesOf poolOf depthOf isLogic formsRight patternsRight kindsRight countOf firstOf laterTexts
+more-args f none t = refl
+more-args f (_then_ ts u) t = rw (ne-eqb (countOf ts + 1) 0 (λ e. omega arith))
 
 -- ---- the loop of the arguments: the name stands at `at`
 
 pub record Arguing (ks : List Token) (at next : ℕ) (a : Args) : Type 0 where
   pub trees : Trees
   pub on : operandOf ks at ≡ argumentsOf ks next (tokenAt ks at) trees
-  pub has : argsOf trees ≡ a
+  pub has : argsOf (functionOf (tokenAt ks at)) trees ≡ a
   pub lt : at + 2 ≤ next
   pub le : next ≤ length ks
   pub entries : a .entries + 1 ≤ 2 * (next - at)
@@ -68,7 +68,7 @@ module _ (ks : List Token) (at : ℕ) (k : kindAt ks at ≡ naming) (k1 : kindAt
       rw e (record {
         trees = none;
         on = operand-call ks at k k1 k2;
-        has = no-args;
+        has = no-args (functionOf (tokenAt ks at));
         lt = omega arith;
         le = omega arith;
         entries = omega arith;
@@ -78,39 +78,53 @@ module _ (ks : List Token) (at : ℕ) (k : kindAt ks at ≡ naming) (k1 : kindAt
       })
 
   pub is-call-none : {f : ℕ} {a : Args} {r : Found} → kindAt ks (at + 2) ≡ closing → f ≡ functionOf (tokenAt ks at) → a ≡ noArgs → r ≡ callFound f a → Whole (at + 3) r ≡ answerOf (operandOf ks at)
-  is-call-none k2 ef ea er = rw (operand-call-none ks at k k1 k2, er, ef, ea) (ap (Whole (at + 3)) (sym (call-found (tokenAt ks at) none ∙ ap (callFound (functionOf (tokenAt ks at))) no-args)))
+  is-call-none k2 ef ea er = rw (operand-call-none ks at k k1 k2, er, ef, ea) (ap (Whole (at + 3)) (sym (call-found (tokenAt ks at) none ∙ ap (callFound (functionOf (tokenAt ks at))) (no-args (functionOf (tokenAt ks at))))))
 
 module _ {ks : List Token} {at next : ℕ} {a : Args} (g : Arguing ks at next a) where
-  module _ {n : ℕ} {e : Found} (s : Seen ks next (levelOf ks next 0) n e) {b : Args} (is-b : b ≡ moreArgs a e) where
-    with-it : argsOf (_then_ (g .trees) (s .tree)) ≡ b
-    with-it = more-args (g .trees) (s .tree) ∙ ap₂ moreArgs (g .has) (s .has) ∙ sym is-b
-
-    pub arguing-on : kindAt ks n ≡ comma → Arguing ks at (n + 1) b
-    arguing-on k =
-        let h = at-kind ks n comma k (omega arith) in
-        let be = ap (λ (x : Args). x .entries) is-b in
-        let bp = ap (λ (x : Args). x .pool) is-b in
-        let bc = ap (λ (x : Args). x .count) is-b in
-        let bd = ap (λ (x : Args). x .depth) is-b in
-        record {
-          trees = _then_ (g .trees) (s .tree);
-          on = g .on ∙ args-comma ks next (tokenAt ks at) (g .trees) (s .tree) n (s .is-ok) k;
-          has = with-it;
-          lt = omega (arith, g .lt, s .lt);
-          le = omega arith;
-          entries = omega (arith, be, g .entries, g .lt, s .entries, s .lt);
-          pool = omega (arith, bp, g .pool, g .lt, s .pool, s .lt);
-          count = omega (arith, bc, be, g .count, s .some);
-          depth = omega (arith, bd, be, g .depth, g .count, s .depth);
-        }
-
-    pub arguing-close : {f : ℕ} {r : Found} → kindAt ks n ≡ closing → f ≡ functionOf (tokenAt ks at) → r ≡ callFound f b → Whole (n + 1) r ≡ answerOf (operandOf ks at)
-    arguing-close {f} {r} k ef er =
-        rw (g .on, args-close ks next (tokenAt ks at) (g .trees) (s .tree) n (s .is-ok) k, er, ef)
-        (ap (Whole (n + 1)) (sym (call-found (tokenAt ks at) (_then_ (g .trees) (s .tree)) ∙ ap (callFound (functionOf (tokenAt ks at))) with-it)))
+  module _ {n : ℕ} {e : Found} (s : Seen ks next (levelOf ks next 0) n e) where
+    pub more-fits : length ks ≤ 4096 → (a .count + e .depth < 2 ^ 64) × (a .count + 1 < 2 ^ 64) × (a .entries + e .entries < 2 ^ 64) × (a .pool + e .pool < 2 ^ 64)
+    more-fits len = (
+      omega (arith, g .count, g .entries, s .depth, s .entries, s .le, s .lt, g .le),
+      omega (arith, g .count, g .entries, g .le),
+      omega (arith, g .entries, s .entries, s .le, s .lt, g .le),
+      omega (arith, g .pool, s .pool, s .le, s .lt, g .le),
+    )
 
     pub arguing-other : (kindAt ks n ≡ comma → ⊥) → (kindAt ks n ≡ closing → ⊥) → Broken n ≡ answerOf (operandOf ks at)
     arguing-other n4 n3 = rw (g .on, args-other ks next (tokenAt ks at) (g .trees) (s .tree) n (s .is-ok) n4 n3)
+
+    module _ {b : Args} {right : Bool} (is-right : right ≡ laterRight (functionOf (tokenAt ks at)) (a .count) (s .tree)) (is-b : b ≡ moreArgs a e right) where
+      with-it : argsOf (functionOf (tokenAt ks at)) (_then_ (g .trees) (s .tree)) ≡ b
+      with-it =
+          let f = functionOf (tokenAt ks at) in
+          more-args f (g .trees) (s .tree)
+          ∙ ap (λ (x : Args). moreArgs x (foundOf (s .tree)) (laterRight f (x .count) (s .tree))) (g .has)
+          ∙ ap₂ (moreArgs a) (s .has) (sym is-right)
+          ∙ sym is-b
+
+      pub arguing-on : kindAt ks n ≡ comma → Arguing ks at (n + 1) b
+      arguing-on k =
+          let h = at-kind ks n comma k (omega arith) in
+          let be = ap (λ (x : Args). x .entries) is-b in
+          let bp = ap (λ (x : Args). x .pool) is-b in
+          let bc = ap (λ (x : Args). x .count) is-b in
+          let bd = ap (λ (x : Args). x .depth) is-b in
+          record {
+            trees = _then_ (g .trees) (s .tree);
+            on = g .on ∙ args-comma ks next (tokenAt ks at) (g .trees) (s .tree) n (s .is-ok) k;
+            has = with-it;
+            lt = omega (arith, g .lt, s .lt);
+            le = omega arith;
+            entries = omega (arith, be, g .entries, g .lt, s .entries, s .lt);
+            pool = omega (arith, bp, g .pool, g .lt, s .pool, s .lt);
+            count = omega (arith, bc, be, g .count, s .some);
+            depth = omega (arith, bd, be, g .depth, g .count, s .depth);
+          }
+
+      pub arguing-close : {f : ℕ} {r : Found} → kindAt ks n ≡ closing → f ≡ functionOf (tokenAt ks at) → r ≡ callFound f b → Whole (n + 1) r ≡ answerOf (operandOf ks at)
+      arguing-close {f} {r} k ef er =
+          rw (g .on, args-close ks next (tokenAt ks at) (g .trees) (s .tree) n (s .is-ok) k, er, ef)
+          (ap (Whole (n + 1)) (sym (call-found (tokenAt ks at) (_then_ (g .trees) (s .tree)) ∙ ap (callFound (functionOf (tokenAt ks at))) with-it)))
 
   pub arguing-bad : {p : ℕ} → levelOf ks next 0 ≡ bad p → Broken p ≡ answerOf (operandOf ks at)
   arguing-bad b = rw (g .on, args-bad ks next (tokenAt ks at) (g .trees) _ b)

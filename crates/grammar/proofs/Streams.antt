@@ -19,7 +19,7 @@ use Rattle.grammar.specs.Grammar.{rank}
 use Rattle.grammar.specs.Parse.{ended, tokenAt, kindAt}
 use Rattle.grammar.specs.Function.{functionOf, opOfName}
 use Rattle.grammar.specs.Size.{poolBytes, entriesOf, poolOf, depthOf}
-use Rattle.grammar.specs.Judge.{formsRight, kindsRight, isLogic}
+use Rattle.grammar.specs.Judge.{formsRight, patternsRight, kindsRight, isLogic}
 use Rattle.grammar.specs.Nesting.{openAfter, rowAfter, deepFrom}
 use Rattle.grammar.specs.Answer.{foundOf, leafFound}
 use Rattle.grammar.specs.Stream.{tokenOf, tokensIn}
@@ -132,7 +132,7 @@ small s kinds starts i = go (decLt i (length kinds))
 -- ---- a leaf's numbers
 
 leaf-is : (x : Token) {k n : ℕ} → kindOf x ≡ k → poolBytes x ≡ n → leafFound k n ≡ foundOf (leaf x)
-unfolding entriesOf poolOf depthOf formsRight kindsRight isLogic
+unfolding entriesOf poolOf depthOf formsRight patternsRight kindsRight isLogic
 leaf-is x e f = rw (← e, ← f)
 
 no-bytes : (s : List ℕ) (k p : ℕ) → (k ≡ 5 → ⊥) → (k ≡ 4 → ⊥) → poolBytes (tokenOf s k p) ≡ 0

@@ -1,13 +1,13 @@
--- The numbers of a result, which the parser's promise gives: of a whole expression the first token after it, its sizes and what the refusals 4 and 5 ask; or the token that cannot go on.
+-- The numbers of a result, which the parser's promise gives: of a whole expression the first token after it, its sizes and what the refusals 4, 18 and 5 ask; or the token that cannot go on.
 -- Each part of a tree has its numbers from those of its own parts: `Parts` of specs/Theorems.antt.
 use Prim.Native.Nat.{ℕ, _+_, max}
-use mathlib.Core.Bool.{true, false, cond, not, _&&_}
+use mathlib.Core.Bool.{Bool, true, false, cond, not, _&&_}
 use lib.Dec.{eqb, ltb}
 use Rattle.lexer.specs.Token.{Token}
 use Rattle.grammar.specs.Tree.{Tree, Trees}
 use Rattle.grammar.specs.Parse.{Result, ok, bad}
 use Rattle.grammar.specs.Size.{countOf, skips, entriesOf, entriesIn, poolOf, poolIn, depthOf, depthIn}
-use Rattle.grammar.specs.Judge.{leafForm, callForm, formOf, isText, firstOf, laterTexts, callRight, formsRight, formsIn, givesLogic, takesLogic, isLogic, agrees, kindsRight, kindsIn}
+use Rattle.grammar.specs.Judge.{leafForm, callForm, formOf, isText, firstOf, laterTexts, callRight, formsRight, formsIn, patternsRight, patternsIn, givesLogic, takesLogic, isLogic, agrees, kindsRight, kindsIn}
 use Rattle.grammar.specs.declared.found.Form.the-variants.{Other}
 use Rattle.grammar.specs.declared.found.Found.{Found}
 use Rattle.grammar.specs.declared.found.Args.{Args}
@@ -23,11 +23,13 @@ foundOf t =
       form = formOf t;
       logic = isLogic t;
       forms = formsRight t;
+      patterns = patternsRight t;
       kinds = kindsRight t;
     }
 
-abbrev pub argsOf : Trees → Args
-argsOf ts =
+-- of the arguments of the function with the op f
+abbrev pub argsOf : ℕ → Trees → Args
+argsOf f ts =
     record {
       count = countOf ts;
       entries = entriesIn ts;
@@ -36,6 +38,7 @@ argsOf ts =
       first = firstOf ts;
       texts = laterTexts ts;
       forms = formsIn ts;
+      patterns = patternsIn f ts;
       kinds = kindsIn ts;
     }
 
@@ -43,13 +46,14 @@ abbrev pub answerOf : Result → Parsed
 answerOf (ok t n) = Whole n (foundOf t)
 answerOf (bad p) = Broken p
 
--- Document 01's number of an answer, "first that applies in this order: .. 2, 4, 5, 7, 8", and 0 if none does; and its place as a token, since the parser knows tokens and not bytes.
+-- The number of an answer, "first that applies in this order: .. 2, 4, 5, 7, 8", 18 "after 4 and before 5", and 0 if none does; and its place as a token, since the parser knows tokens and not bytes.
 abbrev pub foundNumber : Found → ℕ
 foundNumber f =
     cond (not (f .forms)) 4
+    (cond (not (f .patterns)) 18
     (cond (not (f .kinds && f .logic)) 5
     (cond (ltb 512 (f .entries)) 7
-    (cond (ltb 32 (f .depth)) 8 0)))
+    (cond (ltb 32 (f .depth)) 8 0))))
 
 abbrev pub numberOf : Parsed → ℕ
 numberOf (Whole n f) = foundNumber f
@@ -61,12 +65,12 @@ placeOf (Broken p) = p
 
 -- a leaf of the kind k with n bytes in the pool
 abbrev pub leafFound : ℕ → ℕ → Found
-leafFound k n = record { entries = 1; pool = n; depth = 1; form = leafForm k; logic = false; forms = true; kinds = true }
+leafFound k n = record { entries = 1; pool = n; depth = 1; form = leafForm k; logic = false; forms = true; patterns = true; kinds = true }
 
 -- an expression in parentheses
 abbrev pub groupFound : Found → Found
 groupFound f =
-    record { entries = f .entries; pool = f .pool; depth = f .depth; form = Other; logic = f .logic; forms = f .forms; kinds = f .kinds }
+    record { entries = f .entries; pool = f .pool; depth = f .depth; form = Other; logic = f .logic; forms = f .forms; patterns = f .patterns; kinds = f .kinds }
 
 -- a prefix operator on an expression
 abbrev pub unaryFound : ℕ → Found → Found
@@ -78,6 +82,7 @@ unaryFound k f =
       form = Other;
       logic = givesLogic k;
       forms = f .forms;
+      patterns = f .patterns;
       kinds = f .kinds && agrees (takesLogic k) (f .logic);
     }
 
@@ -91,15 +96,16 @@ binaryFound k f g =
       form = Other;
       logic = givesLogic k;
       forms = f .forms && g .forms;
+      patterns = f .patterns && g .patterns;
       kinds = (f .kinds && agrees (takesLogic k) (f .logic)) && (g .kinds && agrees (takesLogic k) (g .logic));
     }
 
--- no argument, and one argument more
+-- no argument, and one argument more, of which refusal 18 asks whether it is right by itself
 abbrev pub noArgs : Args
-noArgs = record { count = 0; entries = 0; pool = 0; depth = 1; first = Other; texts = true; forms = true; kinds = true }
+noArgs = record { count = 0; entries = 0; pool = 0; depth = 1; first = Other; texts = true; forms = true; patterns = true; kinds = true }
 
-abbrev pub moreArgs : Args → Found → Args
-moreArgs a f =
+abbrev pub moreArgs : Args → Found → Bool → Args
+moreArgs a f right =
     record {
       count = a .count + 1;
       entries = a .entries + f .entries;
@@ -108,6 +114,7 @@ moreArgs a f =
       first = cond (eqb (a .count) 0) (f .form) (a .first);
       texts = cond (eqb (a .count) 0) true (a .texts && isText (f .form));
       forms = a .forms && f .forms;
+      patterns = a .patterns && (f .patterns && right);
       kinds = a .kinds && (f .kinds && not (f .logic));
     }
 
@@ -121,5 +128,6 @@ callFound f a =
       form = callForm f;
       logic = givesLogic f;
       forms = a .forms && callRight f (a .first) (a .count) (a .texts);
+      patterns = a .patterns;
       kinds = a .kinds;
     }

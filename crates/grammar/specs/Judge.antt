@@ -1,10 +1,13 @@
--- Refusal 4, "unknown function, wrong argument count or form", and refusal 5, "kind wrong": two verdicts, each over the whole tree. Document 01, "Grammar".
+-- Refusal 4, "unknown function, wrong argument count or form", refusal 18, "an ill-formed pattern", and refusal 5, "kind wrong": three verdicts, each over the whole tree. Document 01, "Grammar";
+-- document 02, request 1.
 use Prim.Native.Nat.{ℕ}
 use mathlib.Core.Bool.{Bool, true, false, cond, not, _&&_, _||_}
-use lib.Dec.{eqb, leb}
-use Rattle.opcode.specs.Number.{foldCaseOp, sizeOp, equalOp, notOp, isInt32Op, requireOp, beginsWithOp, endsWithOp, equalsOp}
+use mathlib.Core.List.{List}
+use lib.Dec.{eqb, leb, ltb}
+use Rattle.opcode.specs.Number.{foldCaseOp, sizeOp, equalOp, notOp, isInt32Op, requireOp, beginsWithOp, equalsOp, wildcardOp}
 use Rattle.lexer.specs.Kind.{textKind, naming}
-use Rattle.lexer.specs.Token.{Token, kindOf}
+use Rattle.lexer.specs.Token.{Token, name, int32, int64, real, text, symbol, kindOf}
+use Rattle.pattern.specs.Wildcard.{wellFormed}
 use Rattle.grammar.specs.Tree.{Tree, leaf, group, unary, binary, call, Trees, none, _then_}
 use Rattle.grammar.specs.Function.{functionOf}
 use Rattle.grammar.specs.Size.{countOf}
@@ -58,7 +61,7 @@ laterTexts (_then_ (_then_ ts u) t) = laterTexts (_then_ ts u) && isText (formOf
 abbrev pub takesName : Form → ℕ → Bool
 takesName form count = eqb count 1 && isName form
 
--- "`begins-with contains ends-with` take a name or a `fold-case` call, then 1..8 string literals."
+-- "`begins-with contains ends-with` take a name or a `fold-case` call, then 1..8 string literals."; `wildcard`: "Same argument forms as `begins-with`"
 abbrev pub takesTexts : Form → ℕ → Bool → Bool
 takesTexts form count texts = (isName form || isFolding form) && (leb 2 count && (leb count 9 && texts))
 
@@ -75,7 +78,7 @@ abbrev pub callRight : ℕ → Form → ℕ → Bool → Bool
 callRight f form count texts =
     cond (eqb f foldCaseOp) (takesFolded form count)
     (cond (eqb f equalsOp) (takesValues form count)
-    (cond (leb beginsWithOp f && leb f endsWithOp) (takesTexts form count texts)
+    (cond (leb beginsWithOp f && leb f wildcardOp) (takesTexts form count texts)
     (cond (eqb f sizeOp || (leb isInt32Op f && leb f requireOp)) (takesName form count) false)))
 
 -- refusal 4 does not apply
@@ -90,6 +93,46 @@ unfoldable mutual
   pub formsIn : Trees → Bool
   formsIn none = true
   formsIn (_then_ ts t) = formsIn ts && formsRight t
+
+-- the functions that take patterns, and whether a string is a pattern of the function with this op; any string is one of the others
+abbrev pub takesPatterns : ℕ → Bool
+takesPatterns f = eqb f wildcardOp
+
+abbrev pub patternTest : ℕ → List ℕ → Bool
+patternTest f p = cond (eqb f wildcardOp) (wellFormed p) true
+
+-- an argument that is a string literal is a pattern of the function; an argument of another form does not count, since it is 4
+abbrev pub literalRight : ℕ → Token → Bool
+literalRight f (name s escaped) = true
+literalRight f (int32 z) = true
+literalRight f (int64 z) = true
+literalRight f (real x) = true
+literalRight f (text p) = patternTest f p
+literalRight f (symbol k) = true
+
+abbrev pub argumentRight : ℕ → Tree → Bool
+argumentRight f (leaf x) = literalRight f x
+argumentRight f (group t) = true
+argumentRight f (unary k t) = true
+argumentRight f (binary k t u) = true
+argumentRight f (call x ts) = true
+
+-- the argument after n others; the first one is the value, no pattern
+abbrev pub laterRight : ℕ → ℕ → Tree → Bool
+laterRight f n t = cond (ltb 0 n) (argumentRight f t) true
+
+-- refusal 18 does not apply; the arguments are those of the function with the op f
+unfoldable mutual
+  pub patternsRight : Tree → Bool
+  patternsRight (leaf x) = true
+  patternsRight (group t) = patternsRight t
+  patternsRight (unary k t) = patternsRight t
+  patternsRight (binary k t u) = patternsRight t && patternsRight u
+  patternsRight (call x ts) = patternsIn (functionOf x) ts
+
+  pub patternsIn : ℕ → Trees → Bool
+  patternsIn f none = true
+  patternsIn f (_then_ ts t) = patternsIn f ts && (patternsRight t && laterRight f (countOf ts) t)
 
 -- "Logic: comparisons, `! && ^^ ||`, all functions but `size` and `fold-case`."
 abbrev pub givesLogic : ℕ → Bool

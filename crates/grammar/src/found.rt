@@ -15,7 +15,7 @@ pub enum Form {
     Other,
 }
 
-// The entries, pool bytes and stack slots of an expression's code, its form as an argument, whether it is logic, and whether the refusals 4 and 5 do not apply to it.
+// The entries, pool bytes and stack slots of an expression's code, its form as an argument, whether it is logic, and whether the refusals 4, 18 and 5 do not apply to it.
 pub struct Found {
     pub entries: usize,
     pub pool: usize,
@@ -23,6 +23,7 @@ pub struct Found {
     pub form: Form,
     pub logic: bool,
     pub forms: bool,
+    pub patterns: bool,
     pub kinds: bool,
 }
 
@@ -35,6 +36,7 @@ pub struct Args {
     pub first: Form,
     pub texts: bool,
     pub forms: bool,
+    pub patterns: bool,
     pub kinds: bool,
 }
 
@@ -67,6 +69,7 @@ pub fn leaf(k: u8, n: usize) -> Found
         form: form,
         logic: false,
         forms: true,
+        patterns: true,
         kinds: true,
     }
 }
@@ -83,6 +86,7 @@ pub fn group(f: Found) -> Found
         form: form,
         logic: f.logic,
         forms: f.forms,
+        patterns: f.patterns,
         kinds: f.kinds,
     }
 }
@@ -111,6 +115,7 @@ pub fn unary(k: u8, f: Found) -> Found
         form: Form::Other,
         logic: gives_logic(k),
         forms: f.forms,
+        patterns: f.patterns,
         kinds: f.kinds & operand_right(k, f.logic),
     }
 }
@@ -137,6 +142,7 @@ pub fn binary(k: u8, f: Found, g: Found) -> Found
         form: Form::Other,
         logic: gives_logic(k),
         forms: f.forms & g.forms,
+        patterns: f.patterns & g.patterns,
         kinds: (f.kinds & operand_right(k, f.logic)) & (g.kinds & operand_right(k, g.logic)),
     }
 }
@@ -152,6 +158,7 @@ pub fn no_args() -> Args
         first: Form::Other,
         texts: true,
         forms: true,
+        patterns: true,
         kinds: true,
     }
 }
@@ -172,9 +179,10 @@ fn all_texts(count: usize, texts: bool, new: Form) -> bool
     }
 }
 
-pub fn more_args(a: Args, f: Found) -> Args
+// One argument more, of which refusal 18 asks whether it is right by itself.
+pub fn more_args(a: Args, f: Found, right: bool) -> Args
     requires { ⌜ (a .count + f .depth < 2 ^ 64) × (a .count + 1 < 2 ^ 64) × (a .entries + f .entries < 2 ^ 64) × (a .pool + f .pool < 2 ^ 64) ⌝ }
-    ensures { λ r. ⌜ r ≡ moreArgs a f ⌝ }
+    ensures { λ r. ⌜ r ≡ moreArgs a f right ⌝ }
 {
     let form = f.form;
     let old = a.first;
@@ -188,6 +196,7 @@ pub fn more_args(a: Args, f: Found) -> Args
         first: first,
         texts: texts,
         forms: a.forms & f.forms,
+        patterns: a.patterns & (f.patterns & right),
         kinds: a.kinds & (f.kinds & !f.logic),
     }
 }
@@ -203,7 +212,7 @@ fn is_name(f: Form) -> bool
     }
 }
 
-fn is_text(f: Form) -> bool
+pub(crate) fn is_text(f: Form) -> bool
     ensures { λ r. ⌜ r ≡ isText f ⌝ }
 {
     match f {
@@ -235,7 +244,7 @@ fn call_right(function: u8, form: Form, count: usize, texts: bool) -> bool
     if function == opcode::EQUALS {
         return is_name(form) & ((2 <= count) & (count <= 9));
     }
-    if (opcode::BEGINS_WITH <= function) & (function <= opcode::ENDS_WITH) {
+    if (opcode::BEGINS_WITH <= function) & (function <= opcode::WILDCARD) {
         return (is_name(form) | is_folding(form)) & ((2 <= count) & ((count <= 9) & texts));
     }
     if (function == opcode::SIZE)
@@ -270,6 +279,7 @@ pub fn call(function: u8, a: Args) -> Found
         form: form,
         logic: gives_logic(function),
         forms: a.forms & right,
+        patterns: a.patterns,
         kinds: a.kinds,
     }
 }

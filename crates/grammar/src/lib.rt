@@ -12,6 +12,7 @@ ghost use Rattle.grammar.specs.Answer.{answerOf};
 ghost use Rattle.grammar.specs.Stream.{tokensIn};
 
 mod found;
+mod literal;
 pub mod stream;
 
 use found::Args;
@@ -99,7 +100,7 @@ fn operand(text: &[u8], kinds: &[u8], starts: &[u16], at: usize) -> Parsed
     }
 }
 
-// The call whose name stands at `at`, before a `(`.
+// The call whose name stands at `at`, before a `(`. An argument is judged in two places, by what follows it: called once, the judge with its arrays would be laid into this frame of the recursion.
 fn arguments(text: &[u8], kinds: &[u8], starts: &[u16], at: usize) -> Parsed
     requires { ⌜ (length (now text) ≤ 4096) × (length (now kinds) ≤ 4096) × (at + 2 ≤ length (now kinds)) × (getD (now kinds) at ending ≡ naming) × (getD (now kinds) (at + 1) ending ≡ opening) ⌝ }
     ensures { λ r. ⌜ r ≡ answerOf (operandOf (tokensIn (now (text .entry)) (now (kinds .entry)) (now (starts .entry))) at) ⌝ }
@@ -114,13 +115,18 @@ fn arguments(text: &[u8], kinds: &[u8], starts: &[u16], at: usize) -> Parsed
         match level(text, kinds, starts, next, 0) {
             Parsed::Whole(n, f) => {
                 let k = stream::kind(kinds, n);
-                args = found::more_args(args, f);
+                let count = args.count;
+                let form = f.form;
                 if k == lexer::CLOSE {
+                    let right = literal::argument_right(text, starts, next, function, count, form);
+                    args = found::more_args(args, f, right);
                     return Parsed::Whole(n + 1, found::call(function, args));
                 }
                 if k != lexer::COMMA {
                     return Parsed::Broken(n);
                 }
+                let right = literal::argument_right(text, starts, next, function, count, form);
+                args = found::more_args(args, f, right);
                 next = n + 1;
             }
             Parsed::Broken(p) => {

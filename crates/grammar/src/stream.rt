@@ -194,6 +194,9 @@ fn matching(text: &[u8], at: usize) -> u8
     if lexer::name_is(text, at, b"equals") {
         return opcode::EQUALS;
     }
+    if lexer::name_is(text, at, b"wildcard") {
+        return opcode::WILDCARD;
+    }
     0
 }
 

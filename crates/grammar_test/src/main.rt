@@ -44,6 +44,10 @@ fn judge(text: &[u8], kinds: &[u8], starts: &[u16]) {
                 put_refusal(4, 0);
                 return;
             }
+            if !found.patterns {
+                put_refusal(18, 0);
+                return;
+            }
             if !(found.kinds & found.logic) {
                 put_refusal(5, 0);
                 return;

@@ -1,13 +1,18 @@
--- The theorem that specs/Theorems.antt states, by computing each case. Assumes nothing.
+-- The theorems that specs/Theorems.antt states, by computing each case. Assumes nothing.
 use mathlib.Core.Path.{refl}
 use Rattle.word.specs.Word.{wordAt}
 use Rattle.notice.specs.Layout.{startsFrom}
 use Rattle.lexer.specs.Token.{scanOf, tokensFrom, tokensOf}
+use Rattle.pattern.specs.Wildcard.{itemsFrom}
 use Rattle.grammar.specs.Grammar.{rank}
 use Rattle.grammar.specs.Parse.{level, levelOf, parseAll}
 use Rattle.meaning.specs.Meaning.{itemOf}
-use Rattle.meaning.specs.Theorems.{PCases}
+use Rattle.meaning.specs.Theorems.{PCases, CabCases}
 
 pub p-cases : PCases
 unfolding wordAt startsFrom scanOf tokensFrom tokensOf rank level levelOf parseAll itemOf
 p-cases = (refl, (refl, (refl, (refl, (refl, (refl, (refl, (refl, (refl, (refl, (refl, tt)))))))))))
+
+pub cab-cases : CabCases
+unfolding wordAt startsFrom scanOf tokensFrom tokensOf itemsFrom rank level levelOf parseAll itemOf
+cab-cases = (refl, (refl, (refl, (refl, tt))))

@@ -1,4 +1,4 @@
--- Document 01's P cases, of the meaning of the text itself, from its bytes. The proof is in proofs/Theorems.antt, under the same name.
+-- Document 01's P cases, and request 1's text of document 02, of the meaning of the text itself, from its bytes. The proofs are in proofs/Theorems.antt, under the same names.
 use mathlib.Core.Path.{_≡_}
 use mathlib.Core.List.{List, [], _∷_}
 use mathlib.Core.Option.{some}
@@ -39,3 +39,23 @@ cases =
 -- Every P case's text means its verdict on its notice.
 abbrev pub PCases : Type 0
 PCases = Each (λ x. textMeaning (x .text) (x .notice) ≡ some (x .verdict)) cases
+
+-- a notice with the string field `Cab`, of four bytes
+abbrev pub cab : List ℕ → List ℕ
+cab value = 0x10 ∷ 0 ∷ 0 ∷ 0 ∷ 1 ∷ 0 ∷ 1 ∷ 0 ∷ 10 ∷ 0 ∷ 4 ∷ 0 ∷ 3 ∷ 0x43 ∷ 0x61 ∷ 0x62 ∷ value
+
+-- "Dispatch wants `wildcard (Cab, "T-4?", "V*")`."
+abbrev pub wanted : List ℕ
+wanted = ascii "wildcard (Cab, \"T-4?\", \"V*\")"
+
+abbrev pub cabs : List Case
+cabs =
+    record { text = wanted; notice = cab (ascii "T-47"); verdict = True }
+    ∷ record { text = wanted; notice = cab (ascii "V-12"); verdict = True }
+    ∷ record { text = wanted; notice = cab (ascii "T-51"); verdict = False }
+    ∷ record { text = wanted; notice = empty; verdict = Bottom }
+    ∷ []
+
+-- Request 1's text means these verdicts.
+abbrev pub CabCases : Type 0
+CabCases = Each (λ x. textMeaning (x .text) (x .notice) ≡ some (x .verdict)) cabs

@@ -123,7 +123,7 @@ isNanOp = 53
 abbrev pub requireOp : ℕ
 requireOp = 54
 
--- `begins-with contains ends-with equals`
+-- `begins-with contains ends-with equals`, and of document 02 `wildcard`
 abbrev pub beginsWithOp : ℕ
 beginsWithOp = 56
 
@@ -135,3 +135,6 @@ endsWithOp = 58
 
 abbrev pub equalsOp : ℕ
 equalsOp = 59
+
+abbrev pub wildcardOp : ℕ
+wildcardOp = 60

@@ -103,23 +103,23 @@ prefixed k e = go (ℕ-discrete k 40) (ℕ-discrete k 8)
     go (no q) (no r) = false-true (rw (ne-eqb k 40 q, ne-eqb k 8 r) at e)
 
 -- functions of one argument are unary ops below 56, the others take a first and more
-sixty : List ℕ
-sixty = lib.ListN.replicate 60 0
+to-sixty : List ℕ
+to-sixty = lib.ListN.replicate 61 0
 
 one-rule : ℕ → ℕ → Bool
 one-rule k x = not (eqb k 7 || (leb 48 k && leb k 54)) || isUnaryOp (opOf k)
 
 many-rule : ℕ → ℕ → Bool
-many-rule k x = not (leb 56 k && leb k 59) || isManyOp (opOf k)
+many-rule k x = not (leb 56 k && leb k 60) || isManyOp (opOf k)
 
 one-argument : (f : ℕ) → (eqb f 7 || (leb 48 f && leb f 54)) ≡ true → f < 56 → (u : Unary) × (opOf f ≡ Op.Unary u)
-unfolding one-rule sixty
-one-argument f e h = unary-op (opOf f) (implied (eqb f 7 || (leb 48 f && leb f 54)) (isUnaryOp (opOf f)) (at one-rule sixty tt f (omega arith)) e)
+unfolding one-rule to-sixty
+one-argument f e h = unary-op (opOf f) (implied (eqb f 7 || (leb 48 f && leb f 54)) (isUnaryOp (opOf f)) (at one-rule to-sixty tt f (omega arith)) e)
 
-more-arguments : (f : ℕ) → 56 ≤ f → f ≤ 59 → (m : Many) × (opOf f ≡ Op.Many m)
-unfolding many-rule sixty
+more-arguments : (f : ℕ) → 56 ≤ f → f ≤ 60 → (m : Many) × (opOf f ≡ Op.Many m)
+unfolding many-rule to-sixty
 more-arguments f a b =
-    many-op (opOf f) (implied (leb 56 f && leb f 59) (isManyOp (opOf f)) (at many-rule sixty tt f (omega arith)) (rw (le-leb 56 f a, le-leb f 59 b)))
+    many-op (opOf f) (implied (leb 56 f && leb f 60) (isManyOp (opOf f)) (at many-rule to-sixty tt f (omega arith)) (rw (le-leb 56 f a, le-leb f 60 b)))
 
 -- ---- calls
 
@@ -135,9 +135,9 @@ low-function f e = go (or-cases (eqb f 7) (leb 48 f && leb f 54) e)
     go (inr h) = let q = leb-true f 54 (and-parts (leb 48 f) (leb f 54) h .1) in omega arith
 
 call-made : (f count : ℕ) (form : Form) (texts : Bool) → callRight f form count texts ≡ true → CallMade f count
-call-made f count form texts e = go (ℕ-discrete f 6) (ℕ-discrete f 59) (leb 56 f && leb f 58) refl (eqb f 7 || (leb 48 f && leb f 54)) refl
+call-made f count form texts e = go (ℕ-discrete f 6) (ℕ-discrete f 59) (leb 56 f && leb f 60) refl (eqb f 7 || (leb 48 f && leb f 54)) refl
   where
-    go : Dec (f ≡ 6) → Dec (f ≡ 59) → (c : Bool) → (leb 56 f && leb f 58) ≡ c → (d : Bool) → (eqb f 7 || (leb 48 f && leb f 54)) ≡ d → CallMade f count
+    go : Dec (f ≡ 6) → Dec (f ≡ 59) → (c : Bool) → (leb 56 f && leb f 60) ≡ c → (d : Bool) → (eqb f 7 || (leb 48 f && leb f 54)) ≡ d → CallMade f count
     go (yes q) b c ec d ed =
         let r : takesFolded form count ≡ true = rw (eq-eqb f 6 q) at e in
         let n = eqb-true count 1 (and-parts (eqb count 1) (isName form || (isText form || isFolding form)) r .0) in
@@ -152,8 +152,8 @@ call-made f count form texts e = go (ℕ-discrete f 6) (ℕ-discrete f 59) (leb 
         let r : takesTexts form count texts ≡ true = rw (ne-eqb f 6 a, ne-eqb f 59 b, ec) at e in
         let s = and-parts (isName form || isFolding form) (leb 2 count && (leb count 9 && texts)) r .1 in
         let n = leb-true 2 count (and-parts (leb 2 count) (leb count 9 && texts) s .0) in
-        let lo = leb-true 56 f (and-parts (leb 56 f) (leb f 58) ec .0) in
-        let hi = leb-true f 58 (and-parts (leb 56 f) (leb f 58) ec .1) in
+        let lo = leb-true 56 f (and-parts (leb 56 f) (leb f 60) ec .0) in
+        let hi = leb-true f 60 (and-parts (leb 56 f) (leb f 60) ec .1) in
         let m = more-arguments f lo (omega arith) in
         inr (m .0, m .1, lo, omega arith)
     go (no a) (no b) false ec true ed =

@@ -5,7 +5,7 @@ use mathlib.Core.List.{List}
 use Prim.Native.Nat.{ℕ}
 use lib.ListN.{length}
 use Rattle.table.specs.Table.{entriesOf, poolOf, layoutOf}
-use Rattle.table.specs.Check.{entriesRight, endRight, skipsRight, checkOf}
+use Rattle.table.specs.Check.{entriesRight, endRight, skipsRight, patternsRight, checkOf}
 use Rattle.table.proofs.Tests.{are-true}
 
 module _ (s : List ℕ) where
@@ -21,6 +21,6 @@ module _ (s : List ℕ) where
       go false g = refl
 
   pub all-parts : layoutOf s ≡ true → entriesRight (poolOf s) (entriesOf s) ≡ true → endRight (entriesOf s) ≡ true → skipsRight (entriesOf s) (length (entriesOf s)) ≡ true
-      → checkOf s ≡ true
+      → patternsRight (poolOf s) (entriesOf s) (length (entriesOf s)) ≡ true → checkOf s ≡ true
   unfolding checkOf
-  all-parts l r e k = are-true _ _ l (are-true _ _ r (are-true _ _ e k))
+  all-parts l r e k p = are-true _ _ l (are-true _ _ r (are-true _ _ e (are-true _ _ k p)))

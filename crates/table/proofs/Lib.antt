@@ -4,6 +4,7 @@ pub mod Shapes
 pub mod Reading
 pub mod Laid
 pub mod Passes
+pub mod Patterns
 pub mod Grouped
 pub mod Encoding
 pub mod Reached

@@ -1,4 +1,4 @@
--- The tests of all entries and of all skips: what each one says of all, and all of each. Assumes nothing.
+-- The tests of all entries, of all skips and of all patterns: what each one says of all, and all of each. Assumes nothing.
 use mathlib.Core.Path.{_≡_, refl}
 use mathlib.Core.Bool.{true}
 use mathlib.Core.List.{List, [], _∷_}
@@ -8,7 +8,7 @@ use native.Mathlib.Decide.{decLt}
 use native.Mathlib.Omega.{arith}
 use lib.ListN.{length, getD}
 use Rattle.table.specs.Table.{Entry, blank}
-use Rattle.table.specs.Check.{entryRight, entriesRight, skipRight, skipsRight}
+use Rattle.table.specs.Check.{entryRight, entriesRight, skipRight, skipsRight, patternRight, patternsRight}
 use Rattle.table.proofs.Tests.{both-true, are-true}
 
 -- ---- each entry by itself
@@ -39,3 +39,19 @@ each-lands es (suc n) k h e = go (decLt k n) (each-lands es n k)
     go : Dec (k < n) → (k < n → skipsRight es n ≡ true → skipRight es k ≡ true) → skipRight es k ≡ true
     go (yes l) ih = ih l (both-true (skipsRight es n) (skipRight es n) e .0)
     go (no l) ih = let q : k ≡ n = omega arith in rw q (both-true (skipsRight es n) (skipRight es n) e .1)
+
+-- ---- each entry's patterns
+
+pub all-patterns : (pool : List ℕ) (es : List Entry) (n : ℕ) → ((k : ℕ) → k < n → patternRight pool es k ≡ true) → patternsRight pool es n ≡ true
+unfolding patternsRight
+all-patterns pool es zero h = refl
+all-patterns pool es (suc n) h = are-true _ _ (all-patterns pool es n (λ k l. h k (omega arith))) (h n (omega arith))
+
+pub each-pattern : (pool : List ℕ) (es : List Entry) (n k : ℕ) → k < n → patternsRight pool es n ≡ true → patternRight pool es k ≡ true
+unfolding patternsRight
+each-pattern pool es zero k h e = absurd (not-suc-le-zero h)
+each-pattern pool es (suc n) k h e = go (decLt k n) (each-pattern pool es n k)
+  where
+    go : Dec (k < n) → (k < n → patternsRight pool es n ≡ true → patternRight pool es k ≡ true) → patternRight pool es k ≡ true
+    go (yes l) ih = ih l (both-true (patternsRight pool es n) (patternRight pool es n) e .0)
+    go (no l) ih = let q : k ≡ n = omega arith in rw q (both-true (patternsRight pool es n) (patternRight pool es n) e .1)

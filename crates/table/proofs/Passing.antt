@@ -15,7 +15,7 @@ use lib.Seq.{getD-set-same, getD-set-other}
 use Rattle.common.proofs.Choice.{false-true}
 use Rattle.opcode.specs.Opcode.{opOf, Kind, logic}
 use Rattle.table.specs.Table.{Entry, countOf, entryAt, entriesOf, poolOf, layoutOf}
-use Rattle.table.specs.Check.{entryRight, pop, push, after, shapeFrom, shapeAt, isSkip, sameShape, skipRight, checkOf}
+use Rattle.table.specs.Check.{entryRight, pop, push, after, shapeFrom, shapeAt, isSkip, sameShape, skipRight, patternsBefore, checkOf}
 use Rattle.table.specs.Groups.{groupOf, rightBy, takesBy, givesBy, skipBy}
 use Rattle.table.specs.declared.groups.Group.{Group}
 use Rattle.table.specs.Number.{numberOf, metBy, Landed}
@@ -24,14 +24,20 @@ use Rattle.table.proofs.Grouped.{right-grouped, takes-grouped, gives-gr
 use Rattle.table.proofs.Numbers.{shapes-same, eq-shape}
 use Rattle.table.proofs.Shapes.{from-next}
 use Rattle.table.proofs.Reading.{length-entries, entry-of}
-use Rattle.table.proofs.Passes.{all-right, all-land}
-use Rattle.table.proofs.Theorems.{checked-entry, checked-skip, checked-ends}
+use Rattle.table.proofs.Passes.{all-right, all-land, all-patterns}
+use Rattle.table.proofs.Theorems.{checked-entry, checked-skip, checked-patterns, checked-ends}
 use Rattle.table.proofs.Answer.{refuted, all-parts}
 
 -- ---- what the code finds by the group of an entry's operator, in terms of the entry: y is what the code has read as the entry x
 
-pub right-by : (names : List ℕ) (g : Group) (y x : Entry) (r : Bool) → y ≡ x → g ≡ groupOf (opOf (y .op)) → r ≡ rightBy names g y → r ≡ entryRight names x
-right-by names g y x r q e f = f ∙ ap (λ (h : Group). rightBy names h y) e ∙ right-grouped names (opOf (y .op)) y ∙ ap (entryRight names) q
+-- an entry by itself, and the patterns before it
+abbrev placed : List ℕ → List Entry → ℕ → Entry → Bool
+placed names es i x = entryRight names x && patternsBefore names es i x
+
+pub right-by : (names : List ℕ) (es : List Entry) (i : ℕ) (g : Group) (y x : Entry) (r : Bool) → y ≡ x → g ≡ groupOf (opOf (y .op))
+    → r ≡ (rightBy names g y && patternsBefore names es i y) → r ≡ placed names es i x
+right-by names es i g y x r q e f =
+    f ∙ ap (λ (b : Bool). b && patternsBefore names es i y) (ap (λ (h : Group). rightBy names h y) e ∙ right-grouped names (opOf (y .op)) y) ∙ ap (placed names es i) q
 
 pub landed-by : (g : Group) (y x : Entry) (m n i c : ℕ) (w v : List ℕ) (r : Bool) → y ≡ x → m ≡ n → g ≡ groupOf (opOf (y .op))
     → Landed (skipBy g) m (i + y .a + 1) c w v r → Landed (isSkip x) n (i + x .a + 1) c w v r
@@ -96,7 +102,7 @@ module _ (s : List ℕ) where
     pub within : i ≤ countOf s
     pub here : c ≡ numberOf (kinds i)
     pub there : c ≡ 0 → ⊥
-    pub right : (k : ℕ) → k < i → entryRight (poolOf s) (entryAt s k) ≡ true
+    pub right : (k : ℕ) → k < i → placed (poolOf s) (entriesOf s) k (entryAt s k) ≡ true
     pub held : (k : ℕ) → k < i → isSkip (entryAt s k) ≡ true → Held w i k
     pub asked : (j : ℕ) → i ≤ j → (getD w j 0 ≡ 0 → ⊥) → Asked w i j
 
@@ -128,12 +134,17 @@ module _ (s : List ℕ) where
   -- ---- the turn at the entry i, in the code's words: c is the number of the kinds before it, which meet what is wanted
 
   module _ (w : List ℕ) (i c : ℕ) (p : Passed w i c) (h : i < countOf s) where
-    right-is : (names : List ℕ) (r b : Bool) → names ≡ poolOf s → r ≡ entryRight names (entryAt s i) → r ≡ b → entryRight (poolOf s) (entryAt s i) ≡ b
-    right-is names r b e f g = ap (λ (x : List ℕ). entryRight x (entryAt s i)) (sym e) ∙ sym f ∙ g
+    right-is : (names : List ℕ) (r b : Bool) → names ≡ poolOf s → r ≡ placed names (entriesOf s) i (entryAt s i) → r ≡ b → placed (poolOf s) (entriesOf s) i (entryAt s i) ≡ b
+    right-is names r b e f g = ap (λ (x : List ℕ). placed x (entriesOf s) i (entryAt s i)) (sym e) ∙ sym f ∙ g
 
-    -- the entry by itself is wrong
-    pub pass-wrong : (names : List ℕ) (r : Bool) → names ≡ poolOf s → r ≡ entryRight names (entryAt s i) → r ≡ false → false ≡ checkOf s
-    pass-wrong names r e f g = refuted s (λ t. false-true (sym (right-is names r false e f g) ∙ checked-entry s t i h .right))
+    -- those before it are right by themselves
+    pub pass-before : (names : List ℕ) → names ≡ poolOf s → (k : ℕ) → k < i → entryRight names (entryAt s k) ≡ true
+    pass-before names e k l = rw e (both-true (entryRight (poolOf s) (entryAt s k)) _ (p .right k l) .0)
+
+    -- the entry by itself or a pattern before it is wrong
+    pub pass-wrong : (names : List ℕ) (r : Bool) → names ≡ poolOf s → r ≡ placed names (entriesOf s) i (entryAt s i) → r ≡ false → false ≡ checkOf s
+    pass-wrong names r e f g =
+        refuted s (λ t. false-true (sym (right-is names r false e f g) ∙ are-true _ _ (checked-entry s t i h .right) (checked-patterns s t i h)))
 
     -- its skip lands past the end, or where other kinds are wanted
     pub pass-lost : (v : List ℕ) (r : Bool) → Landed (isSkip (entryAt s i)) (countOf s) (to i) c w v r → r ≡ false → false ≡ checkOf s
@@ -168,7 +179,7 @@ module _ (s : List ℕ) where
           let z : _≡_ {A = ℕ} 0 1 = cc in
           omega arith)
 
-      module _ (m : metBy (getD w i 0) c ≡ true) (names : List ℕ) (r : Bool) (e : names ≡ poolOf s) (g : r ≡ entryRight names (entryAt s i)) (t : r ≡ true) (n : d ≡ 0 → ⊥) where
+      module _ (m : metBy (getD w i 0) c ≡ true) (names : List ℕ) (r : Bool) (e : names ≡ poolOf s) (g : r ≡ placed names (entriesOf s) i (entryAt s i)) (t : r ≡ true) (n : d ≡ 0 → ⊥) where
         -- what was wanted here was found
         found : (k : ℕ) → k < i → isSkip (entryAt s k) ≡ true → to k < i + 1 → kinds (to k) ≡ kinds k
         found k l b u = go (decLt (to k) i)
@@ -265,6 +276,9 @@ module _ (s : List ℕ) where
         go true x = let a = p .held k h x in are-true _ _ (le-leb (to k) (countOf s) (a .inside)) (eq-shape (kinds (to k)) (kinds k) (finds a (decLt (to k) (countOf s))))
         go false x = refl
 
+    right-at : (k : ℕ) → k < countOf s → (entryRight (poolOf s) (entryAt s k) ≡ true) × (patternsBefore (poolOf s) (entriesOf s) k (entryAt s k) ≡ true)
+    right-at k h = both-true _ _ (p .right k h)
+
     pub pass-end : (eqb c 2 && metBy (getD w (countOf s) 0) c) ≡ checkOf s
     pass-end = go (eqb c 2) (metBy (getD w (countOf s) 0) c) refl refl
       where
@@ -273,6 +287,7 @@ module _ (s : List ℕ) where
         go true false e f = pass-unmet w (countOf s) c p f
         go true true e f =
             let z : kinds (length (entriesOf s)) ≡ some (logic ∷ []) = rw (length-entries s) (shapes-same (kinds (countOf s)) (some (logic ∷ [])) (sym (p .here) ∙ eqb-true c 2 e)) in
-            sym (all-parts s l (all-right (poolOf s) (entriesOf s) (λ k h. let m : k < countOf s = rw (length-entries s) at h in rw (entry-of s k m) (p .right k m)))
+            sym (all-parts s l (all-right (poolOf s) (entriesOf s) (λ k h. let m : k < countOf s = rw (length-entries s) at h in rw (entry-of s k m) (right-at k m .0)))
             (eq-shape (kinds (length (entriesOf s))) (some (logic ∷ [])) z)
-            (all-land (entriesOf s) (length (entriesOf s)) (λ k h. lands f k (rw (length-entries s) at h))))
+            (all-land (entriesOf s) (length (entriesOf s)) (λ k h. lands f k (rw (length-entries s) at h)))
+            (all-patterns (poolOf s) (entriesOf s) (length (entriesOf s)) (λ k h. let m : k < countOf s = rw (length-entries s) at h in rw (entry-of s k m) (right-at k m .1))))

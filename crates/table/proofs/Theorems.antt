@@ -11,14 +11,15 @@ use lib.ListN.{length}
 use borrow.Author.Tests.{ltb-true, lt-ltb, leb-true, le-leb}
 use mir.Syntax.{w32, w64}
 use mir.Val.{SFits, ofZ}
-use Rattle.table.specs.Table.{encode, decode, layoutOf, entriesOf, poolOf}
-use Rattle.table.specs.Check.{inRange, entriesRight, shapeFrom, shapeAt, endRight, skipsRight, programRight, checkOf}
+use Rattle.table.specs.Table.{encode, decode, layoutOf, countOf, entryAt, entriesOf, poolOf}
+use Rattle.table.specs.Check.{inRange, entriesRight, shapeFrom, shapeAt, endRight, skipsRight, patternsBefore, patternsRight, programRight, checkOf}
 use Rattle.table.specs.Theorems.{DecodeEncode, EncodeDecode, Layout, Widened, CheckEncode, CheckWays, EveryReached, CheckedEntry, CheckedSkip, CheckedEnds}
 use Rattle.table.proofs.Tests.{both-true, are-true}
 use Rattle.table.proofs.Laid.{laid, keeps, inside}
 use Rattle.table.proofs.Encoding.{read-written, laid-out, written-read, within-limits, written-bytes}
 use Rattle.table.proofs.Reading.{length-entries, entry-of}
-use Rattle.table.proofs.Passes.{each-right}
+use Rattle.table.proofs.Passes.{each-right, each-pattern}
+use Rattle.table.proofs.Patterns.{every-pattern, patterns-right}
 use Rattle.table.proofs.Reached.{depth, end-shape, each-step, each-landing, every-way, reached, ends-right, skips-right}
 
 -- ---- layout
@@ -64,6 +65,7 @@ record Parts (s : List ℕ) : Type 0 where
   right : entriesRight (poolOf s) (entriesOf s) ≡ true
   ends : endRight (entriesOf s) ≡ true
   lands : skipsRight (entriesOf s) (length (entriesOf s)) ≡ true
+  patterns : patternsRight (poolOf s) (entriesOf s) (length (entriesOf s)) ≡ true
 
 parts : (s : List ℕ) → checkOf s ≡ true → Parts s
 unfolding checkOf
@@ -71,13 +73,14 @@ parts s e =
     let a = both-true (layoutOf s) (programRight (decode s)) e in
     let b = both-true (entriesRight (poolOf s) (entriesOf s)) _ (a .1) in
     let c = both-true (endRight (entriesOf s)) _ (b .1) in
-    record { lay = a .0; right = b .0; ends = c .0; lands = c .1 }
+    let d = both-true (skipsRight (entriesOf s) (length (entriesOf s))) _ (c .1) in
+    record { lay = a .0; right = b .0; ends = c .0; lands = d .0; patterns = d .1 }
 
 pub check-ways : CheckWays
 unfolding checkOf
 check-ways s = (
-  λ h. let p = parts s h in (p .lay, p .right, every-way (entriesOf s) (p .ends) (p .lands)),
-  λ h. are-true _ _ (h .0) (are-true _ _ (h .1) (are-true _ _ (ends-right (entriesOf s) (h .2)) (skips-right (entriesOf s) (h .2)))),
+  λ h. let p = parts s h in (p .lay, p .right, every-way (entriesOf s) (p .ends) (p .lands), every-pattern (poolOf s) (entriesOf s) (p .patterns)),
+  λ h. are-true _ _ (h .0) (are-true _ _ (h .1) (are-true _ _ (ends-right (entriesOf s) (h .2)) (are-true _ _ (skips-right (entriesOf s) (h .2)) (patterns-right (poolOf s) (entriesOf s) (h .3))))),
 )
 
 pub every-reached : EveryReached
@@ -113,6 +116,9 @@ checked-skip s c i h t =
     let e = entry-of s i h in
     let l = each-landing (entriesOf s) (p .ends) (p .lands) i (rw (length-entries s) h) (rw e t) in
     (rw (e, length-entries s) at (l .0), rw e at (l .1))
+
+pub checked-patterns : (s : List ℕ) → checkOf s ≡ true → (i : ℕ) → i < countOf s → patternsBefore (poolOf s) (entriesOf s) i (entryAt s i) ≡ true
+checked-patterns s c i h = rw (entry-of s i h) at (each-pattern (poolOf s) (entriesOf s) (length (entriesOf s)) i (rw (length-entries s) h) (parts s c .patterns))
 
 pub checked-ends : CheckedEnds
 unfolding shapeFrom

@@ -1,5 +1,5 @@
 -- The check of a table (refusal 12 if it fails). Document 01, "Table": "The check: each entry has enough operands of the right kind; depth is at most 32; a skip lands at or
--- before N; every way of reaching an entry, or the end, finds the same depth and kinds, and the end has one logic slot."
+-- before N; every way of reaching an entry, or the end, finds the same depth and kinds, and the end has one logic slot." Document 02, request 1: the patterns of `wildcard`.
 use Prim.Native.Nat.{ℕ, zero, suc, _+_, _-_, _^_}
 use mathlib.Core.Bool.{Bool, true, false, cond, not, _&&_, _||_}
 use mathlib.Core.List.{List, [], _∷_}
@@ -7,8 +7,11 @@ use mathlib.Core.Option.{Option, none, some}
 use lib.Dec.{eqb, leb, ltb}
 use lib.ListN.{length, take, drop, getD}
 use Rattle.notice.specs.Field.{nameRight}
+use Rattle.pattern.specs.Wildcard.{wellFormed}
 use Rattle.opcode.specs.Opcode.{opOf, Kind, logic, value, takesOf, givesOf}
 use Rattle.opcode.specs.declared.Load.{Load}
+use Rattle.opcode.specs.declared.Fit.{Fit}
+use Rattle.opcode.specs.declared.Many.{Many}
 use Rattle.opcode.specs.declared.Op.{Op}
 use Rattle.table.specs.Table.{Entry, blank, Program, decode, layoutOf}
 
@@ -133,6 +136,53 @@ unfoldable pub skipsRight : List Entry → ℕ → Bool
 skipsRight es zero = true
 skipsRight es (suc i) = skipsRight es i && skipRight es i
 
+-- ---- patterns
+
+-- which texts are patterns, for an operator that takes patterns
+abbrev pub fitPattern : Fit → Option (List ℕ → Bool)
+fitPattern Fit.BeginsWith = none
+fitPattern Fit.Contains = none
+fitPattern Fit.EndsWith = none
+fitPattern Fit.Wildcard = some wellFormed
+
+abbrev pub manyPattern : Many → Option (List ℕ → Bool)
+manyPattern (Many.Fit f) = fitPattern f
+manyPattern Many.Equals = none
+
+abbrev pub patternTest : Op → Option (List ℕ → Bool)
+patternTest (Op.Load l) = none
+patternTest (Op.Unary u) = none
+patternTest (Op.Binary b) = none
+patternTest (Op.Many m) = manyPattern m
+patternTest (Op.Skip s) = none
+patternTest Op.Unknown = none
+
+-- an op 4 entry whose string is a pattern
+abbrev pub operandRight : (List ℕ → Bool) → List ℕ → Entry → Bool
+operandRight test pool e = eqb (e .op) 4 && test (partOf pool e)
+
+-- so many entries directly before the entry i
+unfoldable pub operandsRight : (List ℕ → Bool) → List ℕ → List Entry → ℕ → ℕ → Bool
+operandsRight test pool es i zero = true
+operandsRight test pool es zero (suc a) = false
+operandsRight test pool es (suc i) (suc a) = operandRight test pool (getD es i blank) && operandsRight test pool es i a
+
+abbrev pub patternBy : Option (List ℕ → Bool) → List ℕ → List Entry → ℕ → ℕ → Bool
+patternBy none pool es i a = true
+patternBy (some test) pool es i a = operandsRight test pool es i a
+
+-- "the table check gives 12 for it [an ill-formed pattern] and for a pattern operand that is no op 4 entry directly before": all the patterns of e, the entry i
+abbrev pub patternsBefore : List ℕ → List Entry → ℕ → Entry → Bool
+patternsBefore pool es i e = patternBy (patternTest (opOf (e .op))) pool es i (e .a)
+
+abbrev pub patternRight : List ℕ → List Entry → ℕ → Bool
+patternRight pool es i = patternsBefore pool es i (getD es i blank)
+
+-- those of each among the first n entries
+unfoldable pub patternsRight : List ℕ → List Entry → ℕ → Bool
+patternsRight pool es zero = true
+patternsRight pool es (suc i) = patternsRight pool es i && patternRight pool es i
+
 -- ---- all of it
 
 -- "the end has one logic slot"
@@ -140,7 +190,10 @@ abbrev pub endRight : List Entry → Bool
 endRight es = sameShape (shapeAt es (length es)) (some (logic ∷ []))
 
 abbrev pub programRight : Program → Bool
-programRight p = entriesRight (p .pool) (p .entries) && (endRight (p .entries) && skipsRight (p .entries) (length (p .entries)))
+programRight p =
+    entriesRight (p .pool) (p .entries)
+    && (endRight (p .entries)
+    && (skipsRight (p .entries) (length (p .entries)) && patternsRight (p .pool) (p .entries) (length (p .entries))))
 
 unfoldable pub checkOf : List ℕ → Bool
 checkOf s = layoutOf s && programRight (decode s)

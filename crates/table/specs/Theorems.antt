@@ -13,7 +13,7 @@ use Rattle.word.specs.Word.{Bytes}
 use Rattle.opcode.specs.Opcode.{opOf, Kind, logic, takesOf, givesOf}
 use Rattle.table.specs.Table.{Entry, blank, Program, encode, decode, layoutOf, countOf, entryAt, entriesOf, poolOf}
 use Rattle.table.specs.Check.{inRange, entryRight, entriesRight, shapeAt, isSkip, programRight, checkOf}
-use Rattle.table.specs.Ways.{Reaches, EveryWay}
+use Rattle.table.specs.Ways.{Reaches, EveryWay, EveryPattern}
 
 -- ---- layout
 
@@ -54,9 +54,12 @@ abbrev pub CheckEncode : Type 0
 CheckEncode = (p : Program) → Limits p → checkOf (encode p) ≡ programRight p
 
 -- A table passes the check exactly if its layout and each entry by itself are right, and every way of reaching an entry finds enough operands of the right kind, every two
--- ways of reaching the same entry or the end find the same depth and kinds, depth is at most 32, every skip lands at or before N, and the end has one logic slot.
+-- ways of reaching the same entry or the end find the same depth and kinds, depth is at most 32, every skip lands at or before N, and the end has one logic slot;
+-- and the patterns of each entry that takes patterns are right.
 abbrev pub CheckWays : Type 0
-CheckWays = (s : List ℕ) → (checkOf s ≡ true) ↔ ((layoutOf s ≡ true) × (entriesRight (poolOf s) (entriesOf s) ≡ true) × EveryWay (entriesOf s))
+CheckWays =
+    (s : List ℕ)
+    → (checkOf s ≡ true) ↔ ((layoutOf s ≡ true) × (entriesRight (poolOf s) (entriesOf s) ≡ true) × EveryWay (entriesOf s) × EveryPattern (poolOf s) (entriesOf s))
 
 -- No entry of a checked table escapes: some way reaches each entry, and the end, with the kinds along the entries.
 abbrev pub EveryReached : Type 0

@@ -77,6 +77,7 @@ pub fn group_of(number: u16) -> Group
         57 => Group::Many,
         58 => Group::Many,
         59 => Group::Many,
+        60 => Group::Many,
         _ => Group::Unknown,
     }
 }

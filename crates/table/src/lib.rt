@@ -1,15 +1,15 @@
-// Tables: layout, decoding and the check. Document 01, "Table". Every function takes a slice that is exactly the table, wherever it lies.
+// Tables: layout, decoding and the check. Document 01, "Table"; document 02, request 1: the patterns of `wildcard`. Every function takes a slice that is exactly the table, wherever it lies.
 ghost use mathlib.Core.Path.{_≡_};
-ghost use mathlib.Core.Bool.{true, _&&_};
+ghost use mathlib.Core.Bool.{Bool, true, _&&_};
 ghost use mathlib.Core.List.{List};
-ghost use mathlib.Core.Option.{Option};
+ghost use mathlib.Core.Option.{Option, some};
 ghost use Prim.Native.Nat.{ℕ, suc, _+_, _*_, _≤_, _<_};
 ghost use lib.Dec.{leb, eqb};
 ghost use lib.ListN.{length, getD, replicate};
-ghost use Rattle.opcode.specs.Opcode.{Kind, logic, value};
-ghost use Rattle.table.specs.Table.{countOf, entryAt, poolOf, layoutOf};
-ghost use Rattle.table.specs.Check.{inRange, partRight, loadRight, popOne, pop, push, checkOf};
-ghost use Rattle.table.specs.Groups.{rightBy, takesBy, givesBy, skipBy};
+ghost use Rattle.opcode.specs.Opcode.{opOf, Kind, logic, value};
+ghost use Rattle.table.specs.Table.{countOf, entryAt, entriesOf, poolOf, layoutOf};
+ghost use Rattle.table.specs.Check.{inRange, partRight, loadRight, entryRight, popOne, pop, push, patternTest, operandRight, operandsRight, patternsBefore, checkOf};
+ghost use Rattle.table.specs.Groups.{groupOf, rightBy, takesBy, givesBy, skipBy};
 ghost use Rattle.table.specs.Number.{bitOf, numberOf, metBy, Landed};
 use groups::Group;
 use opcode::Load;
@@ -306,6 +306,63 @@ fn lands_right(wanted: &mut [u64], g: Group, n: usize, i: usize, a: u16, c: u64)
     }
 }
 
+// ---- patterns
+
+// Whether a text is a pattern of an operator that takes patterns.
+fn is_pattern(number: u16, p: &[u8]) -> bool
+    ensures { λ r. ⌜ ((test : List ℕ → Bool) → patternTest (opOf number) ≡ some test → r ≡ test (now (p .entry))) ⌝ }
+{
+    match number {
+        60 => pattern::wildcard::well_formed(p),
+        _ => false,
+    }
+}
+
+// An op 4 entry whose string is a pattern of the operator. It asks that a string lies in the pool.
+fn operand_right(pool: &[u8], number: u16, e: Entry) -> bool
+    requires { ⌜ (e .op ≡ 4 → partRight (now pool) e ≡ true) ⌝ }
+    ensures { λ r. ⌜ ((test : List ℕ → Bool) → patternTest (opOf number) ≡ some test → r ≡ operandRight test (now (pool .entry)) e) ⌝ }
+{
+    if e.op != 4 {
+        return false;
+    }
+    let start = e.b as usize;
+    let past = start + (e.a as usize);
+    is_pattern(number, &pool[start..past])
+}
+
+// The `a` entries directly before the entry i, from the last one on. It asks that the entries lie in the table, and that those before i are right by themselves.
+fn operands_right(table: &[u8], pool: &[u8], number: u16, i: usize, a: u16) -> bool
+    requires { ⌜ (i ≤ countOf (now table)) × (10 + 12 * countOf (now table) ≤ length (now table)) × ((k : ℕ) → k < i → entryRight (now pool) (entryAt (now table) k) ≡ true) ⌝ }
+    ensures { λ r. ⌜ ((test : List ℕ → Bool) → patternTest (opOf number) ≡ some test → r ≡ operandsRight test (now (pool .entry)) (entriesOf (now (table .entry))) i a) ⌝ }
+{
+    let mut at = i;
+    let mut left = a;
+    while 0 < left {
+        if at == 0 {
+            return false;
+        }
+        at -= 1;
+        left -= 1;
+        let e = entry_at(table, at);
+        if !operand_right(pool, number, e) {
+            return false;
+        }
+    }
+    true
+}
+
+// The entry i by itself, and the patterns directly before it if its operator takes patterns. It asks for the same, and for the operator's group.
+fn placed_right(table: &[u8], pool: &[u8], g: Group, i: usize, e: Entry) -> bool
+    requires { ⌜ (i ≤ countOf (now table)) × (10 + 12 * countOf (now table) ≤ length (now table)) × ((k : ℕ) → k < i → entryRight (now pool) (entryAt (now table) k) ≡ true) × (g ≡ groupOf (opOf (e .op))) ⌝ }
+    ensures { λ r. ⌜ r ≡ (rightBy (now (pool .entry)) g e && patternsBefore (now (pool .entry)) (entriesOf (now (table .entry))) i e) ⌝ }
+{
+    if e.op != 60 {
+        return entry_right(pool, g, e);
+    }
+    many_right(e) & operands_right(table, pool, e.op, i, e.a)
+}
+
 // ---- the check
 
 // The check of what the layout holds, in one pass over the entries. It asks for the layout, which its caller has tested, and for room where nothing is wanted yet.
@@ -323,7 +380,7 @@ fn kinds_right(table: &[u8], n: usize, wanted: &mut [u64]) -> bool
         }
         let e = entry_at(table, i);
         let g = groups::group_of(e.op);
-        if !entry_right(strings, g, e) {
+        if !placed_right(table, strings, g, i, e) {
             return false;
         }
         if !lands_right(wanted, g, n, i, e.a, c) {

@@ -181,7 +181,7 @@ abbrev ofOne : ℕ → Bool
 ofOne f = eqb f 6 || (eqb f 7 || (leb 48 f && leb f 54))
 
 abbrev ofMany : ℕ → Bool
-ofMany f = eqb f 59 || (leb 56 f && leb f 58)
+ofMany f = eqb f 59 || (leb 56 f && leb f 60)
 
 one-right : ℕ → Bool
 one-right f = not (ofOne f) || (not (leb 56 f) && unaryFits (opOf f) value (kindBy (givesLogic f)))
@@ -207,22 +207,22 @@ one-acts f count e n =
 many-acts : (f count : ℕ) → ofMany f ≡ true → 2 ≤ count → count ≤ 9 → Acts (callEntry f count) (replicate count value) (kindBy (givesLogic f))
 unfolding many-right below
 many-acts f count e m n =
-    let l : f < 60 = go (decLt f 60) in
-    let p = both-true _ _ (implied _ _ (below-at many-right 60 f refl l) e) in
+    let l : f < 61 = go (decLt f 61) in
+    let p = both-true _ _ (implied _ _ (below-at many-right 61 f refl l) e) in
     let h : 56 ≤ f = leb-true 56 f (p .0) in
     let q : suc (count - 1) ≡ count = omega arith in
     rw (p .0, le-leb 32 f (omega arith))
     (subst (λ (n : ℕ). Acts (entry f (count - 1) 0) (replicate n value) logic) q (acts-many f (count - 1) (opOf f) refl (omega arith) (p .1) (omega arith) (omega arith)))
   where
-    go : Dec (f < 60) → f < 60
+    go : Dec (f < 61) → f < 61
     go (yes h) = h
-    go (no h) = false-true (rw (ne-eqb f 59 (λ q. omega arith), le-leb 56 f (omega arith), lt-leb f 58 (omega arith)) at e)
+    go (no h) = false-true (rw (ne-eqb f 59 (λ q. omega arith), le-leb 56 f (omega arith), lt-leb f 60 (omega arith)) at e)
 
 -- a call whose arguments refusal 4 does not name
 pub call-acts : (f count : ℕ) (form : Form) (texts : Bool) → callRight f form count texts ≡ true → Acts (callEntry f count) (replicate count value) (kindBy (givesLogic f))
-call-acts f count form texts h = go (eqb f 6) (eqb f 59) (leb 56 f && leb f 58) (eqb f 7 || (leb 48 f && leb f 54)) refl refl refl refl h
+call-acts f count form texts h = go (eqb f 6) (eqb f 59) (leb 56 f && leb f 60) (eqb f 7 || (leb 48 f && leb f 54)) refl refl refl refl h
   where
-    go : (a b c d : Bool) → eqb f 6 ≡ a → eqb f 59 ≡ b → (leb 56 f && leb f 58) ≡ c → (eqb f 7 || (leb 48 f && leb f 54)) ≡ d
+    go : (a b c d : Bool) → eqb f 6 ≡ a → eqb f 59 ≡ b → (leb 56 f && leb f 60) ≡ c → (eqb f 7 || (leb 48 f && leb f 54)) ≡ d
         → cond a (takesFolded form count) (cond b (takesValues form count) (cond c (takesTexts form count texts) (cond d (takesName form count) false))) ≡ true
         → Acts (callEntry f count) (replicate count value) (kindBy (givesLogic f))
     go true b c d ea eb ec ed r = one-acts f count (rw ea) (eqb-true count 1 (both-true _ _ r .0))
@@ -275,7 +275,7 @@ pub record Pushes (pool : List ℕ) (e : Entry) : Type 0 where
   pub fits : Fits e
 
 -- a part of the pool between other bytes
-part-is : (pre s post : List ℕ) (at : ℕ) → length pre ≡ at → take (length s) (drop at (pre ++ (s ++ post))) ≡ s
+pub part-is : (pre s post : List ℕ) (at : ℕ) → length pre ≡ at → take (length s) (drop at (pre ++ (s ++ post))) ≡ s
 part-is pre s post at e = rw (drop-at pre (s ++ post) at e) (take-at s post (length s) refl)
 
 part-fits : (pre s post : List ℕ) (at : ℕ) → length pre ≡ at → leb (length s + at) (length (pre ++ (s ++ post))) ≡ true

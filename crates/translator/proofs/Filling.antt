@@ -119,24 +119,28 @@ module _ (f : Found) (room : ℕ) where
   pub by-4 : not (f .forms) ≡ true → 4 ≡ refusalBy f room
   by-4 a = rw a
 
-  pub by-5 : not (f .forms) ≡ false → not (f .kinds && f .logic) ≡ true → 5 ≡ refusalBy f room
-  by-5 a b = rw (a, b)
+  pub by-18 : not (f .forms) ≡ false → not (f .patterns) ≡ true → 18 ≡ refusalBy f room
+  by-18 a p = rw (a, p)
 
-  pub by-7 : not (f .forms) ≡ false → not (f .kinds && f .logic) ≡ false → 512 < f .entries → 7 ≡ refusalBy f room
-  by-7 a b c = rw (a, b, lt-ltb 512 (f .entries) c)
+  pub by-5 : not (f .forms) ≡ false → not (f .patterns) ≡ false → not (f .kinds && f .logic) ≡ true → 5 ≡ refusalBy f room
+  by-5 a p b = rw (a, p, b)
 
-  pub by-8 : not (f .forms) ≡ false → not (f .kinds && f .logic) ≡ false → f .entries ≤ 512 → 32 < f .depth → 8 ≡ refusalBy f room
-  by-8 a b c d = rw (a, b, le-ltb 512 (f .entries) c, lt-ltb 32 (f .depth) d)
+  pub by-7 : not (f .forms) ≡ false → not (f .patterns) ≡ false → not (f .kinds && f .logic) ≡ false → 512 < f .entries → 7 ≡ refusalBy f room
+  by-7 a p b c = rw (a, p, b, lt-ltb 512 (f .entries) c)
 
-  pub by-9 : not (f .forms) ≡ false → not (f .kinds && f .logic) ≡ false → f .entries ≤ 512 → f .depth ≤ 32 → room < entryStart (f .entries) + f .pool → 9 ≡ refusalBy f room
-  by-9 a b c d e = rw (a, b, le-ltb 512 (f .entries) c, le-ltb 32 (f .depth) d, lt-ltb room (entryStart (f .entries) + f .pool) e)
+  pub by-8 : not (f .forms) ≡ false → not (f .patterns) ≡ false → not (f .kinds && f .logic) ≡ false → f .entries ≤ 512 → 32 < f .depth → 8 ≡ refusalBy f room
+  by-8 a p b c d = rw (a, p, b, le-ltb 512 (f .entries) c, lt-ltb 32 (f .depth) d)
 
-  pub by-0 : not (f .forms) ≡ false → not (f .kinds && f .logic) ≡ false → f .entries ≤ 512 → f .depth ≤ 32 → entryStart (f .entries) + f .pool ≤ room → 0 ≡ refusalBy f room
-  by-0 a b c d e = rw (a, b, le-ltb 512 (f .entries) c, le-ltb 32 (f .depth) d, le-ltb room (entryStart (f .entries) + f .pool) e)
+  pub by-9 : not (f .forms) ≡ false → not (f .patterns) ≡ false → not (f .kinds && f .logic) ≡ false → f .entries ≤ 512 → f .depth ≤ 32 → room < entryStart (f .entries) + f .pool → 9 ≡ refusalBy f room
+  by-9 a p b c d e = rw (a, p, b, le-ltb 512 (f .entries) c, le-ltb 32 (f .depth) d, lt-ltb room (entryStart (f .entries) + f .pool) e)
+
+  pub by-0 : not (f .forms) ≡ false → not (f .patterns) ≡ false → not (f .kinds && f .logic) ≡ false → f .entries ≤ 512 → f .depth ≤ 32 → entryStart (f .entries) + f .pool ≤ room → 0 ≡ refusalBy f room
+  by-0 a p b c d e = rw (a, p, b, le-ltb 512 (f .entries) c, le-ltb 32 (f .depth) d, le-ltb room (entryStart (f .entries) + f .pool) e)
 
 -- no refusal applies
 pub record Free (f : Found) (room : ℕ) : Type 0 where
   pub forms : f .forms ≡ true
+  pub patterns : f .patterns ≡ true
   pub kinds : f .kinds ≡ true
   pub logic : f .logic ≡ true
   pub few : f .entries ≤ 512
@@ -144,18 +148,19 @@ pub record Free (f : Found) (room : ℕ) : Type 0 where
   pub fits : entryStart (f .entries) + f .pool ≤ room
 
 pub free : (f : Found) (room : ℕ) → refusalBy f room ≡ 0 → Free f room
-free f room e = go (f .forms) (f .kinds) (f .logic) (ltb 512 (f .entries)) (ltb 32 (f .depth)) (ltb room (entryStart (f .entries) + f .pool)) refl refl refl refl refl refl e
+free f room e = go (f .forms) (f .patterns) (f .kinds) (f .logic) (ltb 512 (f .entries)) (ltb 32 (f .depth)) (ltb room (entryStart (f .entries) + f .pool)) refl refl refl refl refl refl refl e
   where
-    go : (a b c d g h : Bool) → f .forms ≡ a → f .kinds ≡ b → f .logic ≡ c → ltb 512 (f .entries) ≡ d → ltb 32 (f .depth) ≡ g → ltb room (entryStart (f .entries) + f .pool) ≡ h
-        → _≡_ {A = ℕ} (orElse (cond (not a) 4 (cond (not (b && c)) 5 (cond d 7 (cond g 8 0)))) (cond h 9 0)) 0 → Free f room
-    go false b c d g h p q r s t u z = absurd (omega arith)
-    go true false c d g h p q r s t u z = absurd (omega arith)
-    go true true false d g h p q r s t u z = absurd (omega arith)
-    go true true true true g h p q r s t u z = absurd (omega arith)
-    go true true true false true h p q r s t u z = absurd (omega arith)
-    go true true true false false true p q r s t u z = absurd (omega arith)
-    go true true true false false false p q r s t u z =
-        record { forms = p; kinds = q; logic = r; few = ltb-false 512 (f .entries) s; shallow = ltb-false 32 (f .depth) t; fits = ltb-false room (entryStart (f .entries) + f .pool) u }
+    go : (a x b c d g h : Bool) → f .forms ≡ a → f .patterns ≡ x → f .kinds ≡ b → f .logic ≡ c → ltb 512 (f .entries) ≡ d → ltb 32 (f .depth) ≡ g → ltb room (entryStart (f .entries) + f .pool) ≡ h
+        → _≡_ {A = ℕ} (orElse (cond (not a) 4 (cond (not x) 18 (cond (not (b && c)) 5 (cond d 7 (cond g 8 0))))) (cond h 9 0)) 0 → Free f room
+    go false x b c d g h p y q r s t u z = absurd (omega arith)
+    go true false b c d g h p y q r s t u z = absurd (omega arith)
+    go true true false c d g h p y q r s t u z = absurd (omega arith)
+    go true true true false d g h p y q r s t u z = absurd (omega arith)
+    go true true true true true g h p y q r s t u z = absurd (omega arith)
+    go true true true true false true h p y q r s t u z = absurd (omega arith)
+    go true true true true false false true p y q r s t u z = absurd (omega arith)
+    go true true true true false false false p y q r s t u z =
+        record { forms = p; patterns = y; kinds = q; logic = r; few = ltb-false 512 (f .entries) s; shallow = ltb-false 32 (f .depth) t; fits = ltb-false room (entryStart (f .entries) + f .pool) u }
 
 pub refusal-by : (t : Tree) (room : ℕ) → refusalOf t room ≡ refusalBy (foundOf t) room
 unfolding refusalOf

@@ -1,6 +1,7 @@
 pub mod Entries
 pub mod Sound
 pub mod Derived
+pub mod Patterned
 pub mod Depth
 pub mod Passes
 pub mod Stores

@@ -22,9 +22,10 @@ use Rattle.table.proofs.Theorems.{decode-encode, check-encode}
 use Rattle.lexer.specs.Token.{Token, name, int32, int64, real, text, symbol}
 use Rattle.grammar.specs.Tree.{Tree}
 use Rattle.grammar.specs.Size.{entriesOf, poolOf, depthOf}
-use Rattle.grammar.specs.Judge.{isLogic}
+use Rattle.grammar.specs.Judge.{isLogic, formsRight, patternsRight}
 use Rattle.translator.specs.Compile.{codeOf, leafBytes, bytesOf, bytesIn, compile}
 use Rattle.translator.proofs.Entries.{TokenRight}
+use Rattle.translator.proofs.Patterned.{patterns-right}
 use Rattle.translator.proofs.Sound.{Sound, SoundIn, a-leaf, a-group, a-unary, a-binary, a-call, no-more, one-more, size, pool-size, entries-some, leaves, skips-right, good-at}
 
 bytes-append : (xs ys : List ℕ) → Bytes xs → Bytes ys → Bytes (xs ++ ys)
@@ -71,8 +72,8 @@ module _ (t : Tree) (d : Sound t) (few : entriesOf t ≤ 512) (small : poolOf t 
   pub decodes : decode (encode (compile t)) ≡ compile t
   decodes = decode-encode (compile t) limits
 
-  pub compiled-passes : isLogic t ≡ true → depthOf t ≤ 32 → checkOf (encode (compile t)) ≡ true
-  compiled-passes l h =
+  pub compiled-passes : isLogic t ≡ true → formsRight t ≡ true → patternsRight t ≡ true → depthOf t ≤ 32 → checkOf (encode (compile t)) ≡ true
+  compiled-passes l f p h =
       check-encode (compile t) limits
       ∙ are-true _ _ (all-right (bytesOf t) (codeOf 0 t) (λ i k. good-at t d small few i k .0))
-      (are-true _ _ (eq-shape _ _ (leaves d 0 [] (omega arith) ∙ rw l)) (skips-right t d h))
+      (are-true _ _ (eq-shape _ _ (leaves d 0 [] (omega arith) ∙ rw l)) (are-true _ _ (skips-right t d h) (patterns-right t d f p)))

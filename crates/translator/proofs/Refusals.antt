@@ -15,16 +15,16 @@ use Rattle.lexer.proofs.Theorems.{first-bad}
 use Rattle.grammar.specs.Tree.{Tree}
 use Rattle.grammar.specs.Function.{orElse}
 use Rattle.grammar.specs.Size.{entriesOf, depthOf}
-use Rattle.grammar.specs.Judge.{formsRight, kindsRight, isLogic}
+use Rattle.grammar.specs.Judge.{formsRight, patternsRight, kindsRight, isLogic}
 use Rattle.grammar.specs.Answer.{foundOf}
 use Rattle.grammar.proofs.Theorems.{names-place}
 use Rattle.translator.specs.Compile.{codeOf, compile}
 use Rattle.translator.specs.Depth.{mostSlots}
 use Rattle.translator.specs.Translation.{Outcome, refusal, refusalOf, ofTree, ofResult, ofTokens, ofLexed, translationOf}
-use Rattle.translator.specs.Theorems.{Expression, Right, Accepted, Given, long, formless, outside, deep, broken, form, kind, many, high, short, none, GivenExactly}
+use Rattle.translator.specs.Theorems.{Expression, Right, Accepted, Given, long, formless, outside, deep, broken, form, pattern, kind, many, high, short, none, GivenExactly}
 use Rattle.translator.proofs.Stages.{Stage, before, at-tree, stage}
 use Rattle.translator.proofs.Fits.{outcomeBy}
-use Rattle.translator.proofs.Filling.{table-size, by-4, by-5, by-7, by-8, by-9, refusal-by}
+use Rattle.translator.proofs.Filling.{table-size, by-4, by-18, by-5, by-7, by-8, by-9, refusal-by}
 use Rattle.translator.proofs.Theorems.{of-tree, tree-is, writes-table, table-sizes}
 
 -- number and place of an answer
@@ -40,23 +40,24 @@ module _ (s : List ℕ) (room : ℕ) (bytes : Bytes s) where
   tree-given : (t : Tree) → Expression s t → Given s room (ofTree t room .number) (ofTree t room .place)
   unfolding ofTree refusalOf
   tree-given t x =
-      go (formsRight t) (kindsRight t) (isLogic t) (ltb 512 (entriesOf t)) (ltb 32 (depthOf t)) (ltb room (length (encode (compile t)))) refl refl refl refl refl refl
+      go (formsRight t) (patternsRight t) (kindsRight t) (isLogic t) (ltb 512 (entriesOf t)) (ltb 32 (depthOf t)) (ltb room (length (encode (compile t)))) refl refl refl refl refl refl refl
     where
-      go : (a b c d e f : Bool) → formsRight t ≡ a → kindsRight t ≡ b → isLogic t ≡ c → ltb 512 (entriesOf t) ≡ d → ltb 32 (depthOf t) ≡ e → ltb room (length (encode (compile t))) ≡ f
-          → let o = outcomeBy (orElse (cond (not a) 4 (cond (not (b && c)) 5 (cond d 7 (cond e 8 0)))) (cond f 9 0)) (encode (compile t)) in Given s room (o .number) (o .place)
-      go false b c d e f p q r u v w = form t x p
-      go true false c d e f p q r u v w = kind t x p (rw q)
-      go true true false d e f p q r u v w = kind t x p (rw (q, r))
-      go true true true true e f p q r u v w =
-          let y : Right t = record { forms = p; kinds = q; logic = r } in
+      go : (a m b c d e f : Bool) → formsRight t ≡ a → patternsRight t ≡ m → kindsRight t ≡ b → isLogic t ≡ c → ltb 512 (entriesOf t) ≡ d → ltb 32 (depthOf t) ≡ e → ltb room (length (encode (compile t))) ≡ f
+          → let o = outcomeBy (orElse (cond (not a) 4 (cond (not m) 18 (cond (not (b && c)) 5 (cond d 7 (cond e 8 0))))) (cond f 9 0)) (encode (compile t)) in Given s room (o .number) (o .place)
+      go false m b c d e f p n q r u v w = form t x p
+      go true false b c d e f p n q r u v w = pattern t x p n
+      go true true false c d e f p n q r u v w = kind t x p n (rw q)
+      go true true true false d e f p n q r u v w = kind t x p n (rw (q, r))
+      go true true true true true e f p n q r u v w =
+          let y : Right t = record { forms = p; patterns = n; kinds = q; logic = r } in
           many t x y (omega (arith, ltb-true 512 (entriesOf t) u, sizes t x y .0))
-      go true true true false true f p q r u v w =
-          let y : Right t = record { forms = p; kinds = q; logic = r } in
+      go true true true true false true f p n q r u v w =
+          let y : Right t = record { forms = p; patterns = n; kinds = q; logic = r } in
           high t x y (omega (arith, ltb-false 512 (entriesOf t) u, sizes t x y .0)) (omega (arith, ltb-true 32 (depthOf t) v, sizes t x y .1))
-      go true true true false false true p q r u v w =
-          short t (record { expression = x; right = record { forms = p; kinds = q; logic = r }; few = ltb-false 512 (entriesOf t) u; low = ltb-false 32 (depthOf t) v }) (ltb-true room (length (encode (compile t))) w)
-      go true true true false false false p q r u v w =
-          none t (record { expression = x; right = record { forms = p; kinds = q; logic = r }; few = ltb-false 512 (entriesOf t) u; low = ltb-false 32 (depthOf t) v }) (ltb-false room (length (encode (compile t))) w)
+      go true true true true false false true p n q r u v w =
+          short t (record { expression = x; right = record { forms = p; patterns = n; kinds = q; logic = r }; few = ltb-false 512 (entriesOf t) u; low = ltb-false 32 (depthOf t) v }) (ltb-true room (length (encode (compile t))) w)
+      go true true true true false false false p n q r u v w =
+          none t (record { expression = x; right = record { forms = p; patterns = n; kinds = q; logic = r }; few = ltb-false 512 (entriesOf t) u; low = ltb-false 32 (depthOf t) v }) (ltb-false room (length (encode (compile t))) w)
 
   stage-given : {o : Outcome} → Stage s room o → Given s room (o .number) (o .place)
   stage-given (before k place g some) = g
@@ -79,14 +80,15 @@ module _ (s : List ℕ) (room : ℕ) (bytes : Bytes s) where
   answered (deep ps q d) = rw (q, d) (refl, refl)
   answered (broken ps p q d b) = rw (q, d, names-place (map (λ p. p .token) ps) p .1 b) (refl, refl)
   answered (form t x f) = by-tree t x 4 (by-4 (foundOf t) room (rw f) ∙ sym (refusal-by t room))
-  answered (kind t x f k) = by-tree t x 5 (by-5 (foundOf t) room (rw f) (rw k) ∙ sym (refusal-by t room))
+  answered (pattern t x f p) = by-tree t x 18 (by-18 (foundOf t) room (rw f) (rw p) ∙ sym (refusal-by t room))
+  answered (kind t x f p k) = by-tree t x 5 (by-5 (foundOf t) room (rw f) (rw p) (rw k) ∙ sym (refusal-by t room))
   answered (many t x r h) =
-      by-tree t x 7 (by-7 (foundOf t) room (rw (r .forms)) (rw (r .kinds, r .logic)) (omega (arith, sizes t x r .0)) ∙ sym (refusal-by t room))
+      by-tree t x 7 (by-7 (foundOf t) room (rw (r .forms)) (rw (r .patterns)) (rw (r .kinds, r .logic)) (omega (arith, sizes t x r .0)) ∙ sym (refusal-by t room))
   answered (high t x r h g) =
-      by-tree t x 8 (by-8 (foundOf t) room (rw (r .forms)) (rw (r .kinds, r .logic)) (omega (arith, sizes t x r .0)) (omega (arith, sizes t x r .1)) ∙ sym (refusal-by t room))
+      by-tree t x 8 (by-8 (foundOf t) room (rw (r .forms)) (rw (r .patterns)) (rw (r .kinds, r .logic)) (omega (arith, sizes t x r .0)) (omega (arith, sizes t x r .1)) ∙ sym (refusal-by t room))
   answered (short t a h) =
       let r = a .right in
-      by-tree t (a .expression) 9 (by-9 (foundOf t) room (rw (r .forms)) (rw (r .kinds, r .logic)) (a .few) (a .low) (omega (arith, table-size t)) ∙ sym (refusal-by t room))
+      by-tree t (a .expression) 9 (by-9 (foundOf t) room (rw (r .forms)) (rw (r .patterns)) (rw (r .kinds, r .logic)) (a .few) (a .low) (omega (arith, table-size t)) ∙ sym (refusal-by t room))
   answered (none t a h) = rw (writes-table s t room a h) (refl, refl)
 
 pub given-exactly : GivenExactly

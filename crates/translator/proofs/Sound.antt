@@ -295,10 +295,10 @@ acts-good : (pool : List ℕ) {e : Entry} {ts : List Kind} {g : Kind} → Acts e
 acts-good pool a = ((a .right pool, a .fits), tt)
 
 -- the same pool, its parts grouped otherwise
-regroup : (pre s t post : List ℕ) → (pre ++ s) ++ (t ++ post) ≡ pre ++ ((s ++ t) ++ post)
+pub regroup : (pre s t post : List ℕ) → (pre ++ s) ++ (t ++ post) ≡ pre ++ ((s ++ t) ++ post)
 regroup pre s t post = simp append-assoc
 
-before : (pre s t post : List ℕ) → pre ++ (s ++ (t ++ post)) ≡ pre ++ ((s ++ t) ++ post)
+pub before : (pre s t post : List ℕ) → pre ++ (s ++ (t ++ post)) ≡ pre ++ ((s ++ t) ++ post)
 before pre s t post = simp append-assoc
 
 mutual

@@ -39,7 +39,7 @@ of-tree s t room x = rw (x .lexed, x .shallow, parses (map (λ p. p .token) (x .
 no-refusal : (s : List ℕ) (t : Tree) (room : ℕ) → Accepted s t → length (encode (compile t)) ≤ room → refusalOf t room ≡ 0
 no-refusal s t room a h =
     refusal-by t room
-    ∙ sym (by-0 (foundOf t) room (rw (a .right .forms)) (rw (a .right .kinds, a .right .logic)) (a .few) (a .low) (omega (arith, table-size t)))
+    ∙ sym (by-0 (foundOf t) room (rw (a .right .forms)) (rw (a .right .patterns)) (rw (a .right .kinds, a .right .logic)) (a .few) (a .low) (omega (arith, table-size t)))
 
 pub writes-table : WritesTable
 unfolding ofTree
@@ -62,7 +62,7 @@ accepted s room e = go (stage s room) e
     go (before k place g some) h = absurd (omega arith)
     go (at-tree t x) h =
         let f = free (foundOf t) room (sym (refusal-by t room) ∙ sym (tree-is t room .0) ∙ h) in
-        (t, record { expression = x; right = record { forms = f .forms; kinds = f .kinds; logic = f .logic }; few = f .few; low = f .shallow }, omega (arith, table-size t, f .fits))
+        (t, record { expression = x; right = record { forms = f .forms; patterns = f .patterns; kinds = f .kinds; logic = f .logic }; few = f .few; low = f .shallow }, omega (arith, table-size t, f .fits))
 
 pub accepts-exactly : AcceptsExactly
 accepts-exactly s room = (λ e. accepted s room e, λ h. ap (λ (o : Outcome). o .number) (writes-table s (h .0) room (h .1) (h .2)))
@@ -90,7 +90,7 @@ pub decodes : Decodes
 decodes s t b a = passes.decodes t (whole-sound s t b a) (a .few) (pool-small s t b a)
 
 pub passes-check : PassesCheck
-passes-check s t b a = passes.compiled-passes t (whole-sound s t b a) (a .few) (pool-small s t b a) (a .right .logic) (a .low)
+passes-check s t b a = passes.compiled-passes t (whole-sound s t b a) (a .few) (pool-small s t b a) (a .right .logic) (a .right .forms) (a .right .patterns) (a .low)
 
 pub table-sizes : TableSizes
 table-sizes s ps t b q d f k = (sound.size t 0, most-slots t (text-sound s ps t b q d f k) 0)

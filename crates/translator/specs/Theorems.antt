@@ -14,7 +14,7 @@ use Rattle.grammar.specs.Tree.{Tree}
 use Rattle.grammar.specs.Grammar.{Level}
 use Rattle.grammar.specs.Place.{Breaks}
 use Rattle.grammar.specs.Nesting.{tooDeep}
-use Rattle.grammar.specs.Judge.{formsRight, kindsRight, isLogic}
+use Rattle.grammar.specs.Judge.{formsRight, patternsRight, kindsRight, isLogic}
 use Rattle.grammar.specs.Size.{entriesOf, depthOf}
 use Rattle.translator.specs.Compile.{codeOf, compile}
 use Rattle.translator.specs.Depth.{mostSlots}
@@ -27,9 +27,10 @@ pub record Expression (s : List ℕ) (t : Tree) : Type 0 where
   pub shallow : tooDeep (map (λ p. kindOf (p .token)) placed) ≡ false
   pub derived : Level 0 (map (λ p. p .token) placed) t
 
--- The tree's forms and kinds are right (4, 5).
+-- The tree's forms, patterns and kinds are right (4, 18, 5).
 pub record Right (t : Tree) : Type 0 where
   pub forms : formsRight t ≡ true
+  pub patterns : patternsRight t ≡ true
   pub kinds : kindsRight t ≡ true
   pub logic : isLogic t ≡ true
 
@@ -82,8 +83,10 @@ pub data Given (s : List ℕ) (room : ℕ) : ℕ → ℕ → Type 0 where
       → Given s room 2 (getD (map (λ p. p .start) ps) q (length s))
   -- "unknown function, wrong argument count or form"
   form : (t : Tree) → Expression s t → formsRight t ≡ false → Given s room 4 0
+  -- "18 for an ill-formed pattern, after 4 and before 5 in translation"
+  pattern : (t : Tree) → Expression s t → formsRight t ≡ true → patternsRight t ≡ false → Given s room 18 0
   -- "kind wrong"
-  kind : (t : Tree) → Expression s t → formsRight t ≡ true → (kindsRight t && isLogic t) ≡ false → Given s room 5 0
+  kind : (t : Tree) → Expression s t → formsRight t ≡ true → patternsRight t ≡ true → (kindsRight t && isLogic t) ≡ false → Given s room 5 0
   -- "over 512 entries", of the table
   many : (t : Tree) → Expression s t → Right t → 512 < length (codeOf 0 t) → Given s room 7 0
   -- "stack over 32", of the table

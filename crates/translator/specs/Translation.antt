@@ -34,7 +34,7 @@ refusal number place = record { number = number; place = place; table = [] }
 abbrev pub orShort : ℕ → ℕ → ℕ → ℕ
 orShort number size room = orElse number (cond (ltb room size) 9 0)
 
--- "4, 5, 7, 8, 9", the first that applies to a tree, for a buffer of so many bytes; 0 if none does
+-- "4, 5, 7, 8, 9", 18 "after 4 and before 5", the first that applies to a tree, for a buffer of so many bytes; 0 if none does
 unfoldable pub refusalOf : Tree → ℕ → ℕ
 refusalOf t room = orShort (foundNumber (foundOf t)) (length (encode (compile t))) room
 
@@ -55,7 +55,7 @@ unfoldable pub ofLexed : ℕ → ℕ → Lexed → Outcome
 ofLexed long room (tokens ps) = ofTokens long (map (λ p. kindOf (p .token)) ps) (map (λ p. p .start) ps) room (map (λ p. p .token) ps)
 ofLexed long room (refused number place ps) = refusal (lexing.numberOf (Refused number place)) (lexing.placeOf (Refused number place))
 
--- "Translation, first that applies in this order: 10, then 1 or 3 at the first bad token, 6, 2, 4, 5, 7, 8, 9."
+-- "Translation, first that applies in this order: 10, then 1 or 3 at the first bad token, 6, 2, 4, 18, 5, 7, 8, 9": document 01's order, with 18 "after 4 and before 5" of document 02, request 1.
 unfoldable pub translationOf : List ℕ → ℕ → Outcome
 translationOf text room = ofLexed (length text) room (tokensOf text)
 

@@ -192,13 +192,16 @@ fn put_table(text: &[u8], kinds: &[u8], starts: &[u16], out: &mut [u8], entries:
     pool::put_pool(text, kinds, starts, out, 10 + 12 * entries);
 }
 
-// The first of the refusals 4, 5, 7, 8 and 9; 0 if none applies.
+// The first of the refusals 4, 18, 5, 7, 8 and 9; 0 if none applies.
 fn first_refusal(f: Found, room: usize) -> u8
     requires { ⌜ f .pool ≤ 4096 ⌝ }
     ensures { λ r. ⌜ r ≡ refusalBy f room ⌝ }
 {
     if !f.forms {
         return 4;
+    }
+    if !f.patterns {
+        return 18;
     }
     if !(f.kinds & f.logic) {
         return 5;

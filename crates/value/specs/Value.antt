@@ -16,6 +16,7 @@ use Rattle.truth.specs.declared.Truth.{Truth}
 use Rattle.truth.specs.declared.Truth.the-variants.{False, Bottom, True}
 use Rattle.truth.specs.Truth.{notOf, andOf, xorOf, orOf, ofBool}
 use Rattle.octets.specs.Octets.{folded, sameOf, beginsOf, containsOf, endsOf}
+use Rattle.pattern.specs.Wildcard.{wildcardOf}
 use Rattle.opcode.specs.Opcode.{Kind}
 use Rattle.opcode.specs.declared.Load.{Load}
 use Rattle.opcode.specs.declared.Change.{Change}
@@ -153,11 +154,12 @@ connectOf Connective.And s t = andOf s t
 connectOf Connective.Xor s t = xorOf s t
 connectOf Connective.Or s t = orOf s t
 
--- whether a literal fits: "`begins-with contains ends-with`"
+-- whether a literal fits: "`begins-with contains ends-with`"; document 02, request 1: `wildcard`, "Same argument forms as `begins-with`, same bottom rule"
 abbrev pub fitOf : Fit → List ℕ → List ℕ → Bool
 fitOf Fit.BeginsWith s p = beginsOf s p
 fitOf Fit.Contains s p = containsOf s p
 fitOf Fit.EndsWith s p = endsOf s p
+fitOf Fit.Wildcard s p = wildcardOf s p
 
 abbrev pub allTexts : List Value → Bool
 allTexts [] = true
@@ -167,7 +169,7 @@ abbrev pub anyFits : Fit → List ℕ → List Value → Bool
 anyFits f s [] = false
 anyFits f s (w ∷ ws) = fitOf f s (textIn w) || anyFits f s ws
 
--- "bottom if the first is no string, true if any literal fits, else false"; "In 56..58 a later operand that is no string gives bottom."
+-- "bottom if the first is no string, true if any literal fits, else false"; "In 56..58 a later operand that is no string gives bottom."; 60 likewise
 abbrev pub anyFit : Fit → Value → List Value → Truth
 anyFit f v ws = cond (isText v && allTexts ws) (ofBool (anyFits f (textIn v) ws)) Bottom
 
@@ -176,7 +178,7 @@ abbrev pub anyEqual : Value → List Value → Truth
 anyEqual v [] = False
 anyEqual v (w ∷ ws) = orOf (equalValues v w) (anyEqual v ws)
 
--- "56..59: `begins-with contains ends-with equals`", of the first operand and the later ones in their order
+-- "56..59: `begins-with contains ends-with equals`", 60: `wildcard`, of the first operand and the later ones in their order
 abbrev pub manyOf : Many → Value → List Value → Truth
 manyOf (Many.Fit f) v ws = anyFit f v ws
 manyOf Many.Equals v ws = anyEqual v ws

@@ -128,7 +128,7 @@ pub fn connect(op: Connective, h: Held, g: Held) -> Held
     Held::Logic(joined(op, truth_in(h), truth_in(g)))
 }
 
-// Ops 56..59, one later operand after the other: what is known before any of them ..
+// Ops 56..60, one later operand after the other: what is known before any of them ..
 pub fn start(op: Many, first: Held) -> Truth
     ensures { λ r. ⌜ ((p : List ℕ) → (q : List ℕ) → r ≡ startOf op (itemOf p q first)) ⌝ }
 {

@@ -64,5 +64,6 @@ pub fn fits<'a>(pool: &'a [u8], notice: &'a [u8], op: Fit, p: Piece, q: Piece) -
         Fit::BeginsWith => octets::begins(s, p.folded, t, q.folded),
         Fit::Contains => octets::contains(s, p.folded, t, q.folded),
         Fit::EndsWith => octets::ends(s, p.folded, t, q.folded),
+        Fit::Wildcard => pattern::wildcard::fits(s, p.folded, t, q.folded),
     }
 }

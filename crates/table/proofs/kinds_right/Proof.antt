@@ -6,18 +6,18 @@ use native.Mathlib.Omega.{arith}
 use borrow.Author.Tests.{not-true, not-false}
 use Rattle.table.specs.Table.{countOf}
 use Rattle.table.proofs.Laid.{laid, inside}
-use Rattle.table.proofs.Passing.{right-by, landed-by, flow-by, Passed, pass-start, pass-unmet, pass-wrong, pass-lost, pass-stuck, pass-more, pass-end}
+use Rattle.table.proofs.Passing.{right-by, landed-by, flow-by, Passed, pass-start, pass-unmet, pass-before, pass-wrong, pass-lost, pass-stuck, pass-more, pass-end}
 use borrow.Author.Needs.{needs}
 use Rattle.table.proofs.kinds_right.Statement.{statement}
 use Rattle.table.proofs.kinds_right.Tie as tie
 use Rattle.table.proofs.kinds_right.Reads as reads
 use Rattle.table.proofs.kinds_right.Lts as lts
 use Rattle.table.proofs.entry_at.Reads as entry-at-reads
-use Rattle.table.proofs.entry_right.Reads as entry-right-reads
 use Rattle.table.proofs.flow.Reads as flow-reads
 use Rattle.table.proofs.groups.group_of.Reads as group-of-reads
 use Rattle.table.proofs.lands_right.Reads as lands-right-reads
 use Rattle.table.proofs.meets.Reads as meets-reads
+use Rattle.table.proofs.placed_right.Reads as placed-right-reads
 use Rattle.table.proofs.pool.Reads as pool-reads
 
 abbrev Inv-loop : tie.InvT-loop
@@ -53,8 +53,14 @@ entry-at-requires c κs = inside (c .before .before .before .before .before .bef
 group-of-requires : tie.Need-group-of-requires Inv-loop μ-loop
 group-of-requires c κs = search needs
 
-entry-right-requires : tie.Need-entry-right-requires Inv-loop μ-loop
-entry-right-requires c κs = search needs
+placed-right-requires : tie.Need-placed-right-requires Inv-loop μ-loop
+placed-right-requires c κs =
+    let t = c .before .before .before .before .before .before .before .before .before .before .args .table .now in
+    let l = c .before .before .before .before .before .before .loop in
+    let d = laid t (c .before .before .before .before .before .before .before .before .before .before .pre .0) in
+    let w = d .whole in
+    let h : l .i < countOf t = omega (arith, c .before .before .before .before .before .before .before .before .before .before .pre .1) in
+    (omega arith, omega arith, pass-before t (l .wanted) (l .i) (l .c) (l .inv .0) h _ (c .before .before .before .before .before .before .before .pool .ensures), c .group-of .ensures)
 
 same-length-2 : tie.Need-same-length-2 Inv-loop μ-loop
 same-length-2 c = search needs
@@ -64,7 +70,7 @@ returns-2 c =
     let t = c .before .before .before .before .before .before .before .before .before .before .before .before .args .table .now in
     let l = c .before .before .before .before .before .before .before .before .loop in
     let h : l .i < countOf t = omega (arith, c .before .before .before .before .before .before .before .before .before .before .before .before .pre .1) in
-    pass-wrong t (l .wanted) (l .i) (l .c) (l .inv .0) h _ _ (c .before .before .before .before .before .before .before .before .before .pool .ensures) (right-by _ _ _ _ _ (c .before .before .before .entry-at .ensures) (c .before .before .group-of .ensures) (c .before .entry-right .ensures)) (not-true _ (c .if2 .taken))
+    pass-wrong t (l .wanted) (l .i) (l .c) (l .inv .0) h _ _ (c .before .before .before .before .before .before .before .before .before .pool .ensures) (right-by _ _ (l .i) _ _ _ _ (c .before .before .before .entry-at .ensures) (c .before .before .group-of .ensures) (c .before .placed-right .ensures)) (not-true _ (c .if2 .taken))
 
 lands-right-requires : tie.Need-lands-right-requires Inv-loop μ-loop
 lands-right-requires c κs = (omega arith, let l = laid (c .before .before .before .before .before .before .before .before .before .before .before .before .before .args .table .now) (c .before .before .before .before .before .before .before .before .before .before .before .before .before .pre .0) in omega (arith, c .before .before .before .before .before .before .before .before .before .before .before .before .before .pre .1), rw (c .before .before .before .before .before .before .before .before .before .loop .inv .1) (c .before .before .before .before .before .before .before .before .before .before .before .before .before .pre .2))
@@ -105,7 +111,7 @@ loop-again c =
     let l = c .before .before .before .before .before .before .before .before .before .before .before .before .before .before .before .loop in
     let h : l .i < countOf t = omega (arith, c .before .before .before .before .before .before .before .before .before .before .before .before .before .before .before .before .before .before .before .pre .1) in
     let f = c .before .flow in
-    (pass-more t (l .wanted) (l .i) (l .c) (l .inv .0) h (f .result) (flow-by _ _ _ _ _ (c .before .before .before .before .before .before .before .before .before .before .entry-at .ensures) (c .before .before .before .before .before .before .before .before .before .group-of .ensures) (f .ensures)) (sym (c .before .before .before .before .before .before .before .before .before .before .before .before .meets .ensures) ∙ not-false _ (c .before .before .before .before .before .before .before .before .before .before .before .if1 .left)) _ _ (c .before .before .before .before .before .before .before .before .before .before .before .before .before .before .before .before .pool .ensures) (right-by _ _ _ _ _ (c .before .before .before .before .before .before .before .before .before .before .entry-at .ensures) (c .before .before .before .before .before .before .before .before .before .group-of .ensures) (c .before .before .before .before .before .before .before .before .entry-right .ensures)) (not-false _ (c .before .before .before .before .before .before .before .if2 .left)) (c .if4 .left) _ _ (landed-by _ _ _ _ _ (l .i) (l .c) _ _ _ (c .before .before .before .before .before .before .before .before .before .before .entry-at .ensures) (c .before .before .before .before .before .before .before .before .before .before .before .before .before .before .before .before .before .before .before .pre .1) (c .before .before .before .before .before .before .before .before .before .group-of .ensures) (c .before .before .before .before .before .lands-right .ensures)) (not-false _ (c .before .before .if3 .left)), search needs)
+    (pass-more t (l .wanted) (l .i) (l .c) (l .inv .0) h (f .result) (flow-by _ _ _ _ _ (c .before .before .before .before .before .before .before .before .before .before .entry-at .ensures) (c .before .before .before .before .before .before .before .before .before .group-of .ensures) (f .ensures)) (sym (c .before .before .before .before .before .before .before .before .before .before .before .before .meets .ensures) ∙ not-false _ (c .before .before .before .before .before .before .before .before .before .before .before .if1 .left)) _ _ (c .before .before .before .before .before .before .before .before .before .before .before .before .before .before .before .before .pool .ensures) (right-by _ _ (l .i) _ _ _ _ (c .before .before .before .before .before .before .before .before .before .before .entry-at .ensures) (c .before .before .before .before .before .before .before .before .before .group-of .ensures) (c .before .before .before .before .before .before .before .before .placed-right .ensures)) (not-false _ (c .before .before .before .before .before .before .before .if2 .left)) (c .if4 .left) _ _ (landed-by _ _ _ _ _ (l .i) (l .c) _ _ _ (c .before .before .before .before .before .before .before .before .before .before .entry-at .ensures) (c .before .before .before .before .before .before .before .before .before .before .before .before .before .before .before .before .before .before .before .pre .1) (c .before .before .before .before .before .before .before .before .before .group-of .ensures) (c .before .before .before .before .before .lands-right .ensures)) (not-false _ (c .before .before .if3 .left)), search needs)
 
 mul-w-2 : tie.Need-mul-w-2 Inv-loop μ-loop
 mul-w-2 c = search needs
@@ -142,7 +148,7 @@ kinds-right-spec =
     returns
     entry-at-requires
     group-of-requires
-    entry-right-requires
+    placed-right-requires
     same-length-2
     returns-2
     lands-right-requires

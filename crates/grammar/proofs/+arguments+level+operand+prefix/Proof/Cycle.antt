@@ -28,6 +28,7 @@ use Rattle.grammar.proofs.found.group.Reads as group-reads
 use Rattle.grammar.proofs.found.more_args.Reads as more-args-reads
 use Rattle.grammar.proofs.found.no_args.Reads as no-args-reads
 use Rattle.grammar.proofs.found.unary.Reads as unary-reads
+use Rattle.grammar.proofs.literal.argument_right.Reads as argument-right-reads
 use Rattle.grammar.proofs.stream.function.Reads as function-reads
 use Rattle.grammar.proofs.stream.is_literal.Reads as is-literal-reads
 use Rattle.grammar.proofs.stream.is_prefix.Reads as is-prefix-reads
@@ -86,7 +87,7 @@ abbrev pub level-μ-loop : level-lts.MeasureT-loop
 level-μ-loop text kinds starts at l n next₀ found₀ next found = length kinds - next
 
 abbrev pub arguments-calls : ℕ → arguments-lts.Claims
-arguments-calls t = (start-reads.Asked, start-reads.Learnt, function-reads.Asked, function-reads.Learnt, kind-reads.Asked, kind-reads.Learnt, no-args-reads.Asked, no-args-reads.Learnt, call-reads.Asked, call-reads.Learnt, level-below t, level.Post, more-args-reads.Asked, more-args-reads.Learnt)
+arguments-calls t = (start-reads.Asked, start-reads.Learnt, function-reads.Asked, function-reads.Learnt, kind-reads.Asked, kind-reads.Learnt, no-args-reads.Asked, no-args-reads.Learnt, call-reads.Asked, call-reads.Learnt, level-below t, level.Post, argument-right-reads.Asked, argument-right-reads.Learnt, more-args-reads.Asked, more-args-reads.Learnt)
 
 abbrev pub level-calls : ℕ → level-lts.Claims
 level-calls t = (prefix-below t, prefix.Post, kind-reads.Asked, kind-reads.Learnt, rank-reads.Asked, rank-reads.Learnt, level-below t, level.Post, binary-reads.Asked, binary-reads.Learnt)

@@ -38,9 +38,9 @@ operand-right-requires-2 c κs = search needs
 returns : tie.Need-returns
 returns c =
     rw (
-      c .before .before .before .before .before .before .before .before .before .before .before .operator-entries .ensures .0,
-      c .before .before .before .before .before .before .before .larger .ensures,
-      c .before .before .before .before .before .before .gives-logic .ensures,
+      c .before .before .before .before .before .before .before .before .before .before .before .before .before .operator-entries .ensures .0,
+      c .before .before .before .before .before .before .before .before .before .larger .ensures,
+      c .before .before .before .before .before .before .before .before .gives-logic .ensures,
       c .before .before .before .operand-right .ensures,
       c .before .operand-right2 .ensures,
     )

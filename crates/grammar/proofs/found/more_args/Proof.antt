@@ -13,14 +13,14 @@ first-form-requires c κs = search needs
 all-texts-requires : tie.Need-all-texts-requires
 all-texts-requires c κs = search needs
 
-add-t7 : tie.Need-add-t7
-add-t7 c = search needs
-
 add-t8 : tie.Need-add-t8
 add-t8 c = search needs
 
 add-t9 : tie.Need-add-t9
 add-t9 c = search needs
+
+add-t10 : tie.Need-add-t10
+add-t10 c = search needs
 
 add-larger : tie.Need-add-larger
 add-larger c = search needs
@@ -30,7 +30,7 @@ larger-requires c κs = search needs
 
 returns : tie.Need-returns
 returns c =
-    rw (c .before .before .before .before .before .before .before .before .before .before .before .before .before .before .first-form .ensures, c .before .before .before .before .before .before .before .before .before .before .before .before .before .all-texts .ensures, c .before .before .before .before .before .larger .ensures)
+    rw (c .before .before .before .before .before .before .before .before .before .before .before .before .before .before .before .before .first-form .ensures, c .before .before .before .before .before .before .before .before .before .before .before .before .before .before .before .all-texts .ensures, c .before .before .before .before .before .before .before .larger .ensures)
 
 pub more-args-spec : {M : Type 1} → statement M
 more-args-spec =
@@ -38,9 +38,9 @@ more-args-spec =
     (tie.spec
     first-form-requires
     all-texts-requires
-    add-t7
     add-t8
     add-t9
+    add-t10
     add-larger
     larger-requires
     returns)

@@ -130,7 +130,10 @@ returns-42 : tie.Need-returns-42
 returns-42 c = rw (c .match .keys42)
 
 returns-43 : tie.Need-returns-43
-returns-43 c = rw (others (c .before .args .number) (c .match .rest))
+returns-43 c = rw (c .match .keys43)
+
+returns-44 : tie.Need-returns-44
+returns-44 c = rw (others (c .before .args .number) (c .match .rest))
 
 pub group-of-spec : {M : Type 1} → statement M
 group-of-spec =
@@ -178,4 +181,5 @@ group-of-spec =
     returns-40
     returns-41
     returns-42
-    returns-43)
+    returns-43
+    returns-44)

@@ -26,6 +26,12 @@ enum-told-3 c = search needs
 ends-requires : tie.Need-ends-requires
 ends-requires c κs = search needs
 
+enum-told-4 : tie.Need-enum-told-4
+enum-told-4 c = search needs
+
+fits-requires : tie.Need-fits-requires
+fits-requires c κs = search needs
+
 returns : tie.Need-returns
 returns c =
     rw (c .before .enum-told .given .1, c .begins .ensures, c .before .before .before .before .fetch .ensures .0, c .before .before .before .fetch2 .ensures .0)
@@ -37,6 +43,10 @@ returns-2 c =
 returns-3 : tie.Need-returns-3
 returns-3 c =
     rw (c .before .enum-told3 .given .1, c .ends .ensures, c .before .before .before .before .fetch .ensures .0, c .before .before .before .fetch2 .ensures .0)
+
+returns-4 : tie.Need-returns-4
+returns-4 c =
+    rw (c .before .enum-told4 .given .1, c .fits2 .ensures, c .before .before .before .before .fetch .ensures .0, c .before .before .before .fetch2 .ensures .0)
 
 pub fits-spec : {M : Type 1} → statement M
 fits-spec =
@@ -50,6 +60,9 @@ fits-spec =
     contains-requires
     enum-told-3
     ends-requires
+    enum-told-4
+    fits-requires
     returns
     returns-2
-    returns-3)
+    returns-3
+    returns-4)

@@ -1,0 +1,19 @@
+use borrow.Author.Tests.{eq-eqb, ne-eqb}
+use borrow.Author.Needs.{needs}
+use Rattle.grammar.proofs.literal.is_pattern.Statement.{statement}
+use Rattle.grammar.proofs.literal.is_pattern.Tie as tie
+use Rattle.grammar.proofs.literal.is_pattern.Reads as reads
+use Rattle.grammar.proofs.literal.is_pattern.Lts as lts
+use Rattle.pattern.proofs.wildcard.well_formed.Reads as well-formed-reads
+
+well-formed-requires : tie.Need-well-formed-requires
+well-formed-requires c κs = search needs
+
+returns : tie.Need-returns
+returns c = rw (eq-eqb _ _ (c .before .if1 .taken), c .well-formed .ensures)
+
+returns-2 : tie.Need-returns-2
+returns-2 c = rw (ne-eqb _ _ (c .if1 .left))
+
+pub is-pattern-spec : {M : Type 1} → statement M
+is-pattern-spec = tie.close (tie.spec well-formed-requires returns returns-2)

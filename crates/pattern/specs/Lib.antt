@@ -1,0 +1,4 @@
+pub mod Sets
+pub mod Wildcard
+pub mod Steps
+pub mod Theorems
