@@ -54,7 +54,10 @@ extern "C" {
 #define VIRENTOLEX_TRUE 1
 #define VIRENTOLEX_BOTTOM 2
 
-/* The kinds of fields, with the size of their values. */
+/*
+ * The kinds of fields, with the size of their values. What the function `size` of a subscription counts
+ * are a string's UTF-8 characters (bottom if it is ill-formed) and an opaque value's bytes.
+ */
 #define VIRENTOLEX_INT32 1  /* 4 bytes, little-endian, two's complement */
 #define VIRENTOLEX_INT64 2  /* 8 bytes, little-endian, two's complement */
 #define VIRENTOLEX_REAL64 3 /* 8 bytes, little-endian, the bits of an IEEE 754 double */

@@ -1,5 +1,5 @@
 #!/usr/bin/env python3
-"""run_vectors.py [VECTORS]: writes crates/interpreter_test/stdin and stdout from VECTORS/run.txt and 01-run.txt, document 01's own runs, and runs at the limits that the documents name.
+"""run_vectors.py [VECTORS]: writes crates/interpreter_test/stdin and stdout from VECTORS/run.txt, 01-run.txt and 02-run.txt, document 01's own runs, and runs at the limits that the documents name.
 
 A vector's answer is its own. Those of the other cases follow from the documents' sentences, which are named beside them."""
 import struct
@@ -66,10 +66,22 @@ def wildcards():
     yield table([(5, 3, 0), (4, 1, 3), (6, 0, 0), (60, 1, 0)], b"Cab*"), cab(b"[]"), "12 0 bottom 0"
 
 
+def sizes():
+    # document 02, request 2: `size (Name) <= 20`, "a name of 20 letters with two accents"; "bottom if the bytes are not well-formed UTF-8"; "Opaque values keep their byte count."
+    limit = table([(5, 3, 0), (7, 0, 0), (1, 0, 20), (35, 0, 0)], b"Cab")
+    name = "Élodie Müller-Kerner".encode()
+    for value, verdict in ((name, "true"), (name + b"s", "false"), (name[:-1] + b"\xc3", "bottom"), (b"\xed\xa0\x80", "bottom"), (b"", "true")):
+        yield limit, cab(value), "0 0 %s 4" % verdict
+    yield limit, cab(name, 5), "0 0 false 4"
+    folded = table([(5, 3, 0), (6, 0, 0), (7, 0, 0), (1, 0, 20), (35, 0, 0)], b"Cab")
+    yield folded, cab(name), "0 0 true 5"
+    yield folded, cab(name + b"s"), "0 0 false 5"
+
+
 def main(vectors=Path(__file__).resolve().with_name("vectors")):
     here = Path(__file__).resolve().parent.parent / "crates" / "interpreter_test"
-    rows = [*cases(), *wildcards()]
-    for name in ("run.txt", "01-run.txt"):
+    rows = [*cases(), *wildcards(), *sizes()]
+    for name in ("run.txt", "01-run.txt", "02-run.txt"):
         for line in (Path(vectors) / name).read_text().splitlines():
             t, notice, *answer = line.split()
             rows.append((*(b"" if s == "-" else bytes.fromhex(s) for s in (t, notice)), " ".join(answer)))

@@ -1,8 +1,8 @@
 #!/usr/bin/env python3
-"""Writes crates/value_test/stdin and stdout: what the ops of tables give on values, by Python's integers, floats, bytes and regular expressions.
+"""Writes crates/value_test/stdin and stdout: what the ops of tables give on values, by Python's integers, floats, bytes, UTF-8 decoder and regular expressions.
 
 A value is None (bottom) or a pair of a field's kind (1 int32, 2 int64, 3 real64, 4 string, 5 opaque) and an int, a float or bytes. A truth value is
-"true", "bottom" or "false". The rules are those of document 01, "Meaning" and "Table", and of document 02, request 1; numbers are those of number_vectors.py.
+"true", "bottom" or "false". The rules are those of document 01, "Meaning" and "Table", and of document 02, requests 1 and 2; numbers are those of number_vectors.py.
 """
 import itertools
 import math
@@ -62,8 +62,13 @@ def fold(v):
 
 
 def size(v):
-    """`size` is the length in bytes of a string or opaque, as int32; else bottom."""
-    return (INT32, len(v[1])) if v is not None and v[0] in (STRING, OPAQUE) else None
+    """`size` is the number of UTF-8 characters of a string, bottom if it is not well-formed, and the length in bytes of an opaque, as int32; else bottom."""
+    if is_string(v):
+        try:
+            return INT32, len(v[1].decode("utf-8"))
+        except UnicodeDecodeError:
+            return None
+    return (INT32, len(v[1])) if v is not None and v[0] == OPAQUE else None
 
 
 def equal(v, w):
@@ -278,6 +283,7 @@ def all_cases(rng):
         c.add(59, x, gone[0], x, gone[0])
         c.add(59, gone[0], x)
     wildcards(c, rng, every, strings)
+    sizes(c)
     return c
 
 
@@ -296,6 +302,17 @@ def wildcards(c, rng, every, strings):
             c.add(60, strings[1], patterns[4], x, patterns[4])
     for _ in range(200):
         c.add(60, rng.choice(every), *(rng.choice(patterns) for _ in range(rng.randrange(1, 9))))
+
+
+def sizes(c):
+    """Document 02, request 2: "For a string, `size` is to be the number of UTF-8 characters, and bottom if the bytes are not well-formed UTF-8 (RFC 3629). Opaque values keep their byte count." """
+    accents = "José Müller ÀÉ ".encode()
+    strings = [accents, accents[:-2], "Ωμέγα 漢字 \U0001F600\0\uFEFF\uFFFF".encode(), b"A" * 40 + accents, b"\xed\xa0\x80", b"\xc0\x80", b"\xf4\x90\x80\x80", accents + b"\xe6\xbc"]
+    for i, s in enumerate(strings):
+        for x in (c.literal((STRING, s)), c.named(b"S%d" % i, (STRING, s))):
+            c.add(7, x)
+            c.add(7, c.folded(x))
+        c.add(7, c.named(b"O%d" % i, (OPAQUE, s)))
 
 
 def main():

@@ -148,19 +148,65 @@ fn wildcard(dice: &mut Dice) -> Vec<u8> {
     hostile::table(&entries, &[value, pattern].concat())
 }
 
+/// Characters of one to four bytes, and bytes that none of them has, at the ends of RFC 3629's ranges.
+const PIECES: [&[u8]; 24] = [
+    b"a",
+    b"Z",
+    b"eight by",
+    b"sixteen of them, ",
+    "\u{7f}".as_bytes(),
+    "\u{80}".as_bytes(),
+    "\u{e9}".as_bytes(),
+    "\u{7ff}".as_bytes(),
+    "\u{800}".as_bytes(),
+    "\u{8f66}".as_bytes(),
+    "\u{d7ff}".as_bytes(),
+    "\u{e000}".as_bytes(),
+    "\u{ffff}".as_bytes(),
+    "\u{10000}".as_bytes(),
+    "\u{1f695}".as_bytes(),
+    "\u{10ffff}".as_bytes(),
+    b"\xc1\xbf",
+    b"\xe0\x9f\xbf",
+    b"\xf0\x8f\xbf\xbf",
+    b"\xed\xa0\x80",
+    b"\xf4\x90\x80\x80",
+    b"\xc3",
+    b"\xe8\xbd",
+    b"\xf0\x9f\x9a",
+];
+
+/// A table that compares the size of a string of these pieces, folded now and then, with a number beside that of its characters.
+fn size(dice: &mut Dice) -> Vec<u8> {
+    let of = if dice.next(2) == 0 { 16 } else { 24 };
+    let n = dice.next(9);
+    let text = (0..n).map(|_| PIECES[dice.next(of)]).collect::<Vec<_>>();
+    let text = text.concat();
+    let count = String::from_utf8_lossy(&text).chars().count();
+    let mut entries = vec![hostile::string(text.len(), 0)];
+    if dice.next(4) == 0 {
+        entries.push(hostile::FOLD);
+    }
+    let beside = (count + dice.next(3)).saturating_sub(1);
+    entries.extend([(7, 0, 0), (1, 0, beside as u64)]);
+    entries.push((32 + dice.next(6) as u16, 0, 0));
+    hostile::table(&entries, &text)
+}
+
 pub fn agree(cases: usize) {
     let mut dice = Dice(0xdead_beef_cafe_f00d);
     let notices: Vec<Vec<u8>> = SIZES.map(load::notice).to_vec();
     let (mut x, mut y) = (vec![0u8; 10250], vec![0u8; 10250]);
     let (mut accepted, mut passed) = (0, 0);
     for _ in 0..cases {
-        let table = wildcard(&mut dice);
-        passed += ours::check(&table) as usize;
-        assert_eq!(
-            ours::guarded(&table, &hostile::EMPTY),
-            expert::guarded(&table, &hostile::EMPTY),
-            "{table:?}"
-        );
+        for table in [wildcard(&mut dice), size(&mut dice)] {
+            passed += ours::check(&table) as usize;
+            assert_eq!(
+                ours::guarded(&table, &hostile::EMPTY),
+                expert::guarded(&table, &hostile::EMPTY),
+                "{table:?}"
+            );
+        }
         let t = text(&mut dice);
         let room = if dice.next(50) == 0 {
             dice.next(600)

@@ -656,6 +656,14 @@ fn fits(how: u8, s: &[u8], s_mark: bool, t: &[u8], t_mark: bool) -> bool {
     }
 }
 
+/// The size of a string (document 02, request 2), by std.
+fn characters(s: &[u8]) -> Slot {
+    match std::str::from_utf8(s) {
+        Ok(text) => Slot::Int32(text.chars().count() as i32),
+        Err(_) => Slot::Missing,
+    }
+}
+
 #[inline(always)]
 unsafe fn equal(pool: &[u8], notice: &[u8], x: Slot, y: Slot) -> u8 {
     if let (Slot::Text(p), Slot::Text(q)) = (x, y) {
@@ -831,7 +839,7 @@ pub unsafe fn run(p: &Program, notice: &[u8]) -> (u8, usize) {
             Ins::Size => unary!(
                 x,
                 match x {
-                    Slot::Text(p) => Slot::Int32(p.len as i32),
+                    Slot::Text(p) => characters(bytes(pool, notice, p)),
                     Slot::Opaque(n) => Slot::Int32(n as i32),
                     _ => Slot::Missing,
                 }

@@ -12,6 +12,7 @@ pub fn rows(pace: Pace) {
     short_literals(pace);
     long_equality(pace);
     wildcards(pace);
+    sizes(pace);
 }
 
 /// A row of the guarded run of a table, in its own unit: `unit` nanoseconds, of each of `ops` operators.
@@ -214,6 +215,54 @@ fn wildcards(pace: Pace) {
             name,
             &hostile::table(&entries, &pool),
             &cab(&value),
+            pace,
+            ops,
+        );
+    }
+}
+
+/// Words of these, parted by spaces, to so many bytes; the last are spaces where no further word has room.
+fn words(of: &[&str], len: usize) -> String {
+    let mut text = String::new();
+    for word in of.iter().cycle() {
+        if text.len() + word.len() + 1 > len {
+            break;
+        }
+        text.push_str(word);
+        text.push(' ');
+    }
+    text.push_str(&" ".repeat(len - text.len()));
+    text
+}
+
+/// `size` of one field (document 02, request 2), equal to the number of its characters.
+fn sizes(pace: Pace) {
+    head("size, inner run, per operator", "ns");
+    let accents = ["Ren\u{e9}e", "Desch\u{ea}nes", "depot", "night", "shift"];
+    let han = ["\u{51fa}\u{79df}\u{8f66}", "\u{53f8}\u{673a}"];
+    let emoji = ["\u{1f695}\u{1f697}", "\u{1f3c1}"];
+    let mixed = [&accents[..], &han, &emoji].concat();
+    let rows = [
+        (
+            "20 letters, two with accents",
+            words(&accents[..2], 18) + "Oliv",
+        ),
+        ("1,024 bytes, ASCII", words(&accents[2..], 1024)),
+        ("1,024 bytes, accents", words(&accents, 1024)),
+        ("1,024 bytes, Han", words(&han, 1024)),
+        ("1,024 bytes, emoji", words(&emoji, 1024)),
+        ("1,024 bytes, all of these mixed", words(&mixed, 1024)),
+    ];
+    for (name, text) in rows {
+        let count = text.chars().count() as u64;
+        // name, `size`, an int32, `==`
+        let group = [hostile::name(3, 0), (7, 0, 0), (1, 0, count), (32, 0, 0)];
+        let entries = hostile::often(&group);
+        let ops = (entries.len() + 1) / (group.len() + 1);
+        inner(
+            name,
+            &hostile::table(&entries, b"Cab"),
+            &cab(text.as_bytes()),
             pace,
             ops,
         );

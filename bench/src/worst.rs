@@ -17,8 +17,8 @@ struct Case {
 /// An input that grows: `of(1)` is the half and `of(2)` the whole. The bytes of a case are
 /// - of a text and of a notice its length, of a decision its length and the notice's;
 /// - of a table in a check its length, and a name's bytes for each entry that names them;
-/// - of a run its table's length, for each string operator the bytes of both its operands with each literal, and for each name the
-///   bytes of all the notice's fields but their values.
+/// - of a run its table's length, for each string operator the bytes of both its operands with each literal, for each `size` those
+///   of its string, and for each name the bytes of all the notice's fields but their values.
 struct Family {
     name: String,
     of: Box<dyn Fn(usize) -> Case>,
@@ -232,6 +232,28 @@ fn strings() -> Vec<Family> {
                 },
             ));
         }
+    }
+    // document 02, request 2
+    for (what, unit, ill_formed) in [
+        ("1 byte", "a", false),
+        ("2 bytes", "\u{e9}", false),
+        ("4 bytes", "\u{1f695}", false),
+        ("1 and 3 bytes by turns", "a\u{8f66}", false),
+        ("2 bytes, the last cut", "\u{e9}", true),
+    ] {
+        all.push(family(
+            format!("size of 4,096 bytes, characters of {what}"),
+            move |k| {
+                let n = 2048 * k;
+                let mut pool = unit.repeat(n / unit.len()).into_bytes();
+                if ill_formed {
+                    pool[n - 1] = b'a';
+                }
+                let group = [string(n, 0), (7, 0, 0), (1, 0, 0), (32, 0, 0)];
+                let bytes = groups(&group) * n;
+                run(&often(&group), &pool, &hostile::EMPTY, bytes)
+            },
+        ));
     }
     all.push(family("== of 4,096 bytes, both folded", |k| {
         let n = 2048 * k;

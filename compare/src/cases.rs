@@ -74,10 +74,10 @@ fn truth(verdict: virentolex::Verdict) -> Truth {
 }
 
 /// The kinds in turn, by the case's number.
-const KINDS: [&str; 21] = [
+const KINDS: [&str; 22] = [
     "text", "table", "notice", "write", "text", "operator", "text", "notice", "text", "table",
     "text", "write", "text", "table", "notice", "text", "write", "text", "table", "quorum",
-    "wildcard",
+    "wildcard", "size",
 ];
 /// So many operators are tried in one case of theirs.
 const OPERATORS: usize = 20;
@@ -102,6 +102,7 @@ impl Case<'_> {
             "write" => self.write(),
             "quorum" => self.quorum(),
             "wildcard" => self.wildcard(),
+            "size" => self.size(),
             "operator" => (0..OPERATORS).try_for_each(|_| self.operator()),
             _ => self.program(),
         }
@@ -485,7 +486,10 @@ mod tests {
         kinds.dedup();
         assert_eq!(
             kinds,
-            ["notice", "operator", "program", "quorum", "table", "text", "wildcard", "write"]
+            [
+                "notice", "operator", "program", "quorum", "size", "table", "text", "wildcard",
+                "write"
+            ]
         );
     }
 }

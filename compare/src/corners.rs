@@ -3,6 +3,7 @@
 
 use crate::edges::word;
 use crate::operands::*;
+use crate::size_corners::SIZES;
 use crate::wildcard_corners::WILDCARDS;
 use reference::compile::Entry;
 use reference::op::Op;
@@ -235,6 +236,7 @@ fn all() -> impl Iterator<Item = &'static Corner> {
         .chain(&STRINGS)
         .chain(&NAMES)
         .chain(&WILDCARDS)
+        .chain(&SIZES)
 }
 
 fn name_of(corner: &Corner, op: Op) -> String {
@@ -369,6 +371,50 @@ mod tests {
         assert_eq!(
             met("equals (s, 1, 's', t, 'ab')", &few)[0],
             "Equals: bottom beside an equal value"
+        );
+    }
+
+    #[test]
+    fn corners_of_characters() {
+        let has = |kind, bytes: &[u8], corners: &[&str]| {
+            let named = corners.iter().map(|corner| format!("Size: {corner}"));
+            let found = met("size (s) == 1000", &[field("s", kind, bytes)]);
+            assert_eq!(found, named.collect::<Vec<_>>(), "{bytes:02x?}");
+        };
+        has(4, b"ab", &[]);
+        has(
+            4,
+            b"12345678\xdf\xbf",
+            &["U+07FF", "other character behind 8 of one byte"],
+        );
+        has(
+            4,
+            "aé出🚕".as_bytes(),
+            &[
+                "characters of 1 to 4 bytes",
+                "other character behind 1 of one byte",
+            ],
+        );
+        has(
+            4,
+            b"1234567\xc1\xbf",
+            &["C1 BF", "fault behind 7 of one byte"],
+        );
+        // two faults: the second is no corner
+        has(4, b"a\xf5b\xff", &["fault behind 1 of one byte"]);
+        has(4, b"12\xe2\x82", &["2 of 3 bytes, then the end"]);
+        has(4, b"12\xe2\x82a", &["2 of 3 bytes, then others"]);
+        has(4, b"12\xe0\x9f", &[]);
+        has(5, b"\xdf\xbf", &["opaque of fewer characters"]);
+        has(5, b"\xdf", &["opaque, ill-formed"]);
+        has(
+            4,
+            &[b'\xc3', b'\xa9'].repeat(512),
+            &[
+                "512 characters of 2 bytes",
+                "other character behind 0 of one byte",
+                "string of 1024",
+            ],
         );
     }
 

@@ -5,6 +5,7 @@
 
 mod about;
 mod cases;
+mod characters;
 mod corners;
 mod decisions;
 mod edges;
@@ -19,6 +20,8 @@ mod program;
 mod quorum;
 mod quorum_edges;
 mod random;
+mod size;
+mod size_corners;
 mod spellings;
 mod tables;
 mod tally;

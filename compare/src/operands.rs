@@ -32,7 +32,7 @@ pub fn is_text(slot: &Slot) -> bool {
 }
 
 pub fn is_opaque(slot: &Slot) -> bool {
-    matches!(value(slot), Some(Value::Opaque(_)))
+    opaque_bytes(slot).is_some()
 }
 
 pub fn is_whole(slot: &Slot) -> bool {
@@ -61,6 +61,13 @@ fn whole(slot: &Slot) -> Option<i64> {
 pub fn text(slot: &Slot) -> Option<&[u8]> {
     match value(slot) {
         Some(Value::Text(bytes)) => Some(bytes),
+        _ => None,
+    }
+}
+
+pub fn opaque_bytes(slot: &Slot) -> Option<&[u8]> {
+    match value(slot) {
+        Some(Value::Opaque(bytes)) => Some(bytes),
         _ => None,
     }
 }

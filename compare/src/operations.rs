@@ -4,6 +4,7 @@ use crate::random::Random;
 use crate::tables::{laid_out, Draft};
 use crate::words;
 use reference::op::{Op, OPS};
+use reference::utf8::characters;
 use reference::value::{binary, unary, Slot, Value};
 
 /// One operator on numbers near the limits, and what its result is told by: that it is there, its type,
@@ -149,7 +150,7 @@ pub fn on_strings(random: &mut Random) -> Vec<u8> {
     let mut draft = Draft::default();
     push_string(&mut draft, &first);
     match random.below(6) {
-        0 | 1 => sized(random, &mut draft, first.len()),
+        0 | 1 => sized(random, &mut draft, &first),
         2 => compared(random, &mut draft, &first),
         _ => matched(random, &mut draft, &first),
     }
@@ -176,14 +177,15 @@ fn string(random: &mut Random) -> Vec<u8> {
     }
 }
 
-fn push_string(draft: &mut Draft, text: &[u8]) {
+pub fn push_string(draft: &mut Draft, text: &[u8]) {
     let (a, b) = (text.len() as u16, draft.pool.len() as u64);
     draft.entries.push((Op::Text.code(), a, b));
     draft.pool.extend(text);
 }
 
-/// Folds the string now and then, and compares its size.
-fn sized(random: &mut Random, draft: &mut Draft, size: usize) {
+/// Folds the string now and then, and compares its size with one that is near, or with its bytes if it has none.
+fn sized(random: &mut Random, draft: &mut Draft, first: &[u8]) {
+    let size = characters(first).unwrap_or(first.len());
     if random.once_in(3) {
         draft.entries.push((Op::FoldCase.code(), 0, 0));
     }
@@ -242,7 +244,7 @@ fn number(random: &mut Random) -> Value {
 }
 
 /// The entry that pushes a number; a string goes without its bytes.
-fn pushed(value: &Value) -> (u16, u16, u64) {
+pub fn pushed(value: &Value) -> (u16, u16, u64) {
     match value {
         Value::Int32(value) => (Op::Int32.code(), 0, i64::from(*value) as u64),
         Value::Int64(value) => (Op::Int64.code(), 0, *value as u64),

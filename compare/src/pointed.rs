@@ -4,6 +4,7 @@ use crate::expressions::{integer, quoted, spelled, Maker, COMPARISONS, MATCHES, 
 use crate::notices::Field;
 use crate::patterns;
 use crate::words;
+use reference::utf8::characters;
 
 /// The little-endian integer of a value's bytes.
 fn whole(value: &[u8]) -> i64 {
@@ -117,10 +118,15 @@ impl Maker<'_> {
         self.name(field);
     }
 
+    /// A string's size is the number of its characters.
     fn about_size(&mut self, field: &Field) {
+        let size = match field.kind {
+            4 => characters(&field.value),
+            _ => None,
+        };
         self.of_name("size", field);
         self.put_any(&COMPARISONS);
-        let literal = self.near(1, field.value.len() as i64);
+        let literal = self.near(1, size.unwrap_or(field.value.len()) as i64);
         self.put(literal);
     }
 

@@ -1,7 +1,7 @@
 //! What occurred: how many cases of each kind, and each answer, op, verdict, limit and corner.
 
 use crate::edges::EDGES;
-use crate::{corners, quorum_edges, spellings, wildcard};
+use crate::{corners, quorum_edges, size, spellings, wildcard};
 use reference::op::OPS;
 use std::collections::BTreeMap;
 
@@ -29,7 +29,7 @@ const WORDS: [(&str, &[&str]); 9] = [
     (
         "case",
         &[
-            "text", "table", "operator", "notice", "write", "program", "quorum", "wildcard",
+            "text", "table", "operator", "notice", "write", "program", "quorum", "wildcard", "size",
         ],
     ),
     ("verdict", &["True", "False", "Bottom"]),
@@ -71,10 +71,12 @@ impl Tally {
         let ops = OPS.iter().map(|op| ("op", op.code().to_string()));
         let corners = corners::names().into_iter().map(|one| ("corner", one));
         let spellings = spellings::names().into_iter().map(|one| ("spelling", one));
+        let sizes = size::names().into_iter().map(|one| ("size", one));
         let all = numbers
             .chain(words)
             .chain(ops)
             .chain(corners)
+            .chain(sizes)
             .chain(spellings);
         all.filter(|key| !self.counts.contains_key(key))
             .map(|(of, one)| format!("{of} {one}"))

@@ -133,7 +133,7 @@ pub fn real(random: &mut Random) -> u64 {
     }
 }
 
-const TEXTS: [&[u8]; 14] = [
+const TEXTS: [&[u8]; 18] = [
     b"",
     b"a",
     b"A",
@@ -147,6 +147,10 @@ const TEXTS: [&[u8]; 14] = [
     b"[`{@Zz",
     b"417",
     b"\0\xff\xc4",
+    "Ren\u{e9}e \u{c9}T\u{c9}".as_bytes(),
+    "\u{20ac}".as_bytes(),
+    "\u{1f695}B".as_bytes(),
+    b"\xed\xa0\x80Z",
     b"it's \"x\" \\",
 ];
 

@@ -13,6 +13,7 @@ pub mod quorum;
 pub mod run;
 pub mod table;
 pub mod tokens;
+pub mod utf8;
 pub mod value;
 pub mod vectors;
 pub mod verdict;

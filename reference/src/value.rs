@@ -1,6 +1,7 @@
 //! "Meaning": values, truth values, and what each operator and function gives.
 
 use crate::op::Op;
+use crate::utf8::characters;
 use crate::wildcard::Pattern;
 
 #[derive(Clone, Copy, PartialEq, Eq, Debug)]
@@ -253,14 +254,16 @@ fn fold_case(value: Value) -> Option<Value> {
     }
 }
 
-/// "`size` is the length in bytes of a string or opaque, as int32; else bottom."
+/// "`size` is the length in bytes of a string or opaque, as int32; else bottom."; document 02, request 2:
+/// "For a string, `size` is to be the number of UTF-8 characters, and bottom if the bytes are not
+/// well-formed UTF-8 (RFC 3629). Opaque values keep their byte count."
 fn size(value: Value) -> Option<Value> {
-    match value {
-        Value::Text(bytes) | Value::Opaque(bytes) => {
-            i32::try_from(bytes.len()).ok().map(Value::Int32)
-        }
-        _ => None,
-    }
+    let size = match value {
+        Value::Text(bytes) => characters(&bytes)?,
+        Value::Opaque(bytes) => bytes.len(),
+        _ => return None,
+    };
+    i32::try_from(size).ok().map(Value::Int32)
 }
 
 fn complement(value: Value) -> Option<Value> {
@@ -372,6 +375,34 @@ mod tests {
             equal(&Value::Int64(i64::MAX), &Value::Real64(f64::NAN)),
             Bottom
         );
+    }
+
+    #[test]
+    fn size_counts_characters() {
+        let text = |s: &[u8]| Value::Text(s.to_vec());
+        let told = |value| format!("{:?}", unary(Op::Size, value));
+        // 20 letters, two of them with accents
+        let name = "Ren\u{e9} Desch\u{ea}nes-Oliva".as_bytes();
+        assert_eq!(name.len(), 22);
+        assert_eq!(told(Some(text(name))), "Value(Some(Int32(20)))");
+        assert_eq!(told(Some(text(&name[..21]))), "Value(Some(Int32(19)))");
+        assert_eq!(told(Some(text(&name[..4]))), "Value(None)");
+        let opaque = |s: &[u8]| Some(Value::Opaque(s.to_vec()));
+        assert_eq!(told(opaque(name)), "Value(Some(Int32(22)))");
+        assert_eq!(told(opaque(&name[..4])), "Value(Some(Int32(4)))");
+        assert_eq!(told(Some(text(b""))), "Value(Some(Int32(0)))");
+        assert_eq!(told(Some(Value::Int32(7))), "Value(None)");
+        assert_eq!(told(None), "Value(None)");
+    }
+
+    #[test]
+    fn a_folded_string_has_the_size_of_the_unfolded_one() {
+        for bytes in [&b"\xc3\x89A\xe2\x82\xacZ"[..], b"A\xc3", b"\xc1\x81"] {
+            let text = Value::Text(bytes.to_vec());
+            let told = |value| format!("{:?}", size(value));
+            let folded = fold_case(text.clone()).unwrap();
+            assert_eq!(told(folded), told(text));
+        }
     }
 
     #[test]

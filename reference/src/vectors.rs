@@ -9,6 +9,7 @@
 //! - `01-translate.txt`, `01-run.txt`: as without the number, of texts and tables with `wildcard`
 //! - `01-check.txt`: table, number
 //! - `01-patterns.txt`: pattern, value, whether the pattern is well-formed (1, 0), whether the value fits
+//! - `02-run.txt`: as `run.txt`, of tables with `size`
 //! - `03-quorum.txt`: table, needed number, number of notices, the notices, `:`, then for the opening and
 //!   each notice number, place, count, reached, parted by `|`
 //! - `03-states.txt`: a decision (table, needed number, values parted by commas), a notice, then number,
@@ -34,7 +35,7 @@ pub fn agree(file: &str, lines: &str) -> Result<usize, String> {
 fn answer(file: &str, words: &[&str]) -> Option<(usize, String)> {
     match (file, words.len()) {
         ("translate.txt" | "01-translate.txt", 5) => Some((2, translate(words)?)),
-        ("run.txt" | "01-run.txt", 6) => Some((2, run(words)?)),
+        ("run.txt" | "01-run.txt" | "02-run.txt", 6) => Some((2, run(words)?)),
         ("01-check.txt", 2) => Some((1, crate::check(&bytes(words[0])?).to_string())),
         ("01-patterns.txt", 4) => Some((2, pattern(words)?)),
         ("read.txt", 7) => Some((2, read(words)?)),

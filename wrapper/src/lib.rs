@@ -100,9 +100,9 @@ pub mod kind {
     pub const INT64: u16 = 2;
     /// 8 bytes, little-endian, the bits of an `f64`.
     pub const REAL64: u16 = 3;
-    /// 0 to 1,024 bytes.
+    /// 0 to 1,024 bytes. `size` counts its UTF-8 characters, and is bottom if they are ill-formed.
     pub const STRING: u16 = 4;
-    /// 0 to 1,024 bytes.
+    /// 0 to 1,024 bytes. `size` counts them.
     pub const OPAQUE: u16 = 5;
 }
 

@@ -268,6 +268,27 @@ fn the_whole_cab_number_fits_a_pattern() {
 }
 
 #[test]
+fn the_kiosk_counts_characters() {
+    let table = table("size (Name) <= 20");
+    let verdict = |kind, name: &[u8]| {
+        let mut buffer = [0; 64];
+        buffer[..8].copy_from_slice(&EMPTY_NOTICE);
+        let w = write(&mut buffer, 8, b"Name", kind, name);
+        assert_eq!(w.number, 0);
+        run(&table, &buffer[..w.length]).verdict
+    };
+    // 20 letters in 22 bytes
+    let name = "Ren\u{e9} Desch\u{ea}nes-Oliva".as_bytes();
+    assert_eq!(verdict(kind::STRING, name), Verdict::True);
+    let longer = [name, b"s"].concat();
+    assert_eq!(verdict(kind::STRING, &longer), Verdict::False);
+    assert_eq!(verdict(kind::OPAQUE, name), Verdict::False);
+    // cut within the first accent
+    assert_eq!(verdict(kind::STRING, &name[..4]), Verdict::Bottom);
+    assert_eq!(verdict(kind::OPAQUE, &name[..4]), Verdict::True);
+}
+
+#[test]
 fn two_people_are_two_staff_numbers() {
     let mut d = Decision::open(&table("Approve == \"payout\""), 2).unwrap();
     let first = strings(&[("Approve", "payout"), ("Staff", "417")]);

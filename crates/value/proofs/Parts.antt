@@ -1,7 +1,7 @@
 -- Parts of slices and folding: what the code's branches give. Assumes nothing.
 use mathlib.Core.Path.{_≡_, refl, sym, ap, _∙_}
 use mathlib.Core.Bool.{Bool, true, false}
-use mathlib.Core.List.{List, [], _∷_, map}
+use mathlib.Core.List.{List}
 use Prim.Native.Nat.{ℕ, zero, suc, _+_, _-_, _*_, _^_, _≤_, _<_}
 use native.Mathlib.Nat.{add-sub-cancel-left, pow-le-pow-right, zero-add, suc-add, min-le-left, lt-of-le-of-lt}
 use native.Mathlib.Omega.{arith}
@@ -11,7 +11,12 @@ use lib.ListN.{length, take, drop, getD, length-drop, length-take, drop-of-lengt
 use lib.Seq.{take-all, take-nil, drop-length}
 use Rattle.octets.specs.Octets.{folded}
 use Rattle.octets.proofs.Theorems.{folded-twice, not-folded}
+use Rattle.utf8.specs.declared.Counted.{Counted}
+use Rattle.utf8.specs.Utf8.{Counts}
+use Rattle.utf8.specs.Scan.{countOf}
+use Rattle.utf8.proofs.Theorems.{counted-is}
 use Rattle.word.specs.Word.{wordAt}
+use Rattle.value.specs.Value.{sizeBy}
 
 -- a part that starts past the end is empty, one that ends past the end is the rest, and any other is as long as it says
 pub past : (s : List ℕ) (start len : ℕ) → length s ≤ start → take (length s - length s) (drop (length s) s) ≡ take len (drop start s)
@@ -36,9 +41,9 @@ shorter s start len h = let e = length-take len (drop start s) in rw e (lt-of-le
 pub below-half : (n : ℕ) → n < 65536 → n < 2 ^ hbits w32
 below-half n h = omega arith
 
-pub length-folded : (m : Bool) (s : List ℕ) → length (folded m s) ≡ length s
-length-folded m [] = refl
-length-folded m (x ∷ xs) = ap suc (length-folded m xs)
+-- the size of a text, from the right count of its bytes
+pub sized : (m : Bool) {s : List ℕ} (t : List ℕ) (r : Counted) → s ≡ t → Counts s r → sizeBy (countOf (folded m t)) ≡ sizeBy r
+sized m t r e h = ap sizeBy (sym (counted-is m t r (rw e at h)))
 
 -- a word of which bytes are not there
 past-end : (k : ℕ) (s : List ℕ) (at : ℕ) → length s ≤ at → wordAt k s at ≡ 0

@@ -18,6 +18,11 @@ use Rattle.truth.specs.declared.Truth.the-variants.{False, Bottom, True}
 use Rattle.truth.specs.Truth.{orOf, xorOf, ofBool}
 use Rattle.truth.proofs.Theorems.{false-and as false-and-t, true-or as true-or-t}
 use Rattle.common.proofs.Choice.{true-false}
+use Rattle.utf8.specs.declared.Counted.{Counted}
+use Rattle.utf8.specs.declared.Counted.the-variants.{Characters, IllFormed}
+use Rattle.utf8.specs.Utf8.{HasCharacters, WellFormed, Counts}
+use Rattle.utf8.specs.Scan.{countOf}
+use Rattle.utf8.proofs.Theorems.{one-answer, right, counted-is}
 use Rattle.opcode.specs.declared.Load.{Load}
 use Rattle.opcode.specs.declared.Arithmetic.{Arithmetic}
 use Rattle.opcode.specs.declared.Bitwise.{Bitwise}
@@ -40,8 +45,8 @@ use Rattle.notice.specs.Field.{Field}
 use Rattle.notice.specs.Layout.{fieldsOf}
 use Rattle.notice.specs.Lookup.{lookupOf, fieldNamed, FoundIs}
 use Rattle.notice.proofs.Theorems.{lookup}
-use Rattle.value.specs.Value.{Value, bottom, opaque, Item, logic, value, numberOf, valueOf, typeOf, isText, textIn, equalValues, combineNumbers, combineOf, compareOf, fitOf, allTexts, anyFits, anyFit, anyEqual, fitValues, truthIn, valueIn, strictOr, tallyOf, startOf, fieldValue, foundValue, namedValue, valueNamed, inPool, int32, int64, real, text}
-use Rattle.value.specs.Theorems.{UnaryKind, BinaryKind, ManyKind, LoadKind, StrictUnary, StrictBinary, StrictMany, LaterNoText, EqualsTrue, FalseAnd, TrueOr, EqualOtherwise, Tally, ValueNamed, LoadInt32, LoadInt64, LoadReal64, LoadText, LoadName}
+use Rattle.value.specs.Value.{Value, bottom, opaque, Item, logic, value, numberOf, valueOf, typeOf, isText, textIn, sizeBy, equalValues, combineNumbers, combineOf, compareOf, fitOf, allTexts, anyFits, anyFit, anyEqual, fitValues, truthIn, valueIn, strictOr, tallyOf, startOf, fieldValue, foundValue, namedValue, valueNamed, inPool, int32, int64, real, text}
+use Rattle.value.specs.Theorems.{UnaryKind, BinaryKind, ManyKind, LoadKind, StrictUnary, StrictBinary, StrictMany, SizeCharacters, SizeBottom, SizeFolded, LaterNoText, EqualsTrue, FalseAnd, TrueOr, EqualOtherwise, Tally, ValueNamed, LoadInt32, LoadInt64, LoadReal64, LoadText, LoadName}
 
 pub unary-kind : UnaryKind
 unary-kind Unary.Not x = refl
@@ -153,6 +158,25 @@ bottom-any (w ∷ ws) = inr (rw (bottom-equal w .0) (bottom-or (anyEqual bottom 
 pub strict-many : StrictMany
 strict-many (Many.Fit f) y ys = refl
 strict-many Many.Equals y ys = ap logic (rw (bottom-equal (valueIn y) .0) (bottom-or (anyEqual bottom (map valueIn ys)) (bottom-any (map valueIn ys))))
+
+-- `size` of a string, from any right count of it
+module _ (s : List ℕ) where
+  counted : (n : ℕ) (r : Counted) → Counts s r → sizeBy r ≡ int32 (pos n) → HasCharacters s n
+  counted n (Characters m) h e = let z : m ≡ n = cc in rw z at h
+  counted n IllFormed h e = absurd (omega (arith, ap typeOf e))
+
+  uncounted : (r : Counted) → Counts s r → sizeBy r ≡ bottom → WellFormed s → ⊥
+  uncounted (Characters m) h e = absurd (omega (arith, ap typeOf e))
+  uncounted IllFormed h e = h
+
+pub size-characters : SizeCharacters
+size-characters s n = (counted s n (countOf s) (right s), λ h. ap sizeBy (one-answer s (countOf s) (Characters n) (right s) h))
+
+pub size-bottom : SizeBottom
+size-bottom s = (uncounted s (countOf s) (right s), λ h. ap sizeBy (one-answer s (countOf s) IllFormed (right s) h))
+
+pub size-folded : SizeFolded
+size-folded s = ap sizeBy (sym (counted-is true s (countOf s) (right s)))
 
 no-text : (y : Item) (ys zs : List Item) → isText (valueIn y) ≡ false → allTexts (map valueIn (ys ++ (y ∷ zs))) ≡ false
 no-text y [] zs e = rw e

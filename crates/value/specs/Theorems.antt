@@ -1,17 +1,18 @@
 -- What holds of values and items. The proofs are in proofs/Theorems.antt, under the same names.
 use mathlib.Core.Path.{_≡_}
-use mathlib.Core.Logic.{_⊎_}
+use mathlib.Core.Logic.{_↔_, _⊎_}
 use mathlib.Core.Bool.{true, false, _&&_}
 use mathlib.Core.List.{List, _∷_, _++_}
 use Prim.Native.Nat.{ℕ, _<_, _^_}
 use lib.Dec.{T}
-use lib.IntN.{ℤ}
+use lib.IntN.{ℤ, pos}
 use lib.ListN.{take, drop}
 use lib.Ieee.{Float, binary64, fits, toBits}
 use mir.Syntax.{w32, w64}
 use mir.Val.{SFits, ofZ}
 use Rattle.truth.specs.declared.Truth.the-variants.{Bottom, True}
 use Rattle.truth.specs.Truth.{isFalse, isTrue}
+use Rattle.utf8.specs.Utf8.{HasCharacters, WellFormed}
 use Rattle.opcode.specs.Opcode.{Kind, unaryTakes, unaryGives, binaryTakes, binaryGives}
 use Rattle.opcode.specs.declared.Load.{Load}
 use Rattle.opcode.specs.declared.Unary.{Unary}
@@ -22,7 +23,7 @@ use Rattle.opcode.specs.declared.Many.{Many}
 use Rattle.number.specs.declared.Number.{Number}
 use Rattle.notice.specs.Layout.{fieldsOf}
 use Rattle.notice.specs.Lookup.{fieldNamed}
-use Rattle.value.specs.Value.{Value, bottom, int32, int64, real, text, Item, logic, value, numberOf, isText, equalValues, truthIn, valueIn, unaryOf, binaryOf, manyItems, kindOf, bottomOf, isStrict, startOf, tallyOf, valueNamed, namedValue, loadOf}
+use Rattle.value.specs.Value.{Value, bottom, int32, int64, real, text, Item, logic, value, numberOf, isText, foldCaseOf, sizeOf, equalValues, truthIn, valueIn, unaryOf, binaryOf, manyItems, kindOf, bottomOf, isStrict, startOf, tallyOf, valueNamed, namedValue, loadOf}
 
 -- The kind of each answer is the operator's, whatever the operands are.
 abbrev pub UnaryKind : Type 0
@@ -50,6 +51,17 @@ StrictBinary =
 -- .. and every operator of several does so where the first is bottom.
 abbrev pub StrictMany : Type 0
 StrictMany = (o : Many) (y : Item) (ys : List Item) → manyItems o (value bottom) (y ∷ ys) ≡ logic Bottom
+
+-- `size` of a string is n exactly if it is well-formed UTF-8 of n characters, and bottom exactly if it is not well-formed ..
+abbrev pub SizeCharacters : Type 0
+SizeCharacters = (s : List ℕ) (n : ℕ) → (sizeOf (text s) ≡ int32 (pos n)) ↔ HasCharacters s n
+
+abbrev pub SizeBottom : Type 0
+SizeBottom = (s : List ℕ) → (sizeOf (text s) ≡ bottom) ↔ (WellFormed s → ⊥)
+
+-- .. and a folded string has the size of the unfolded one.
+abbrev pub SizeFolded : Type 0
+SizeFolded = (s : List ℕ) → sizeOf (foldCaseOf (text s)) ≡ sizeOf (text s)
 
 -- "In 56..58 a later operand that is no string gives bottom", whatever fitted before it.
 abbrev pub LaterNoText : Type 0

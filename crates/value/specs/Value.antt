@@ -1,4 +1,4 @@
--- Values and items, and what each operator and function gives on them. Document 01, "Meaning" and "Table".
+-- Values and items, and what each operator and function gives on them. Document 01, "Meaning" and "Table"; document 02, requests 1 and 2.
 -- `bottom` stands for a name that is missing and for every value that there is not. A text is its bytes, a folded one already folded.
 use Prim.Native.Nat.{ℕ, _%_, _^_}
 use mathlib.Core.Bool.{Bool, true, false, cond, _&&_, _||_}
@@ -16,6 +16,9 @@ use Rattle.truth.specs.declared.Truth.{Truth}
 use Rattle.truth.specs.declared.Truth.the-variants.{False, Bottom, True}
 use Rattle.truth.specs.Truth.{notOf, andOf, xorOf, orOf, ofBool}
 use Rattle.octets.specs.Octets.{folded, sameOf, beginsOf, containsOf, endsOf}
+use Rattle.utf8.specs.declared.Counted.{Counted}
+use Rattle.utf8.specs.declared.Counted.the-variants.{Characters, IllFormed}
+use Rattle.utf8.specs.Scan.{countOf}
 use Rattle.pattern.specs.Wildcard.{wildcardOf}
 use Rattle.opcode.specs.Opcode.{Kind}
 use Rattle.opcode.specs.declared.Load.{Load}
@@ -87,13 +90,18 @@ textIn (opaque s) = []
 abbrev pub foldCaseOf : Value → Value
 foldCaseOf v = cond (isText v) (text (folded true (textIn v))) bottom
 
--- "`size` is the length in bytes of a string or opaque, as int32; else bottom."
+-- Document 02, request 2: "For a string, `size` is to be the number of UTF-8 characters, and bottom if the bytes are not well-formed UTF-8 (RFC 3629). Opaque values keep their byte count."
+abbrev pub sizeBy : Counted → Value
+sizeBy (Characters n) = int32 (pos n)
+sizeBy IllFormed = bottom
+
+-- ".. as int32; else bottom."
 abbrev pub sizeOf : Value → Value
 sizeOf bottom = bottom
 sizeOf (int32 z) = bottom
 sizeOf (int64 z) = bottom
 sizeOf (real x) = bottom
-sizeOf (text s) = int32 (pos (length s))
+sizeOf (text s) = sizeBy (countOf s)
 sizeOf (opaque s) = int32 (pos (length s))
 
 -- "6 `fold-case`, 7 `size`, 8 `~`"

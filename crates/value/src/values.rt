@@ -5,7 +5,8 @@ ghost use mathlib.Core.List.{List};
 ghost use Prim.Native.Nat.{ℕ};
 ghost use lib.Dec.{eqb};
 ghost use Rattle.truth.specs.declared.Truth.the-variants.{False, Bottom};
-ghost use Rattle.value.specs.Value.{numberOf, valueOf, typeOf, isText, textIn, foldCaseOf, sizeOf, changeOf, ifPresent, typeTest, nanOf, testOf, combineNumbers, combineOf, equalValues, compareOf, fitValues, strictOr};
+ghost use Rattle.utf8.specs.Scan.{countOf};
+ghost use Rattle.value.specs.Value.{numberOf, valueOf, typeOf, isText, textIn, foldCaseOf, sizeBy, sizeOf, changeOf, ifPresent, typeTest, nanOf, testOf, combineNumbers, combineOf, equalValues, compareOf, fitValues, strictOr};
 ghost use Rattle.value.specs.Held.{pooled, foldedPiece, textOf, typedOf};
 use crate::Origin;
 use crate::Piece;
@@ -18,6 +19,7 @@ use opcode::Compare;
 use opcode::Fit;
 use opcode::Test;
 use truth::Truth;
+use utf8::Counted;
 
 // The number that a value is, and the value that a number is.
 fn number_of(v: Typed) -> Number
@@ -115,6 +117,17 @@ fn fold_case(v: Typed) -> Typed
     }
 }
 
+// How many characters a text has: as many as the bytes that it is read from, which its mark does not change.
+fn text_size<'a>(pool: &'a [u8], notice: &'a [u8], p: Piece) -> Typed
+    ensures { λ r. ⌜ typedOf (now (pool .entry)) (now (notice .entry)) r ≡ sizeBy (countOf (textOf (now (pool .entry)) (now (notice .entry)) p)) ⌝ }
+{
+    let s = texts::fetch(pool, notice, p);
+    match utf8::count(s) {
+        Counted::Characters(n) => Typed::Int32(n as i32),
+        Counted::IllFormed => Typed::Bottom,
+    }
+}
+
 // `size`
 fn size<'a>(pool: &'a [u8], notice: &'a [u8], v: Typed) -> Typed
     ensures { λ r. ⌜ typedOf (now (pool .entry)) (now (notice .entry)) r ≡ sizeOf (typedOf (now (pool .entry)) (now (notice .entry)) v) ⌝ }
@@ -124,7 +137,7 @@ fn size<'a>(pool: &'a [u8], notice: &'a [u8], v: Typed) -> Typed
         Typed::Int32(_) => Typed::Bottom,
         Typed::Int64(_) => Typed::Bottom,
         Typed::Real(_) => Typed::Bottom,
-        Typed::Text(p) => Typed::Int32(texts::bytes_in(pool, notice, p)),
+        Typed::Text(p) => text_size(pool, notice, p),
         Typed::Opaque(p) => Typed::Int32(texts::bytes_in(pool, notice, p)),
     }
 }

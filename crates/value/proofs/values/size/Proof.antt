@@ -1,11 +1,7 @@
-use mathlib.Core.Path.{_≡_, refl, sym, ap, _∙_}
-use lib.IntN.{pos}
+use mathlib.Core.Path.{ap, _∙_}
 use mir.Syntax.{w32}
 use mir.ValLaws.{toZ-ofZ}
-use Prim.Native.Nat.{ℕ}
 use Rattle.value.specs.Value.{int32}
-use Rattle.value.specs.Held.{partOf}
-use Rattle.value.proofs.Parts.{length-folded}
 use borrow.Author.Needs.{needs}
 use Rattle.value.proofs.values.size.Statement.{statement}
 use Rattle.value.proofs.values.size.Tie as tie
@@ -25,14 +21,14 @@ enum-told-4 c = search needs
 enum-known-v : tie.Need-enum-known-v
 enum-known-v c = search needs
 
-bytes-in-requires : tie.Need-bytes-in-requires
-bytes-in-requires c κs = search needs
+text-size-requires : tie.Need-text-size-requires
+text-size-requires c κs = search needs
 
 enum-known-v-2 : tie.Need-enum-known-v-2
 enum-known-v-2 c = search needs
 
-bytes-in-requires-2 : tie.Need-bytes-in-requires-2
-bytes-in-requires-2 c κs = search needs
+bytes-in-requires : tie.Need-bytes-in-requires
+bytes-in-requires c κs = search needs
 
 returns : tie.Need-returns
 returns c = search needs
@@ -47,13 +43,10 @@ returns-4 : tie.Need-returns-4
 returns-4 c = search needs
 
 returns-5 : tie.Need-returns-5
-returns-5 c =
-    let a = c .before .before .before .before .before .before .args in
-    let x = c .before .before .v .given .0 .0 in
-    rw (c .before .before .v .given .1) (ap int32 (toZ-ofZ w32 (c .bytes-in .result) (record { sfits = c .bytes-in .ok }) ∙ c .bytes-in .ensures) ∙ sym (ap (λ (n : ℕ). int32 (pos n)) (length-folded (x .folded) (partOf (a .pool .now) (a .notice .now) x))))
+returns-5 c = rw (c .before .before .v .given .1) (c .text-size .ensures)
 
 returns-6 : tie.Need-returns-6
-returns-6 c = rw (c .before .before .v2 .given .1) (ap int32 (toZ-ofZ w32 (c .bytes-in2 .result) (record { sfits = c .bytes-in2 .ok }) ∙ c .bytes-in2 .ensures))
+returns-6 c = rw (c .before .before .v2 .given .1) (ap int32 (toZ-ofZ w32 (c .bytes-in .result) (record { sfits = c .bytes-in .ok }) ∙ c .bytes-in .ensures))
 
 pub size-spec : {M : Type 1} → statement M
 size-spec =
@@ -64,9 +57,9 @@ size-spec =
     enum-told-3
     enum-told-4
     enum-known-v
-    bytes-in-requires
+    text-size-requires
     enum-known-v-2
-    bytes-in-requires-2
+    bytes-in-requires
     returns
     returns-2
     returns-3
