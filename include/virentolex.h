@@ -21,6 +21,7 @@
  *                  14 name already there            15 65th field, over 16,384 bytes, or no room
  *    deciding      12 no decision                   21 needed number outside 1 to 8
  *                  19 no right Staff field          20 a ninth person
+ *    UBF(A)        22 text outside the syntax      23 not one tuple of fields; a real64 field
  *
  * What every caller must see to, since nothing checks a caller in C:
  *
@@ -37,7 +38,7 @@
  * use no heap and call nothing but memset. The stack is not part of the proofs. Measured: translating
  * takes 14 kB for a flat text, 18 kB with `wildcard`, and 349 kB for the deepest texts tried (24
  * parentheses, every operator level and 24 prefix operators between each two); a run whose `contains`
- * goes on by borders takes 10 kB, the other functions at most 6 kB.
+ * goes on by borders takes 10 kB, the other functions at most 6 kB, of which reading UBF(A) takes 4.
  */
 #ifndef VIRENTOLEX_H
 #define VIRENTOLEX_H
@@ -72,6 +73,9 @@ extern "C" {
 /* The bytes of a decision before its table, and the most bytes of a whole one. */
 #define VIRENTOLEX_DECISION_HEAD 528
 #define VIRENTOLEX_DECISION_MAX 10778
+
+/* The most bytes of a UBF(A) text that is written; one that is read may be longer. */
+#define VIRENTOLEX_UBF_TEXT_MAX 32839
 
 /*
  * Translates a subscription text to a table.
@@ -177,6 +181,44 @@ uint8_t virentolex_quorum_open(uint8_t *decision, size_t decision_len,
 uint8_t virentolex_quorum_show(uint8_t *decision, size_t decision_len,
                                const uint8_t *notice, size_t notice_len,
                                size_t *place, uint8_t *count, uint8_t *reached);
+
+/*
+ * Reads a UBF(A) text, of any length, into a notice, whose fields stand in the order of their names.
+ * The text is one tuple of names and values by turns, ended by `$`: `{"Op" 42}$`. A name is a string.
+ * A value is an integer (int32; with the tag `int64` after it, int64), a string, or a binary with its
+ * count before it (opaque). Whitespace and comments (`%..%`) may stand between them.
+ *
+ * Answers 0, or the first that applies of: 22 for a text outside the syntax; 23 for anything but one
+ * tuple, a register, an atom, a list, another tag, a tuple inside, an integer that does not fit, a name
+ * that is no string or has no value; then over all fields 13 for a name that breaks the rules, 16 for a
+ * value over 1,024 bytes, 14 for a name that is there twice, 15 for over 64 fields, a notice over
+ * VIRENTOLEX_NOTICE_MAX bytes, or one longer than notice_len.
+ * *place   0.
+ * *length  the notice's length; 0 if refused.
+ * notice   after 0 its first *length bytes are the well-formed notice that has the text's fields, and
+ *          the bytes after it are as they were. After a refusal every byte is as it was.
+ *
+ * Of a text with over 64 fields all names are compared in pairs before 15 is answered: a long text of
+ * many short fields takes time with the square of its length.
+ */
+uint8_t virentolex_ubf_read(const uint8_t *text, size_t text_len,
+                            uint8_t *notice, size_t notice_len,
+                            size_t *place, size_t *length);
+
+/*
+ * Writes a notice as a UBF(A) text, in one fixed form: no whitespace, no comments, plain decimal,
+ * escapes only where needed, names rising. Read again, it gives the same notice.
+ *
+ * Answers 0, or the first that applies of: 11 if the notice fails its layout; 23 for a real64 field;
+ * 15 if the text is longer than text_len; VIRENTOLEX_UBF_TEXT_MAX bytes always suffice.
+ * *place   after 11 as virentolex_check_notice says; else 0.
+ * *length  the text's length; 0 if refused.
+ * text     after 0 its first *length bytes are the text, and the bytes after it are as they were.
+ *          After a refusal every byte is as it was.
+ */
+uint8_t virentolex_ubf_write(const uint8_t *notice, size_t notice_len,
+                             uint8_t *text, size_t text_len,
+                             size_t *place, size_t *length);
 
 #ifdef __cplusplus
 }

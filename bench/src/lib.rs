@@ -3,4 +3,5 @@
 pub mod expert;
 pub mod ours;
 pub mod translate;
+pub mod ubf;
 mod wildcard;

@@ -1,10 +1,11 @@
 //! Ours beside the expert's Rust, one machine, one run. `bench` prints every table, `bench quick` the same in a tenth
 //! of the time, `bench agree` compares the answers of both sides on many random cases and times nothing, `bench worst` times
-//! ours alone on the worst inputs found.
+//! ours alone on the worst inputs found, `bench ubf` prints the tables of UBF(A) alone.
 //! How it is built and run, with the flags: bench/run.
 
 mod agree;
 mod clock;
+mod doors;
 mod hostile;
 mod load;
 mod program;
@@ -231,16 +232,15 @@ fn translation(pace: Pace) {
     }
 }
 
+const WHOLE: Pace = Pace {
+    rounds: 41,
+    round: 2e6,
+};
+
 fn main() {
     let word = std::env::args().nth(1).unwrap_or_default();
     let (pace, records) = match word.as_str() {
-        "" => (
-            Pace {
-                rounds: 41,
-                round: 2e6,
-            },
-            1_000_000,
-        ),
+        "" => (WHOLE, 1_000_000),
         "quick" => (
             Pace {
                 rounds: 9,
@@ -248,11 +248,16 @@ fn main() {
             },
             100_000,
         ),
-        "agree" => return agree::agree(200_000),
+        "agree" => {
+            doors::agree(200_000);
+            return agree::agree(200_000);
+        }
         "worst" => return worst::rows(),
-        _ => panic!("bench [quick | agree | worst]"),
+        "ubf" => return doors::rows(WHOLE),
+        _ => panic!("bench [quick | agree | worst | ubf]"),
     };
     agree::agree(2_000);
+    doors::agree(2_000);
     linear();
     println!(
         "medians of {} rounds, the sides in turn; ratio: ours over expert in the same round",
@@ -264,5 +269,6 @@ fn main() {
     checks(pace);
     translation(pace);
     strings::rows(pace);
+    doors::rows(pace);
     program::rates(records);
 }

@@ -66,6 +66,22 @@ mod c {
             count: *mut u8,
             reached: *mut u8,
         ) -> u8;
+        pub fn virentolex_ubf_read(
+            text: *const u8,
+            text_len: usize,
+            notice: *mut u8,
+            notice_len: usize,
+            place: *mut usize,
+            length: *mut usize,
+        ) -> u8;
+        pub fn virentolex_ubf_write(
+            notice: *const u8,
+            notice_len: usize,
+            text: *mut u8,
+            text_len: usize,
+            place: *mut usize,
+            length: *mut usize,
+        ) -> u8;
         pub fn repeat_run(
             table: *const u8,
             table_len: usize,
@@ -207,6 +223,40 @@ pub fn quorum_show(decision: &mut [u8], notice: &[u8]) -> (u8, usize, u8, bool) 
         )
     };
     (number, place, count, reached == 1)
+}
+
+/// Number, place and the notice's length.
+pub fn ubf_read(text: &[u8], notice: &mut [u8]) -> (u8, usize, usize) {
+    let (mut place, mut length) = (0, 0);
+    // SAFETY: as above
+    let number = unsafe {
+        c::virentolex_ubf_read(
+            text.as_ptr(),
+            text.len(),
+            notice.as_mut_ptr(),
+            notice.len(),
+            &mut place,
+            &mut length,
+        )
+    };
+    (number, place, length)
+}
+
+/// Number, place and the text's length.
+pub fn ubf_write(notice: &[u8], text: &mut [u8]) -> (u8, usize, usize) {
+    let (mut place, mut length) = (0, 0);
+    // SAFETY: as above
+    let number = unsafe {
+        c::virentolex_ubf_write(
+            notice.as_ptr(),
+            notice.len(),
+            text.as_mut_ptr(),
+            text.len(),
+            &mut place,
+            &mut length,
+        )
+    };
+    (number, place, length)
 }
 
 /// The inner run so many times: the sum of the runs' steps, each four times, and of their verdicts; 0 if the table fails the check.

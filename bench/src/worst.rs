@@ -15,7 +15,7 @@ struct Case {
 }
 
 /// An input that grows: `of(1)` is the half and `of(2)` the whole. The bytes of a case are
-/// - of a text and of a notice its length, of a decision its length and the notice's;
+/// - of a text, a UBF(A) text and a notice its length, of a decision its length and the notice's;
 /// - of a table in a check its length, and a name's bytes for each entry that names them;
 /// - of a run its table's length, for each string operator the bytes of both its operands with each literal, for each `size` those
 ///   of its string, and for each name the bytes of all the notice's fields but their values.
@@ -88,6 +88,7 @@ pub fn rows() {
         decisions(),
     );
     told("virentolex_translate", translations());
+    told("virentolex_ubf_read, virentolex_ubf_write", doors());
 }
 
 fn family(name: impl Into<String>, of: impl Fn(usize) -> Case + 'static) -> Family {
@@ -937,4 +938,104 @@ fn translation(row: (&'static str, String, String, &'static str, String, u8)) ->
             call: Box::new(move || ours::translate(text.as_bytes(), &mut buffer).0),
         }
     })
+}
+
+// ---- UBF(A)
+
+fn door(text: Vec<u8>, number: u8) -> Case {
+    let mut buffer = vec![0; 16384];
+    Case {
+        number,
+        bytes: text.len(),
+        call: Box::new(move || ours::ubf_read(black_box(&text), &mut buffer).0),
+    }
+}
+
+/// A text of these names, each with 1 as its value.
+fn tuple_of(names: &[Vec<u8>]) -> Vec<u8> {
+    let fields: Vec<Vec<u8>> = names
+        .iter()
+        .map(|name| [b"\"", &name[..], b"\"1"].concat())
+        .collect();
+    [&b"{"[..], &fields.concat(), b"}$"].concat()
+}
+
+/// Different names of that size that share all bytes but the last four, falling.
+fn falling(count: usize, size: usize) -> Vec<Vec<u8>> {
+    let name = |i: usize| format!("{}{i:04}", "n".repeat(size - 4)).into_bytes();
+    (0..count).rev().map(name).collect()
+}
+
+fn written(notice: Vec<u8>) -> Case {
+    let mut text = vec![0; 32839];
+    Case {
+        number: 0,
+        bytes: notice.len(),
+        call: Box::new(move || ours::ubf_write(black_box(&notice), &mut text).0),
+    }
+}
+
+/// Texts of 65,536 bytes of one unit between head and tail; many names; and notices that are written.
+fn doors() -> Vec<Family> {
+    let rows: [(&'static str, &'static str, &'static str, &'static str, u8); 14] = [
+        ("blanks", "{", " ", "}$", 0),
+        ("comments", "{", "%%", "}$", 0),
+        ("one comment of escapes", "{%", "\\\\", "%}$", 0),
+        ("one string of escapes", "{\"a\"\"", "\\\"", "\"}$", 16),
+        ("one name", "{\"", "a", "\"1}$", 13),
+        ("one binary's count", "{\"a\"", "0", "~~}$", 0),
+        ("one integer", "{\"a\"", "9", "}$", 23),
+        ("integers", "{", "1 ", "}$", 23),
+        ("atoms", "{", "''", "}$", 23),
+        ("binaries", "{", "0~~", "}$", 23),
+        ("tuples that open", "", "{", "$", 22),
+        ("no $ behind blanks", "{\"a\"1}", " ", "", 22),
+        ("registers", "", "a", "$", 23),
+        (
+            "one field, and a wrong escape at the end",
+            "{\"a\"\"",
+            "a",
+            "\\a\"}$",
+            22,
+        ),
+    ];
+    let mut all: Vec<Family> = rows
+        .into_iter()
+        .map(|(name, head, unit, tail, number)| {
+            family(name, move |k| {
+                let text = repeated(head, unit, "", tail, 32768 * k);
+                door(text.into_bytes(), number)
+            })
+        })
+        .collect();
+    all.push(family("64 falling names of 64 bytes", |k| {
+        door(tuple_of(&falling(32 * k, 64)), 0)
+    }));
+    all.push(family("64 falling names of 64 escapes", |k| {
+        let name = |i: usize| {
+            let byte = |bit: usize| if i >> bit & 1 == 1 { "\\\"" } else { "\\\\" };
+            let last: String = (0..6).rev().map(byte).collect();
+            format!("{}{last}", "\\\\".repeat(58)).into_bytes()
+        };
+        let names: Vec<Vec<u8>> = (0..32 * k).map(name).collect();
+        door(tuple_of(&names), 0)
+    }));
+    for (size, many) in [(4, 4000), (64, 900)] {
+        let name = format!("{} different names of {size} bytes", 2 * many);
+        all.push(family(name, move |k| {
+            door(tuple_of(&falling(many * k, size)), 15)
+        }));
+    }
+    all.push(family("write: 64 int64 fields, names of 64 bytes", |k| {
+        let field = |name| (name, 2, i64::MIN.to_le_bytes().to_vec());
+        written(notice(
+            &alike(32 * k, 64).into_iter().map(field).collect::<Vec<_>>(),
+        ))
+    }));
+    all.push(family("write: 15 strings of 1,024 quotes", |k| {
+        let field = |name| (name, 4, vec![b'"'; 1024]);
+        let names = alike(if k == 1 { 7 } else { 15 }, 2);
+        written(notice(&names.into_iter().map(field).collect::<Vec<_>>()))
+    }));
+    all
 }

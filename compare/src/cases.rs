@@ -74,10 +74,10 @@ fn truth(verdict: virentolex::Verdict) -> Truth {
 }
 
 /// The kinds in turn, by the case's number.
-const KINDS: [&str; 22] = [
+const KINDS: [&str; 23] = [
     "text", "table", "notice", "write", "text", "operator", "text", "notice", "text", "table",
     "text", "write", "text", "table", "notice", "text", "write", "text", "table", "quorum",
-    "wildcard", "size",
+    "wildcard", "size", "ubf",
 ];
 /// So many operators are tried in one case of theirs.
 const OPERATORS: usize = 20;
@@ -103,6 +103,7 @@ impl Case<'_> {
             "quorum" => self.quorum(),
             "wildcard" => self.wildcard(),
             "size" => self.size(),
+            "ubf" => self.ubf(),
             "operator" => (0..OPERATORS).try_for_each(|_| self.operator()),
             _ => self.program(),
         }
@@ -487,7 +488,7 @@ mod tests {
         assert_eq!(
             kinds,
             [
-                "notice", "operator", "program", "quorum", "size", "table", "text", "wildcard",
+                "notice", "operator", "program", "quorum", "size", "table", "text", "ubf", "wildcard",
                 "write"
             ]
         );

@@ -1,7 +1,7 @@
 //! What occurred: how many cases of each kind, and each answer, op, verdict, limit and corner.
 
 use crate::edges::EDGES;
-use crate::{corners, quorum_edges, size, spellings, wildcard};
+use crate::{corners, quorum_edges, size, spellings, ubf_edges, wildcard};
 use reference::op::OPS;
 use std::collections::BTreeMap;
 
@@ -15,7 +15,7 @@ const MOST_NAMED: usize = 64;
 const RAREST: usize = 8;
 
 /// What must occur in a run of many cases.
-const NUMBERS: [(&str, &[u8]); 8] = [
+const NUMBERS: [(&str, &[u8]); 10] = [
     ("translate", &[0, 1, 2, 3, 4, 5, 6, 7, 8, 9, 10, 18]),
     ("check", &[0, 12]),
     ("run", &[0, 11, 12]),
@@ -24,12 +24,15 @@ const NUMBERS: [(&str, &[u8]); 8] = [
     ("write", &[0, 11, 13, 14, 15, 16]),
     ("quorum open", &[0, 9, 12, 21]),
     ("quorum show", &[0, 11, 12, 19, 20]),
+    ("ubf read", &[0, 13, 14, 15, 16, 22, 23]),
+    ("ubf write", &[0, 11, 15, 23]),
 ];
-const WORDS: [(&str, &[&str]); 9] = [
+const WORDS: [(&str, &[&str]); 11] = [
     (
         "case",
         &[
             "text", "table", "operator", "notice", "write", "program", "quorum", "wildcard", "size",
+            "ubf",
         ],
     ),
     ("verdict", &["True", "False", "Bottom"]),
@@ -53,6 +56,8 @@ const WORDS: [(&str, &[&str]); 9] = [
     ("edge", &EDGES),
     ("quorum", &quorum_edges::EDGES),
     ("wildcard", &wildcard::CAUSES),
+    ("ubf", &ubf_edges::EDGES),
+    ("ubf done", &ubf_edges::DONE),
 ];
 
 impl Tally {

@@ -13,6 +13,7 @@ pub mod quorum;
 pub mod run;
 pub mod table;
 pub mod tokens;
+pub mod ubf;
 pub mod utf8;
 pub mod value;
 pub mod vectors;

@@ -14,6 +14,8 @@
 //!   each notice number, place, count, reached, parted by `|`
 //! - `03-states.txt`: a decision (table, needed number, values parted by commas), a notice, then number,
 //!   place, count, reached
+//! - `05-read.txt`: UBF(A) text, buffer length, number, place, notice
+//! - `05-write.txt`: notice, buffer length, number, place, UBF(A) text
 
 use crate::quorum::{self, Decision, Shown};
 use crate::wildcard::Pattern;
@@ -43,6 +45,8 @@ fn answer(file: &str, words: &[&str]) -> Option<(usize, String)> {
         ("program.txt", 2) => Some((1, hex(&crate::verdict(&bytes(words[0])?)))),
         ("03-quorum.txt", _) => quorum(words),
         ("03-states.txt", 8) => Some((4, state(words)?)),
+        ("05-read.txt", 5) => Some((2, ubf(words, crate::ubf::read)?)),
+        ("05-write.txt", 5) => Some((2, ubf(words, crate::ubf::write)?)),
         _ => None,
     }
 }
@@ -137,6 +141,18 @@ fn state(words: &[&str]) -> Option<String> {
         values: values?,
     };
     Some(shown(decision.show(&bytes(words[3])?)))
+}
+
+/// A UBF(A) text read, or a notice written as one.
+fn ubf(words: &[&str], call: fn(&[u8], &mut [u8]) -> crate::Writing) -> Option<String> {
+    let mut buffer = vec![0; words[1].parse().ok()?];
+    let answer = call(&bytes(words[0])?, &mut buffer);
+    Some(format!(
+        "{} {} {}",
+        answer.number,
+        answer.place,
+        hex(&buffer[..answer.length])
+    ))
 }
 
 fn shown(answer: Shown) -> String {

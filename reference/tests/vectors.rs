@@ -18,6 +18,8 @@ fn the_vectors_agree() {
         ("02-run.txt", 600),
         ("03-quorum.txt", 249),
         ("03-states.txt", 250),
+        ("05-read.txt", 900),
+        ("05-write.txt", 400),
     ];
     for (file, cases) in files {
         let lines = read_to_string(format!("{folder}/{file}")).expect(file);

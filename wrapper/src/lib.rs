@@ -74,6 +74,22 @@ mod library {
             count: *mut u8,
             reached: *mut u8,
         ) -> u8;
+        pub fn virentolex_ubf_read(
+            text: *const u8,
+            text_len: usize,
+            notice: *mut u8,
+            notice_len: usize,
+            place: *mut usize,
+            length: *mut usize,
+        ) -> u8;
+        pub fn virentolex_ubf_write(
+            notice: *const u8,
+            notice_len: usize,
+            text: *mut u8,
+            text_len: usize,
+            place: *mut usize,
+            length: *mut usize,
+        ) -> u8;
     }
 }
 
@@ -88,6 +104,9 @@ pub const NOTICE_MAX: usize = 16_384;
 pub const DECISION_HEAD: usize = 528;
 /// The most bytes of a decision.
 pub const DECISION_MAX: usize = DECISION_HEAD + TABLE_MAX;
+
+/// The most bytes of a UBF(A) text that is written; one that is read may be longer.
+pub const UBF_TEXT_MAX: usize = 32_839;
 
 /// The notice without fields, with which a new notice is begun.
 pub const EMPTY_NOTICE: [u8; 8] = [4, 0, 0, 0, 1, 0, 0, 0];
@@ -188,6 +207,15 @@ pub struct Shown {
     pub place: usize,
     pub count: u8,
     pub reached: bool,
+}
+
+/// What reading and writing UBF(A) answer: the place is that of 11, and else 0; the length is that of
+/// the notice or the text, 0 if refused.
+#[derive(Debug, Clone, Copy, PartialEq, Eq)]
+pub struct Converted {
+    pub number: u8,
+    pub place: usize,
+    pub length: usize,
 }
 
 /// Translates a subscription text to a table at the buffer's start. The bytes after the table stay,
@@ -404,6 +432,52 @@ pub fn quorum_show(decision: &mut [u8], notice: &[u8]) -> Shown {
         place,
         count,
         reached: reached == 1,
+    }
+}
+
+/// Reads a UBF(A) text into a notice at the buffer's start, fields in name order: 22 outside the syntax,
+/// 23 for anything but one tuple of fields, 13, 16, 14, then 15. The bytes after the notice stay, and a
+/// refusal changes no byte.
+pub fn ubf_read(text: &[u8], notice: &mut [u8]) -> Converted {
+    let (mut place, mut length) = (0, 0);
+    // SAFETY: each pointer and length come from one slice, an empty one's pointer is not null; the
+    // notice's buffer and the two results are borrowed here alone, so that they overlap nothing.
+    let number = unsafe {
+        library::virentolex_ubf_read(
+            text.as_ptr(),
+            text.len(),
+            notice.as_mut_ptr(),
+            notice.len(),
+            &mut place,
+            &mut length,
+        )
+    };
+    Converted {
+        number,
+        place,
+        length,
+    }
+}
+
+/// Writes a notice as a UBF(A) text at the buffer's start, in the one fixed form: 11, 23 for a real64
+/// field, then 15 for a buffer too short. The bytes after the text stay, and a refusal changes no byte.
+pub fn ubf_write(notice: &[u8], text: &mut [u8]) -> Converted {
+    let (mut place, mut length) = (0, 0);
+    // SAFETY: as above, the text's buffer being the one that is written.
+    let number = unsafe {
+        library::virentolex_ubf_write(
+            notice.as_ptr(),
+            notice.len(),
+            text.as_mut_ptr(),
+            text.len(),
+            &mut place,
+            &mut length,
+        )
+    };
+    Converted {
+        number,
+        place,
+        length,
     }
 }
 

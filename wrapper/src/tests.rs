@@ -405,3 +405,106 @@ fn the_examples_of_the_formats() {
     assert_eq!(d.show(&notice), shown(0, 0, 1, false));
     assert_eq!(d.into_buffer(), example("counted"));
 }
+
+fn converted(number: u8, place: usize, length: usize) -> Converted {
+    Converted {
+        number,
+        place,
+        length,
+    }
+}
+
+#[test]
+fn a_door_text_is_a_notice_and_back() {
+    let mut buffer = [0xAA; 21];
+    assert_eq!(
+        ubf_read(b" { \"Op\" %a door% 042 }$", &mut buffer),
+        converted(0, 0, 19)
+    );
+    assert_eq!(buffer[..19], OP42);
+    assert_eq!(buffer[19..], [0xAA; 2]);
+    let mut text = [0xAA; 12];
+    assert_eq!(ubf_write(&OP42, &mut text), converted(0, 0, 9));
+    assert_eq!(text, *b"{\"Op\"42}$\xAA\xAA\xAA");
+}
+
+/// A field of each kind that a text has, names not in order; the notice has them in order.
+#[test]
+fn each_kind_of_a_door_text() {
+    let text = b"{\"s\"\"a\\\"\\\\$\"\"o\"3~~$\"~\"i\"-2147483648\"I\"-9`int64`}$";
+    let mut buffer = [0; 100];
+    let r = ubf_read(text, &mut buffer);
+    let notice = &buffer[..r.length];
+    let fields: Vec<(&[u8], u16, &[u8])> = (0..4)
+        .map(|k| read(notice, k))
+        .map(|f| (f.name, f.kind, f.value))
+        .collect();
+    assert_eq!(
+        fields,
+        [
+            (&b"I"[..], kind::INT64, &(-9i64).to_le_bytes()[..]),
+            (b"i", kind::INT32, &i32::MIN.to_le_bytes()),
+            (b"o", kind::OPAQUE, b"~$\""),
+            (b"s", kind::STRING, b"a\"\\$"),
+        ]
+    );
+    let mut written = [0; 100];
+    let w = ubf_write(notice, &mut written);
+    assert_eq!(
+        written[..w.length],
+        *b"{\"I\"-9`int64`\"i\"-2147483648\"o\"3~~$\"~\"s\"\"a\\\"\\\\$\"}$"
+    );
+}
+
+#[test]
+fn refused_door_texts_change_no_byte() {
+    let cases: [(&[u8], u8); 14] = [
+        (b"", 22),
+        (b"{\"Op\"42}", 22),
+        (b"{\"Op\"42}$ ", 22),
+        (b"{\"Op\",42}$", 22),
+        (b"{\"Op\"2~abc~}$", 22),
+        (b"$", 23),
+        (b"{\"Op\"2147483648}$", 23),
+        (b"{\"Op\"42`int32`}$", 23),
+        (b"{\"Op\"}$", 23),
+        (b"{\"\"42\"Op\"1\"Op\"1}$", 13),
+        (b"{\"Op\"1\"Op\"1}$", 14),
+        (b"{\"Op\"42\"Oq\"42}$", 15),
+        (b"{\"Op\"\"a\"}$", 0),
+        (b"{\"Op\"42}$", 0),
+    ];
+    for (text, number) in cases {
+        let mut buffer = [0xAA; 19];
+        let r = ubf_read(text, &mut buffer);
+        let refused = r == converted(number, 0, 0) && buffer == [0xAA; 19];
+        assert_eq!(r.number, number, "{}", text.escape_ascii());
+        assert_eq!(refused, number != 0, "{}", text.escape_ascii());
+    }
+    let mut long = b"{\"\\\"Op\"42\"Op\"\"".to_vec();
+    long.extend([b'v'; 1025]);
+    long.extend(b"\"}$");
+    assert_eq!(ubf_read(&long, &mut [0; 19]), converted(16, 0, 0));
+}
+
+#[test]
+fn refused_notices_of_doors_change_no_byte() {
+    let mut real = [0; 100];
+    real[..19].copy_from_slice(&OP42);
+    let length = write(&mut real, 19, b"r", kind::REAL64, &[0; 8]).length;
+    let mut cut = OP42;
+    cut[8] = 8;
+    let cases: [(&[u8], usize, u8, usize); 5] = [
+        (&cut, 0, 11, 8),
+        (&OP42[..18], 100, 11, 0),
+        (&real[..length], 0, 23, 0),
+        (&OP42, 8, 15, 0),
+        (&EMPTY_NOTICE, 2, 15, 0),
+    ];
+    for (notice, room, number, place) in cases {
+        let mut text = vec![0xAA; room];
+        assert_eq!(ubf_write(notice, &mut text), converted(number, place, 0));
+        assert_eq!(text, vec![0xAA; room]);
+    }
+    assert_eq!(ubf_write(&EMPTY_NOTICE, &mut [0; 3]), converted(0, 0, 3));
+}

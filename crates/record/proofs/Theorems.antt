@@ -3,7 +3,7 @@ use mathlib.Core.Path.{_≡_, refl, sym, ap, ap₂, _∙_}
 use mathlib.Core.Bool.{Bool, true, false, cond, _&&_}
 use mathlib.Core.List.{List, _++_}
 use mathlib.Core.Logic.{_⊎_, inl, inr, ⊎-elim}
-use Prim.Native.Nat.{ℕ, zero, suc, _+_, _≤_, _<_}
+use Prim.Native.Nat.{ℕ, zero, suc, _+_, _≤_}
 use native.Mathlib.Omega.{arith}
 use lib.Dec.{ltb, leb, eqb}
 use lib.ListN.{length, getD, length-append, List·getD-append}
@@ -11,7 +11,7 @@ use Rattle.word.specs.Word.{wordAt}
 use borrow.Author.Tests.{ltb-true, ltb-false, leb-true, leb-false, eqb-true, le-ltb, ne-eqb}
 use Rattle.record.specs.declared.Record.{Record}
 use Rattle.record.specs.declared.Record.the-variants.{End, Whole, Cut, Wrong}
-use Rattle.record.specs.Record.{lengthOf, kindOf, lengthRight, recordOf}
+use Rattle.record.specs.Record.{lengthOf, kindOf, lengthRight}
 use Rattle.record.specs.Theorems.{WholeLies, CutShort, EndEmpty, WholeGrows, WrongGrows}
 use Rattle.record.proofs.Laws.{found-whole}
 

@@ -1,23 +1,10 @@
 -- The lines of standard output. Document 01, "Examples": "It prints `S number place length` or `N number verdict steps place` (verdict `true`, `false` or `bottom` ..), `X kind` for
 -- another kind, and `E`".
-use Prim.Native.Nat.{ℕ, zero, suc, _+_, _/_, _%_}
+use Prim.Native.Nat.{ℕ}
 use mathlib.Core.List.{List, [], _∷_, _++_}
-use mathlib.Core.Path.{_≡_}
-use lib.Dec.{ltb}
-use lib.ListN.{length}
-use lib.Seq.{sets}
-use Rattle.common.specs.Choice.{pick}
+use Rattle.decimal.specs.Decimal.{decimalOf}
 use Rattle.truth.specs.declared.Truth.{Truth}
 use Rattle.truth.specs.declared.Truth.the-variants.{False, Bottom, True}
-
--- the last digits of n, at most as many as the first number says, with no leading zero
-unfoldable pub digits : ℕ → ℕ → List ℕ
-digits zero n = []
-digits (suc k) n = pick (ltb n 10) (λ _. (48 + n) ∷ []) (λ _. digits k (n / 10) ++ ((48 + n % 10) ∷ []))
-
--- n in decimal, in ASCII: it has at most n + 1 digits
-abbrev pub decimalOf : ℕ → List ℕ
-decimalOf n = digits (suc n) n
 
 -- a space and a number
 abbrev pub spaced : ℕ → List ℕ
@@ -51,8 +38,3 @@ errorLine = 69 ∷ lineEnd
 -- the bytes that every line has room in
 abbrev pub lineRoom : ℕ
 lineRoom = 80
-
--- the bytes stand from `at` on, all other bytes stay, and r is the place after them
-pub record Put (before : List ℕ) (at : ℕ) (bytes after : List ℕ) (r : ℕ) : Type 0 where
-  pub stored : after ≡ sets before at bytes
-  pub next : r ≡ at + length bytes

@@ -12,6 +12,7 @@ ghost use Rattle.notice.specs.Read.{Located};
 ghost use Rattle.notice.specs.Write.{field, writtenOf, writtenBytes};
 ghost use Rattle.interpreter.specs.Running.{runningOf};
 ghost use Rattle.quorum.specs.Showing.{openOf, openedBytes, showOf, shownBytes, Gives};
+ghost use Rattle.ubf.specs.Answer.{readAnswer, readBytes, writeAnswer, writeBytes};
 use notice::Layout;
 
 pub mod matching;
@@ -166,5 +167,39 @@ pub extern "C" fn virentolex_quorum_show(
     *place = a.place;
     *count = a.count;
     *reached = flag(a.reached);
+    a.number
+}
+
+// "reading into our notice, with fields put in name order": the notice that a UBF(A) text says, at the buffer's start. A refusal changes no byte.
+#[no_mangle]
+pub extern "C" fn virentolex_ubf_read(
+    text: &[u8],
+    notice: &mut [u8],
+    place: &mut usize,
+    len: &mut usize,
+) -> u8
+    ensures { λ r. ⌜ record { number = r; place = now (place .exit); len = now (len .exit) } ≡ readAnswer (now (text .entry)) (now (notice .entry)) ⌝ }
+    ensures { λ _. ⌜ now (notice .exit) ≡ readBytes (now (text .entry)) (now (notice .entry)) ⌝ }
+{
+    let a = ubf::read(text, notice);
+    *place = a.place;
+    *len = a.len;
+    a.number
+}
+
+// "writing back in one fixed form": the UBF(A) text of a notice, at the buffer's start. A refusal changes no byte.
+#[no_mangle]
+pub extern "C" fn virentolex_ubf_write(
+    notice: &[u8],
+    text: &mut [u8],
+    place: &mut usize,
+    len: &mut usize,
+) -> u8
+    ensures { λ r. ⌜ record { number = r; place = now (place .exit); len = now (len .exit) } ≡ writeAnswer (now (notice .entry)) (now (text .entry)) ⌝ }
+    ensures { λ _. ⌜ now (text .exit) ≡ writeBytes (now (notice .entry)) (now (text .entry)) ⌝ }
+{
+    let a = ubf::write(notice, text);
+    *place = a.place;
+    *len = a.len;
     a.number
 }

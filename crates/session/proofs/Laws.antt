@@ -15,8 +15,9 @@ use Rattle.word.specs.Word.{Bytes}
 use Rattle.record.specs.declared.Record.{Record}
 use Rattle.record.specs.declared.Record.the-variants.{End, Whole, Cut, Wrong}
 use Rattle.record.specs.Record.{recordOf, waitsOf}
-use Rattle.record.specs.Line.{textLine, kindLine, errorLine, lineRoom, Put}
-use Rattle.record.proofs.Laws.{renamed, joined}
+use Rattle.decimal.specs.Decimal.{Put}
+use Rattle.record.specs.Line.{textLine, kindLine, errorLine, lineRoom}
+use Rattle.decimal.proofs.Laws.{renamed, joined}
 use Rattle.translator.specs.declared.Translated.{Translated}
 use Rattle.translator.specs.Translation.{Outcome, translationOf, answerOf, Answers as Translates}
 use Rattle.translator.proofs.Fits.{fits-room}

@@ -8,7 +8,8 @@ use lib.Seq.{sets}
 use Rattle.common.specs.Choice.{pick}
 use Rattle.record.specs.declared.Record.{Record}
 use Rattle.record.specs.Record.{recordOf, waitsOf}
-use Rattle.record.specs.Line.{errorLine, lineRoom, Put}
+use Rattle.decimal.specs.Decimal.{Put}
+use Rattle.record.specs.Line.{errorLine, lineRoom}
 use Rattle.session.specs.declared.Stop.{Stop}
 use Rattle.session.specs.declared.Stop.the-variants.{Full, Waiting, Ended}
 use Rattle.session.specs.declared.Answered.{Answered}

@@ -6,7 +6,8 @@ use mathlib.Core.Path.{_≡_}
 use lib.Dec.{ltb, eqb}
 use lib.ListN.{length, take, drop}
 use lib.Seq.{sets}
-use Rattle.record.specs.Line.{lineRoom, Put}
+use Rattle.decimal.specs.Decimal.{Put}
+use Rattle.record.specs.Line.{lineRoom}
 use Rattle.session.specs.declared.Stop.{Stop}
 use Rattle.session.specs.declared.Stop.the-variants.{Full, Waiting, Ended}
 use Rattle.session.specs.declared.Next.{Next}

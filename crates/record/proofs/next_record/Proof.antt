@@ -1,4 +1,3 @@
-use native.Mathlib.Omega.{arith}
 use Rattle.record.proofs.Laws.{found-end, found-short, found-low, found-high, found-cut, found-whole}
 use borrow.Author.Needs.{needs}
 use Rattle.record.proofs.next_record.Statement.{statement}

@@ -8,7 +8,7 @@ use Rattle.record.proofs.put_verdict.Statement.{statement}
 use Rattle.record.proofs.put_verdict.Tie as tie
 use Rattle.record.proofs.put_verdict.Reads as reads
 use Rattle.record.proofs.put_verdict.Lts as lts
-use Rattle.record.proofs.put_bytes.Reads as put-bytes-reads
+use Rattle.decimal.proofs.put_bytes.Reads as put-bytes-reads
 
 enum-told : tie.Need-enum-told
 enum-told c = search needs

@@ -1,6 +1,6 @@
 use mathlib.Core.Path.{ap}
 use Rattle.session.specs.Session.{ranLine}
-use Rattle.record.proofs.Laws.{renamed}
+use Rattle.decimal.proofs.Laws.{renamed}
 use borrow.Author.Needs.{needs}
 use Rattle.session.proofs.put_verdict.Statement.{statement}
 use Rattle.session.proofs.put_verdict.Tie as tie

@@ -1,0 +1,11 @@
+pub mod Byte
+pub mod Escape
+pub mod Item
+pub mod Grammar
+pub mod Fields
+pub mod Text
+pub mod Answer
+pub mod Scan
+pub mod Span
+pub mod Examples
+pub mod Theorems
