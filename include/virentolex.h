@@ -109,6 +109,10 @@ uint8_t virentolex_check_notice(const uint8_t *notice, size_t notice_len, size_t
  * *place    after 11 as virentolex_check_notice says; else 0.
  * *verdict  VIRENTOLEX_FALSE, VIRENTOLEX_TRUE or VIRENTOLEX_BOTTOM; bottom if refused.
  * *steps    the entries that the run visited; 0 if refused.
+ *
+ * Numbers, by document 02's request 6: an integer and a real are compared by exact value. In arithmetic
+ * with a real an integer is rounded to the nearest double, ties to even, and so is an integer result of
+ * + - * / that int64 does not hold. A zero divisor gives bottom.
  */
 uint8_t virentolex_run(const uint8_t *table, size_t table_len,
                        const uint8_t *notice, size_t notice_len,

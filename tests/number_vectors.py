@@ -1,12 +1,14 @@
 #!/usr/bin/env python3
-"""Writes crates/number_test/stdin and stdout: document 01's operators on numbers by Python's integers and floats.
+"""Writes crates/number_test/stdin and stdout: the operators on numbers by Python's integers, fractions and floats.
 
-A number is None (bottom) or a pair of a kind (1 int32, 2 int64, 3 real64) and an int or a float. The rules are those of document 01, "Meaning".
+A number is None (bottom) or a pair of a kind (1 int32, 2 int64, 3 real64) and an int or a float. The rules are those of document 01, "Meaning", and of
+document 02, request 6.
 """
 import math
 import operator
 import random
 import struct
+from fractions import Fraction
 from pathlib import Path
 
 INT32, INT64, REAL = 1, 2, 3
@@ -32,18 +34,29 @@ def fits(kind, z):
     return -half <= z < half
 
 
+def nearest(z):
+    """The nearest f64 of an integer, ties to even: of the reals around it the one at the least distance, and of two the one whose last digit is even."""
+    size = abs(z)
+    k = max(size.bit_length() - 53, 0)
+    m = min((m for m in range(max((size >> k) - 1, 0), (size >> k) + 3)), key=lambda m: (abs((m << k) - size), m % 2))
+    return math.copysign(math.ldexp(m, k), -1 if z < 0 else 1)
+
+
 def typed(a, b, z):
-    """The result is int32 if both are int32 and it fits, else int64, else bottom."""
+    """The result is int32 if both are int32 and it fits, else int64; outside int64 it becomes the nearest f64."""
     if a[0] == b[0] == INT32 and fits(INT32, z):
         return (INT32, z)
-    return (INT64, z) if fits(INT64, z) else BOTTOM
+    return (INT64, z) if fits(INT64, z) else (REAL, nearest(z))
 
 
 def beside_real(a):
-    """With a real, the other side becomes real if its size is at most 2^53, else bottom."""
-    if a is None or a[0] == REAL:
-        return a
-    return (REAL, float(a[1])) if abs(a[1]) <= 2**53 else BOTTOM
+    """In arithmetic with a real the integer is rounded to the nearest f64."""
+    return a[1] if a[0] == REAL else nearest(a[1])
+
+
+def exact(a):
+    """A number's exact value; an infinity or NaN stays a float."""
+    return Fraction(a[1]) if a[0] != REAL or math.isfinite(a[1]) else a[1]
 
 
 def quotient(x, y):
@@ -62,10 +75,9 @@ def arithmetic(op, a, b):
         return BOTTOM
     if is_integer(a) and is_integer(b):
         return typed(a, b, EXACT[op](a[1], b[1]))
-    x, y = beside_real(a), beside_real(b)
-    if x is None or y is None or op == "%":
+    if op == "%":
         return BOTTOM
-    return (REAL, REALS[op](x[1], y[1]))
+    return (REAL, REALS[op](beside_real(a), beside_real(b)))
 
 
 def signed(kind, n):
@@ -95,11 +107,10 @@ def shift(op, a, b):
 
 
 def compare(test, a, b):
-    if not (is_integer(a) and is_integer(b)):
-        a, b = beside_real(a), beside_real(b)
+    """By exact value, an infinity beyond every integer on its side; Python compares fractions with infinities and NaN so."""
     if a is None or b is None:
         return "bottom"
-    return "true" if test(a[1], b[1]) else "false"
+    return "true" if test(exact(a), exact(b)) else "false"
 
 
 GROUPS = [
@@ -175,6 +186,82 @@ def operators(rng):
                 yield bytes([group, code, ka, kb]) + struct.pack("<QQ", va, vb), answer(op, a, b)
 
 
+def meters():
+    """Integers around 2^53, 2^63 and the ties between, of both signs."""
+    rng = random.Random(6)
+    found = {0, -(2**63), 1 - 2**63, 2**63 - 2, 2**63 - 1}
+    for p in (31, 52, 53, 54, 55, 62, 63):
+        for d in range(-5, 6):
+            found |= {2**p + d, -(2**p) - d}
+    for p in (53, 54, 58, 62):
+        for _ in range(4):
+            half = 2 ** (p - 53)
+            tie = 2**p + (2 * rng.randrange(2**52) + 1) * half
+            for d in (-1, 0, 1):
+                found |= {tie + d, -tie - d}
+    for _ in range(20):
+        found.add(rng.choice((1, -1)) * rng.getrandbits(rng.randrange(1, 64)))
+    return sorted(z for z in found if fits(INT64, z))
+
+
+def neighbours(z):
+    """The reals next to an integer and not of its value, those with a fraction beside it too."""
+    x = nearest(z)
+    yield from (x, math.nextafter(x, math.inf), math.nextafter(x, -math.inf), x + 0.5, x - 0.25)
+
+
+ALONE = [0.0, -0.0, 0.5, -0.5, 5e-324, -5e-324, 2.2250738585072014e-308, 1.5, 2.0**53, 2.0**63, -(2.0**63), 2.0**64, -(2.0**64), 1e308, -1e308, math.inf, -math.inf, math.nan]
+
+
+def tied_products(rng):
+    """Factors whose product lies half way between two reals, and such that only a digit among the last 32 tells it from half way."""
+    for j in (10, 11, 30, 53, 61, 62):
+        for _ in range(3):
+            a = 2**53 + 2 * rng.randrange(2**52) + 1
+            yield a, 2**j
+            yield -a * 2**9, 2**j
+    wanted = 24
+    while wanted:
+        a, r = rng.getrandbits(63) | 1, rng.choice((1, 2, 3, 2**16 + 1, 2**31, 2**32 - 1))
+        b = r * pow(a, -1, 2**63) % 2**63
+        k = (a * b).bit_length() - 53
+        if k > 64 and (a * b) % 2**k == 2 ** (k - 1) + r:
+            wanted -= 1
+            yield rng.choice((a, -a)), b
+
+
+def beyond(rng):
+    """Request 6: comparisons by exact value, integers rounded beside a real, and results outside int64."""
+    integers = meters()
+    near = [x for z in rng.sample(integers, 40) for x in neighbours(z)]
+    for op in TESTS:
+        for z in integers:
+            pairs = [(z, x) for x in neighbours(z)] + [(z, rng.choice(ALONE)), (z, rng.choice(near))]
+            for z, x in rng.sample(pairs, 3):
+                yield op, *rng.choice([((INT64, z), (REAL, x)), ((REAL, x), (INT64, z))])
+        for x in ALONE:
+            for a in ((INT32, rng.choice((0, 1, -1, 2**31 - 1, -(2**31)))), (INT64, rng.choice(integers))):
+                yield op, *rng.choice([(a, (REAL, x)), ((REAL, x), a)])
+    for op in REALS:
+        for z in rng.sample(integers, 70):
+            yield op, *rng.choice([((INT64, z), (REAL, rng.choice(ALONE + near))), ((REAL, rng.choice(ALONE + near)), (INT64, z))])
+    large = [z for z in integers if abs(z) > 2**61]
+    for op in ("+", "-", "*"):
+        for _ in range(180):
+            yield op, (INT64, rng.choice(large)), (INT64, rng.choice(large if rng.random() < 0.6 else integers))
+    for a, b in tied_products(rng):
+        yield "*", *rng.choice([((INT64, a), (INT64, b)), ((INT64, b), (INT64, a))])
+    for kind in (INT32, INT64):
+        yield "/", (kind, -(2 ** (WIDTH[kind] - 1))), (kind, -1)
+
+
+def beyond_cases(rng):
+    for op, a, b in beyond(rng):
+        group = next(i for i, ops in enumerate(GROUPS) if op in ops)
+        (ka, va), (kb, vb) = raw(a), raw(b)
+        yield bytes([group, GROUPS[group].index(op), ka, kb]) + struct.pack("<QQ", va, vb), answer(op, a, b)
+
+
 def literals(rng):
     """A literal's value by Python's own reading of the decimal, which is rounded once."""
     cases = [(10, 22), (1, 22), (1, -22), (0, 0), (0, 22), (0, -22), (999999999999999, 22), (999999999999999, -22), (1, -1), (3, -1), (123456789012345, -7), (42, 0), (9007199254740, 3)]
@@ -198,7 +285,7 @@ def patterns(rng):
 def main():
     here = Path(__file__).resolve().parent.parent / "crates" / "number_test"
     rng = random.Random(4)
-    cases = [*operators(rng), *literals(rng), *patterns(rng)]
+    cases = [*operators(rng), *literals(rng), *patterns(rng), *beyond_cases(random.Random(6))]
     (here / "stdin").write_bytes(b"".join(struct.pack("<I", len(part)) + part for part, _ in cases))
     (here / "stdout").write_text("".join(row + "\n" for _, row in cases))
 

@@ -1,10 +1,12 @@
 #!/usr/bin/env python3
-"""run_vectors.py [VECTORS]: writes crates/interpreter_test/stdin and stdout from VECTORS/run.txt, 01-run.txt and 02-run.txt, document 01's own runs, and runs at the limits that the documents name.
+"""run_vectors.py [VECTORS]: writes crates/interpreter_test/stdin and stdout from VECTORS/run.txt, 01-run.txt, 02-run.txt and 06-run.txt, document 01's own runs, and runs at the limits that the documents name.
 
-A vector's answer is its own. Those of the other cases follow from the documents' sentences, which are named beside them."""
+A vector's answer is its own, and is held to evaluate.py. Those of the other cases follow from the documents' sentences, which are named beside them."""
 import struct
 import sys
 from pathlib import Path
+
+import evaluate
 
 OP42 = bytes.fromhex("0F0000000100010009000100024F702A000000")
 E = bytes.fromhex("0400000001000000")
@@ -78,13 +80,32 @@ def sizes():
     yield folded, cab(name + b"s"), "0 0 false 5"
 
 
+def meters():
+    # document 02, request 6: "The example with 9223372036854775807L turns from bottom to false."
+    most = 2**63 - 1
+    yield table([(2, 0, most), (1, 0, 1), (25, 0, 0), (1, 0, 0), EQUAL], b""), E, "0 0 false 5"
+    # "`Meter > 1.5` gives bottom": the odometer of int64 beyond 2^53, beside 1.5, the infinities, NaN and the reals next to it
+    odometer = struct.pack("<IHH", 4 + 18, 1, 1) + struct.pack("<HHB", 16, 2, 5) + b"Meter" + struct.pack("<q", 2**53 + 1)
+    meter, real = (5, 5, 0), lambda x: (3, 0, struct.unpack("<Q", struct.pack("<d", x))[0])
+    for op, x, verdict in ((36, 1.5, "true"), (34, float("inf"), "true"), (36, float("-inf"), "true"), (32, 2.0**53, "false"), (36, 2.0**53, "true"), (34, 2.0**53 + 2, "true"),
+                           (32, float("nan"), "false"), (35, float("nan"), "false")):
+        yield table([meter, real(x), (op, 0, 0)], b"Meter"), odometer, "0 0 %s 3" % verdict
+    # "the integer is rounded to the nearest f64, ties to even": 2^53 + 1 is a tie
+    yield table([meter, real(0.0), (25, 0, 0), real(2.0**53), EQUAL], b"Meter"), odometer, "0 0 true 5"
+    # "`equals` included"
+    yield table([meter, real(2.0**53), real(2.0**53 + 2), (59, 2, 0)], b"Meter"), odometer, "0 0 false 4"
+
+
 def main(vectors=Path(__file__).resolve().with_name("vectors")):
     here = Path(__file__).resolve().parent.parent / "crates" / "interpreter_test"
-    rows = [*cases(), *wildcards(), *sizes()]
-    for name in ("run.txt", "01-run.txt", "02-run.txt"):
+    rows = [*cases(), *wildcards(), *sizes(), *meters()]
+    for name in ("run.txt", "01-run.txt", "02-run.txt", "06-run.txt"):
         for line in (Path(vectors) / name).read_text().splitlines():
             t, notice, *answer = line.split()
-            rows.append((*(b"" if s == "-" else bytes.fromhex(s) for s in (t, notice)), " ".join(answer)))
+            rows.append((evaluate.plain(t), evaluate.plain(notice), " ".join(answer)))
+    for t, notice, answer in rows:
+        if evaluate.answer_of(t, notice, answer) != answer:
+            sys.exit("run_vectors.py: %s on %s: %s" % (t.hex(), notice.hex(), answer))
     (here / "stdin").write_bytes(b"".join(struct.pack("<I", len(s)) + s for row in rows for s in row[:2]))
     (here / "stdout").write_text("".join(row[2] + "\n" for row in rows))
 

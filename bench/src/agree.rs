@@ -2,6 +2,7 @@
 
 use crate::hostile;
 use crate::load::{self, Dice};
+use crate::meters;
 use bench::{expert, ours, translate};
 
 const TOKENS: [&str; 64] = [
@@ -193,6 +194,16 @@ fn size(dice: &mut Dice) -> Vec<u8> {
     hostile::table(&entries, &text)
 }
 
+/// Both sides on a table that passes the check, on no fields.
+fn same_run(table: &[u8]) {
+    assert!(ours::check(table), "{table:?}");
+    assert_eq!(
+        ours::guarded(table, &hostile::EMPTY),
+        expert::guarded(table, &hostile::EMPTY),
+        "{table:?}"
+    );
+}
+
 pub fn agree(cases: usize) {
     let mut dice = Dice(0xdead_beef_cafe_f00d);
     let notices: Vec<Vec<u8>> = SIZES.map(load::notice).to_vec();
@@ -207,6 +218,7 @@ pub fn agree(cases: usize) {
                 "{table:?}"
             );
         }
+        same_run(&meters::any(&mut dice));
         let t = text(&mut dice);
         let room = if dice.next(50) == 0 {
             dice.next(600)

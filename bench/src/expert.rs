@@ -1,6 +1,6 @@
 //! The router core as an expert would write it for speed in Rust: entries decoded once into a compact
 //! enum, stack in an array that is not initialised, no allocation, no test that a check has made already.
-//! Same answers as document 01 asks; written for this benchmark only.
+//! Same answers as documents 01 and 02 ask; written for this benchmark only.
 
 use crate::wildcard;
 use std::mem::MaybeUninit;
@@ -518,13 +518,16 @@ pub enum Slot {
 
 const _: () = assert!(std::mem::size_of::<Ins>() == 16 && std::mem::size_of::<Slot>() == 16);
 
+/// Up to this size every integer is an f64.
 const EXACT: i64 = 1 << 53;
+/// 2^63: int64 goes from its negation up to it, itself left out.
+const END: f64 = 9223372036854775808.0;
 
 #[inline(always)]
 fn as_real(s: Slot) -> Option<f64> {
     match s {
         Slot::Int32(x) => Some(x as f64),
-        Slot::Int64(x) if (-EXACT..=EXACT).contains(&x) => Some(x as f64),
+        Slot::Int64(x) => Some(x as f64),
         Slot::Real(x) => Some(x),
         _ => None,
     }
@@ -557,10 +560,35 @@ fn order(
     if let (Some(a), Some(b)) = (as_int(x), as_int(y)) {
         return of_bool(ints(a, b));
     }
-    if let (Some(a), Some(b)) = (as_real(x), as_real(y)) {
-        return of_bool(reals(a, b));
+    match (x, y) {
+        (Slot::Real(a), Slot::Real(b)) => of_bool(reals(a, b)),
+        (Slot::Int32(a), Slot::Real(b)) => of_bool(reals(a as f64, b)),
+        (Slot::Real(a), Slot::Int32(b)) => of_bool(reals(a, b as f64)),
+        (Slot::Int64(a), Slot::Real(b)) => of_bool(exactly(a, b, ints, reals)),
+        (Slot::Real(a), Slot::Int64(b)) => {
+            of_bool(exactly(b, a, |b, a| ints(a, b), |b, a| reals(a, b)))
+        }
+        _ => BOTTOM,
     }
-    BOTTOM
+}
+
+/// An int64 beside a real by exact value. A real in the range of int64 beside an integer over 2^53 in size is whole, or so far below
+/// it that its fraction does not tell; one out of that range lies to the integer as to 0.
+#[inline(always)]
+fn exactly(
+    n: i64,
+    x: f64,
+    ints: impl Fn(i64, i64) -> bool,
+    reals: impl Fn(f64, f64) -> bool,
+) -> bool {
+    if (-EXACT..=EXACT).contains(&n) {
+        return reals(n as f64, x);
+    }
+    if (-END..END).contains(&x) {
+        // SAFETY: x is in the range of int64
+        return ints(n, unsafe { x.to_int_unchecked() });
+    }
+    reals(0.0, x)
 }
 
 #[inline(always)]
@@ -689,12 +717,10 @@ fn narrow(z: i64) -> Slot {
     }
 }
 
-#[inline(always)]
-fn wide(z: Option<i64>) -> Slot {
-    match z {
-        Some(z) => Slot::Int64(z),
-        None => Slot::Missing,
-    }
+/// The nearest real of a result beyond int64.
+#[cold]
+fn beyond(z: i128) -> Slot {
+    Slot::Real(z as f64)
 }
 
 #[inline(always)]
@@ -703,13 +729,17 @@ fn arithmetic(
     y: Slot,
     small: impl Fn(i64, i64) -> i64,
     large: impl Fn(i64, i64) -> Option<i64>,
+    exact: impl Fn(i128, i128) -> i128,
     real: impl Fn(f64, f64) -> Option<f64>,
 ) -> Slot {
     if let (Slot::Int32(a), Slot::Int32(b)) = (x, y) {
         return narrow(small(a as i64, b as i64));
     }
     if let (Some(a), Some(b)) = (as_int(x), as_int(y)) {
-        return wide(large(a, b));
+        return match large(a, b) {
+            Some(z) => Slot::Int64(z),
+            None => beyond(exact(a as i128, b as i128)),
+        };
     }
     if let (Some(a), Some(b)) = (as_real(x), as_real(y)) {
         return match real(a, b) {
@@ -870,7 +900,14 @@ pub unsafe fn run(p: &Program, notice: &[u8]) -> (u8, usize) {
             Ins::Mul => binary!(
                 x,
                 y,
-                arithmetic(x, y, |a, b| a * b, i64::checked_mul, |a, b| Some(a * b))
+                arithmetic(
+                    x,
+                    y,
+                    |a, b| a * b,
+                    i64::checked_mul,
+                    |a, b| a * b,
+                    |a, b| Some(a * b)
+                )
             ),
             Ins::Div => binary!(
                 x,
@@ -878,7 +915,15 @@ pub unsafe fn run(p: &Program, notice: &[u8]) -> (u8, usize) {
                 if is_zero(y) {
                     Slot::Missing
                 } else {
-                    arithmetic(x, y, |a, b| a / b, i64::checked_div, |a, b| Some(a / b))
+                    arithmetic(
+                        x,
+                        y,
+                        |a, b| a / b,
+                        i64::checked_div,
+                        // the least int64 by -1, and no other quotient
+                        |a, _| -a,
+                        |a, b| Some(a / b),
+                    )
                 }
             ),
             Ins::Rem => binary!(
@@ -892,6 +937,7 @@ pub unsafe fn run(p: &Program, notice: &[u8]) -> (u8, usize) {
                         y,
                         |a, b| a % b,
                         |a, b| Some(a.wrapping_rem(b)),
+                        |_, _| 0,
                         |_, _| None,
                     )
                 }
@@ -899,12 +945,26 @@ pub unsafe fn run(p: &Program, notice: &[u8]) -> (u8, usize) {
             Ins::Add => binary!(
                 x,
                 y,
-                arithmetic(x, y, |a, b| a + b, i64::checked_add, |a, b| Some(a + b))
+                arithmetic(
+                    x,
+                    y,
+                    |a, b| a + b,
+                    i64::checked_add,
+                    |a, b| a + b,
+                    |a, b| Some(a + b)
+                )
             ),
             Ins::Sub => binary!(
                 x,
                 y,
-                arithmetic(x, y, |a, b| a - b, i64::checked_sub, |a, b| Some(a - b))
+                arithmetic(
+                    x,
+                    y,
+                    |a, b| a - b,
+                    i64::checked_sub,
+                    |a, b| a - b,
+                    |a, b| Some(a - b)
+                )
             ),
             Ins::Eq => binary!(x, y, Slot::Truth(equal(pool, notice, x, y))),
             Ins::Ne => binary!(x, y, Slot::Truth(2 - equal(pool, notice, x, y))),

@@ -8,6 +8,7 @@ mod clock;
 mod doors;
 mod hostile;
 mod load;
+mod meters;
 mod program;
 mod quorum;
 mod strings;
@@ -270,5 +271,6 @@ fn main() {
     translation(pace);
     strings::rows(pace);
     doors::rows(pace);
+    meters::rows(pace);
     program::rates(records);
 }

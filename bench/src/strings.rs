@@ -16,7 +16,7 @@ pub fn rows(pace: Pace) {
 }
 
 /// A row of the guarded run of a table, in its own unit: `unit` nanoseconds, of each of `ops` operators.
-fn guarded(name: &str, table: &[u8], notice: &[u8], pace: Pace, unit: f64, ops: usize) {
+pub fn guarded(name: &str, table: &[u8], notice: &[u8], pace: Pace, unit: f64, ops: usize) {
     assert_eq!(
         ours::guarded(table, notice),
         expert::guarded(table, notice),
@@ -41,7 +41,7 @@ fn guarded(name: &str, table: &[u8], notice: &[u8], pace: Pace, unit: f64, ops: 
 }
 
 /// A row of the inner run of a table, in nanoseconds of each of `ops` operators.
-fn inner(name: &str, table: &[u8], notice: &[u8], pace: Pace, ops: usize) {
+pub fn inner(name: &str, table: &[u8], notice: &[u8], pace: Pace, ops: usize) {
     let mut code = expert::no_code();
     let p = expert::decode(table, &mut code).unwrap();
     assert_eq!(expert::check_notice(notice), None);

@@ -74,10 +74,10 @@ fn truth(verdict: virentolex::Verdict) -> Truth {
 }
 
 /// The kinds in turn, by the case's number.
-const KINDS: [&str; 23] = [
+const KINDS: [&str; 24] = [
     "text", "table", "notice", "write", "text", "operator", "text", "notice", "text", "table",
     "text", "write", "text", "table", "notice", "text", "write", "text", "table", "quorum",
-    "wildcard", "size", "ubf",
+    "wildcard", "size", "ubf", "meter",
 ];
 /// So many operators are tried in one case of theirs.
 const OPERATORS: usize = 20;
@@ -104,6 +104,7 @@ impl Case<'_> {
             "wildcard" => self.wildcard(),
             "size" => self.size(),
             "ubf" => self.ubf(),
+            "meter" => self.meter(),
             "operator" => (0..OPERATORS).try_for_each(|_| self.operator()),
             _ => self.program(),
         }
@@ -488,8 +489,8 @@ mod tests {
         assert_eq!(
             kinds,
             [
-                "notice", "operator", "program", "quorum", "size", "table", "text", "ubf", "wildcard",
-                "write"
+                "meter", "notice", "operator", "program", "quorum", "size", "table", "text",
+                "ubf", "wildcard", "write"
             ]
         );
     }

@@ -2,6 +2,7 @@
 //! where an entry is visited in a run that was not refused and whose answers agree.
 
 use crate::edges::word;
+use crate::meter_corners::METERS;
 use crate::operands::*;
 use crate::size_corners::SIZES;
 use crate::wildcard_corners::WILDCARDS;
@@ -237,6 +238,7 @@ fn all() -> impl Iterator<Item = &'static Corner> {
         .chain(&NAMES)
         .chain(&WILDCARDS)
         .chain(&SIZES)
+        .chain(&METERS)
 }
 
 fn name_of(corner: &Corner, op: Op) -> String {

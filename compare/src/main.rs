@@ -11,6 +11,8 @@ mod decisions;
 mod edges;
 mod expressions;
 mod inputs;
+mod meter_corners;
+mod meters;
 mod notices;
 mod operands;
 mod operations;

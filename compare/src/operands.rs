@@ -43,14 +43,14 @@ pub fn is_number(slot: &Slot) -> bool {
     is_whole(slot) || is_real(slot)
 }
 
-fn real(slot: &Slot) -> Option<f64> {
+pub fn real(slot: &Slot) -> Option<f64> {
     match value(slot) {
         Some(Value::Real64(x)) => Some(*x),
         _ => None,
     }
 }
 
-fn whole(slot: &Slot) -> Option<i64> {
+pub fn whole(slot: &Slot) -> Option<i64> {
     match value(slot) {
         Some(Value::Int32(n)) => Some(i64::from(*n)),
         Some(Value::Int64(n)) => Some(*n),

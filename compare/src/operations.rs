@@ -14,6 +14,11 @@ pub fn on_numbers(random: &mut Random) -> Vec<u8> {
         0 => corner(random),
         _ => (random.pick(&OPS[5..25]), number(random), number(random)),
     };
+    told(random, op, left, right)
+}
+
+/// The table of the operator on the numbers, with what its result is told by.
+pub fn told(random: &mut Random, op: Op, left: Value, right: Value) -> Vec<u8> {
     let mut entries = vec![pushed(&left)];
     let result = if op.code() <= Op::Complement.code() {
         unary(op, Some(left))
@@ -105,7 +110,7 @@ fn of_type(value: i64) -> Value {
 }
 
 /// The integer of either type, as it fits.
-fn whole(random: &mut Random, value: i64) -> Value {
+pub fn whole(random: &mut Random, value: i64) -> Value {
     match random.below(2) {
         0 => of_type(value),
         _ => Value::Int64(value),

@@ -31,8 +31,8 @@ const WORDS: [(&str, &[&str]); 11] = [
     (
         "case",
         &[
-            "text", "table", "operator", "notice", "write", "program", "quorum", "wildcard", "size",
-            "ubf",
+            "text", "table", "operator", "notice", "write", "program", "quorum", "wildcard",
+            "size", "ubf", "meter",
         ],
     ),
     ("verdict", &["True", "False", "Bottom"]),

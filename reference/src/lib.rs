@@ -4,6 +4,7 @@
 #![forbid(unsafe_code)]
 
 pub mod compile;
+pub mod exact;
 pub mod grammar;
 pub mod judge;
 pub mod meaning;

@@ -87,7 +87,8 @@ mod tests {
             ("2 + 3 * 4 & 6 == 14", &E, Truth::True),
             ("-7 / 2 == -3", &E, Truth::True),
             ("2147483647 + 1 == 2147483648L", &E, Truth::True),
-            ("9223372036854775807L + 1 == 0", &E, Truth::Bottom),
+            // document 02, request 6: "The example with 9223372036854775807L turns from bottom to false."
+            ("9223372036854775807L + 1 == 0", &E, Truth::False),
             ("-1 >>> 28 == 15", &E, Truth::True),
             ("1 / 0 == 0 || 1 == 1", &E, Truth::True),
             ("Op == 42", &E, Truth::Bottom),

@@ -1,8 +1,10 @@
 //! "Meaning": values, truth values, and what each operator and function gives.
 
+use crate::exact::{beside, nearest};
 use crate::op::Op;
 use crate::utf8::characters;
 use crate::wildcard::Pattern;
+use std::cmp::Ordering;
 
 #[derive(Clone, Copy, PartialEq, Eq, Debug)]
 pub enum Truth {
@@ -91,7 +93,7 @@ fn compute(op: Op, left: &Value, right: &Value) -> Option<Value> {
     }
 }
 
-/// A pair of numbers as the operators take them.
+/// A pair of numbers as arithmetic takes them.
 enum Pair {
     /// Two integers, and whether both are int32.
     Whole(i128, i128, bool),
@@ -107,18 +109,16 @@ fn whole(value: &Value) -> Option<i64> {
     }
 }
 
-/// "With a real, the other side becomes real if its size is at most 2^53, else bottom, also in
-/// comparisons."
+/// Document 02, request 6: "In arithmetic with a real the integer is rounded to the nearest f64, ties to
+/// even."
 fn real(value: &Value) -> Option<f64> {
     match value {
         Value::Real64(x) => Some(*x),
-        _ => whole(value)
-            .filter(|n| n.unsigned_abs() <= 1 << 53)
-            .map(|n| n as f64),
+        _ => whole(value).map(|n| nearest(n.into())),
     }
 }
 
-/// Two numbers made alike; none if one side is no number or cannot become real.
+/// Two numbers made alike; none if one side is no number.
 fn pair(left: &Value, right: &Value) -> Option<Pair> {
     if let (Some(a), Some(b)) = (whole(left), whole(right)) {
         let short = matches!((left, right), (Value::Int32(_), Value::Int32(_)));
@@ -129,7 +129,7 @@ fn pair(left: &Value, right: &Value) -> Option<Pair> {
 
 fn arithmetic(op: Op, left: &Value, right: &Value) -> Option<Value> {
     match pair(left, right)? {
-        Pair::Whole(a, b, short) => typed(exact(op, a, b)?, short),
+        Pair::Whole(a, b, short) => Some(typed(exact(op, a, b)?, short)),
         Pair::Real(a, b) => real_result(op, a, b).map(Value::Real64),
     }
 }
@@ -146,11 +146,14 @@ fn exact(op: Op, a: i128, b: i128) -> Option<i128> {
     }
 }
 
-/// "The result is int32 if both are int32 and it fits, else int64, else bottom."
-fn typed(result: i128, short: bool) -> Option<Value> {
-    match i32::try_from(result) {
-        Ok(n) if short => Some(Value::Int32(n)),
-        _ => i64::try_from(result).ok().map(Value::Int64),
+/// "The result is int32 if both are int32 and it fits, else int64", else by document 02, request 6: "An
+/// integer result of `+ - * /` outside int64 becomes the nearest f64, ties to even". A rest is never
+/// outside.
+fn typed(result: i128, short: bool) -> Value {
+    match (i32::try_from(result), i64::try_from(result)) {
+        (Ok(n), _) if short => Value::Int32(n),
+        (_, Ok(n)) => Value::Int64(n),
+        _ => Value::Real64(nearest(result)),
     }
 }
 
@@ -208,27 +211,32 @@ fn compare(op: Op, left: &Value, right: &Value) -> Truth {
     }
 }
 
-/// "`== !=`: string with string by bytes, number with number; otherwise bottom." "NaN equals nothing",
-/// "Zeros of both signs are equal": f64's own comparison.
+/// How two numbers lie: integers and reals each by their own comparison, in which "NaN equals nothing" and
+/// "Zeros of both signs are equal"; document 02, request 6: "An integer and a real are to be compared by
+/// exact value". The inner answer is none beside NaN, the outer if one side is no number.
+fn ordering(left: &Value, right: &Value) -> Option<Option<Ordering>> {
+    match (left, right) {
+        (Value::Real64(a), Value::Real64(b)) => Some(a.partial_cmp(b)),
+        (Value::Real64(a), _) => Some(beside(whole(right)?, *a).map(Ordering::reverse)),
+        (_, Value::Real64(b)) => Some(beside(whole(left)?, *b)),
+        _ => Some(Some(whole(left)?.cmp(&whole(right)?))),
+    }
+}
+
+/// "`== !=`: string with string by bytes, number with number; otherwise bottom."
 fn equal(left: &Value, right: &Value) -> Truth {
     if let (Value::Text(a), Value::Text(b)) = (left, right) {
         return truth(a == b);
     }
-    match pair(left, right) {
-        None => Bottom,
-        Some(Pair::Whole(a, b, _)) => truth(a == b),
-        Some(Pair::Real(a, b)) => truth(a == b),
-    }
+    ordering(left, right).map_or(Bottom, |known| truth(known == Some(Ordering::Equal)))
 }
 
 /// "Order: numbers only. NaN .. orders with nothing (false)."
 fn order(op: Op, left: &Value, right: &Value) -> Truth {
-    let ordering = match pair(left, right) {
-        None => return Bottom,
-        Some(Pair::Whole(a, b, _)) => a.partial_cmp(&b),
-        Some(Pair::Real(a, b)) => a.partial_cmp(&b),
+    let Some(known) = ordering(left, right) else {
+        return Bottom;
     };
-    truth(ordering.is_some_and(|ordering| match op {
+    truth(known.is_some_and(|ordering| match op {
         Op::Less => ordering.is_lt(),
         Op::LessEqual => ordering.is_le(),
         Op::Greater => ordering.is_gt(),
@@ -349,7 +357,10 @@ mod tests {
             "Some(Int64(2147483648))"
         );
         assert_eq!(least(Op::Rest, short, minus()), "Some(Int32(0))");
-        assert_eq!(least(Op::Divide, long.clone(), minus()), "None");
+        let over = "Some(Real64(9.223372036854776e18))";
+        assert_eq!(least(Op::Divide, long.clone(), minus()), over);
+        assert_eq!(least(Op::Times, minus(), long.clone()), over);
+        assert_eq!(least(Op::Minus, Value::Int32(0), long.clone()), over);
         assert_eq!(least(Op::Rest, long, minus()), "Some(Int64(0))");
     }
 
@@ -366,14 +377,24 @@ mod tests {
     }
 
     #[test]
-    fn large_integers_beside_reals_are_bottom() {
+    fn large_integers_beside_reals_are_compared_exactly() {
         let beside = |n: i64| equal(&Value::Int64(n), &Value::Real64(9007199254740992.0));
         assert_eq!(beside(1 << 53), True);
         assert_eq!(beside((1 << 53) - 1), False);
-        assert_eq!(beside((1 << 53) + 1), Bottom);
+        assert_eq!(beside((1 << 53) + 1), False);
+        let most = Value::Int64(i64::MAX);
+        let over = Value::Real64(9223372036854775808.0);
+        assert_eq!(equal(&most, &over), False);
+        assert_eq!(compare(Op::Unequal, &over, &most), True);
+        assert_eq!(order(Op::Less, &most, &over), True);
+        assert_eq!(order(Op::LessEqual, &over, &most), False);
+        assert_eq!(order(Op::Greater, &most, &Value::Real64(1.5)), True);
+        let nan = Value::Real64(f64::NAN);
+        assert_eq!(equal(&most, &nan), False);
+        assert_eq!(order(Op::GreaterEqual, &nan, &most), False);
         assert_eq!(
-            equal(&Value::Int64(i64::MAX), &Value::Real64(f64::NAN)),
-            Bottom
+            many(Op::Equals, Some(most), vec![Some(over), Some(nan)]),
+            False
         );
     }
 
@@ -403,6 +424,33 @@ mod tests {
             let folded = fold_case(text.clone()).unwrap();
             assert_eq!(told(folded), told(text));
         }
+    }
+
+    #[test]
+    fn a_result_beyond_int64_is_the_nearest_real() {
+        let gives = |op, a: i64, b: i64| match arithmetic(op, &Value::Int64(a), &Value::Int64(b)) {
+            Some(Value::Real64(x)) => x,
+            other => panic!("{other:?}"),
+        };
+        // 2^63 + 1024 is half way to the next, 2^63 + 2048
+        assert_eq!(gives(Op::Plus, i64::MAX, 1025), 9223372036854775808.0);
+        assert_eq!(gives(Op::Plus, i64::MAX, 1026), 9223372036854777856.0);
+        assert_eq!(gives(Op::Minus, i64::MIN, 1024), -9223372036854775808.0);
+        assert_eq!(gives(Op::Minus, i64::MIN, 3072), -9223372036854779904.0);
+        // 2^126 - 2^64 + 1 and 2^126
+        assert_eq!(gives(Op::Times, i64::MAX, i64::MAX), 2f64.powi(126));
+        assert_eq!(gives(Op::Times, i64::MIN, i64::MIN), 2f64.powi(126));
+        assert_eq!(gives(Op::Times, i64::MIN, i64::MAX), -(2f64.powi(126)));
+    }
+
+    #[test]
+    fn beside_a_real_the_integer_is_rounded_first() {
+        let sum = |n: i64, x: f64| arithmetic(Op::Plus, &Value::Int64(n), &Value::Real64(x));
+        // 2^53 + 1 lies half way and goes down; the exact sum 2^53 + 2 is never formed
+        let Some(Value::Real64(x)) = sum((1 << 53) + 1, 1.0) else {
+            panic!("no real");
+        };
+        assert_eq!(x, 9007199254740992.0);
     }
 
     #[test]

@@ -16,6 +16,7 @@
 //!   place, count, reached
 //! - `05-read.txt`: UBF(A) text, buffer length, number, place, notice
 //! - `05-write.txt`: notice, buffer length, number, place, UBF(A) text
+//! - `06-run.txt`: as `run.txt`, of tables with integers beside reals and results beyond int64
 
 use crate::quorum::{self, Decision, Shown};
 use crate::wildcard::Pattern;
@@ -37,7 +38,7 @@ pub fn agree(file: &str, lines: &str) -> Result<usize, String> {
 fn answer(file: &str, words: &[&str]) -> Option<(usize, String)> {
     match (file, words.len()) {
         ("translate.txt" | "01-translate.txt", 5) => Some((2, translate(words)?)),
-        ("run.txt" | "01-run.txt" | "02-run.txt", 6) => Some((2, run(words)?)),
+        ("run.txt" | "01-run.txt" | "02-run.txt" | "06-run.txt", 6) => Some((2, run(words)?)),
         ("01-check.txt", 2) => Some((1, crate::check(&bytes(words[0])?).to_string())),
         ("01-patterns.txt", 4) => Some((2, pattern(words)?)),
         ("read.txt", 7) => Some((2, read(words)?)),

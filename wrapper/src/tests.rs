@@ -91,7 +91,8 @@ fn the_cases_of_the_meaning() {
         ("2 + 3 * 4 & 6 == 14", True),
         ("-7 / 2 == -3", True),
         ("2147483647 + 1 == 2147483648L", True),
-        ("9223372036854775807L + 1 == 0", Bottom),
+        // document 02, request 6: "turns from bottom to false"
+        ("9223372036854775807L + 1 == 0", False),
         ("-1 >>> 28 == 15", True),
         ("1 / 0 == 0 || 1 == 1", True),
     ];
@@ -265,6 +266,41 @@ fn the_whole_cab_number_fits_a_pattern() {
     ill_formed[66] = b'[';
     assert_eq!(check(&ill_formed), 12);
     assert_eq!(run(&ill_formed, &EMPTY_NOTICE).number, 12);
+}
+
+/// A notice of the int64 field `Meter`.
+fn meter(value: i64) -> Vec<u8> {
+    let mut buffer = EMPTY_NOTICE.to_vec();
+    buffer.resize(EMPTY_NOTICE.len() + 18, 0);
+    let bytes = value.to_le_bytes();
+    let w = write(&mut buffer, 8, b"Meter", kind::INT64, &bytes);
+    assert_eq!((w.number, w.length), (0, 26));
+    buffer
+}
+
+#[test]
+fn meters_beyond_2_to_the_53() {
+    use Verdict::{Bottom, False, True};
+    let over = (1 << 53) + 1;
+    let cases = [
+        // "`Meter > 1.5` gives bottom"; now "by exact value"
+        ("Meter > 1.5", over, True),
+        ("Meter <= 1.0e22", i64::MAX, True),
+        ("Meter == 9.0e18", 9_000_000_000_000_000_000, True),
+        ("equals (Meter, 9.0e18)", 9_000_000_000_000_000_001, False),
+        // "In arithmetic with a real the integer is rounded to the nearest f64, ties to even."
+        ("Meter - 0.0 == 9007199254740992L", over, True),
+        ("Meter - 0.0 == 9007199254740996L", over + 2, True),
+        // "An integer result of `+ - * /` outside int64 becomes the nearest f64, ties to even"
+        ("Meter + 1 > Meter", i64::MAX, True),
+        ("Meter / -1 - 0.0 == Meter * -1", i64::MIN, True),
+        ("Meter * Meter == Meter * Meter + 1.0", i64::MAX, True),
+        ("Meter % -1 == 0", i64::MIN, True),
+        ("Meter / 0 == 0", i64::MAX, Bottom),
+    ];
+    for (text, value, expected) in cases {
+        assert_eq!(verdict(text, &meter(value)).0, expected, "{text}");
+    }
 }
 
 #[test]

@@ -1,5 +1,6 @@
 -- The theorems that specs/Theorems.antt states, by computing each case. Assumes nothing.
 use mathlib.Core.Path.{refl}
+use lib.Ieee.{ofInt, eq}
 use Rattle.word.specs.Word.{wordAt}
 use Rattle.notice.specs.Layout.{startsFrom}
 use Rattle.lexer.specs.Token.{scanOf, tokensFrom, tokensOf}
@@ -10,7 +11,7 @@ use Rattle.meaning.specs.Meaning.{itemOf}
 use Rattle.meaning.specs.Theorems.{PCases, CabCases}
 
 pub p-cases : PCases
-unfolding wordAt startsFrom scanOf tokensFrom tokensOf rank level levelOf parseAll itemOf
+unfolding ofInt eq wordAt startsFrom scanOf tokensFrom tokensOf rank level levelOf parseAll itemOf
 p-cases = (refl, (refl, (refl, (refl, (refl, (refl, (refl, (refl, (refl, (refl, (refl, tt)))))))))))
 
 pub cab-cases : CabCases

@@ -1,4 +1,4 @@
--- Document 01's P cases, and request 1's text of document 02, of the meaning of the text itself, from its bytes. The proofs are in proofs/Theorems.antt, under the same names.
+-- Document 01's P cases, that with 9223372036854775807L as request 6 of document 02 has it ("turns from bottom to false"), and request 1's text, of the meaning of the text itself, from its bytes. The proofs are in proofs/Theorems.antt, under the same names.
 use mathlib.Core.Path.{_≡_}
 use mathlib.Core.List.{List, [], _∷_}
 use mathlib.Core.Option.{some}
@@ -31,7 +31,7 @@ cases =
     ∷ record { text = ascii "2 + 3 * 4 & 6 == 14"; notice = empty; verdict = True }
     ∷ record { text = ascii "-7 / 2 == -3"; notice = empty; verdict = True }
     ∷ record { text = ascii "2147483647 + 1 == 2147483648L"; notice = empty; verdict = True }
-    ∷ record { text = ascii "9223372036854775807L + 1 == 0"; notice = empty; verdict = Bottom }
+    ∷ record { text = ascii "9223372036854775807L + 1 == 0"; notice = empty; verdict = False }
     ∷ record { text = ascii "-1 >>> 28 == 15"; notice = empty; verdict = True }
     ∷ record { text = ascii "1 / 0 == 0 || 1 == 1"; notice = empty; verdict = True }
     ∷ []

@@ -2,12 +2,10 @@ pub mod Nans
 pub mod Table
 pub mod Tens
 pub mod Literals
-pub mod Ints
 pub mod Sums
 pub mod Products
 pub mod Quotients
 pub mod Integers
-pub mod Wholes
 pub mod Numbers
 pub mod Shifts
 pub mod Theorems

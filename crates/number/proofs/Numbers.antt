@@ -4,28 +4,32 @@ use mathlib.Core.Bool.{Bool, true, false, not, _&&_, _||_}
 use Prim.Native.Nat.{ℕ, suc, _-_, _^_, _<_, _≤_}
 use native.Mathlib.Omega.{arith}
 use lib.IntN.{ℤ, pos, negsuc, natAbs}
-use lib.Signed.{mag}
+use lib.Signed.{mag, natAbs-le}
 use lib.Dec.{eqb}
-use lib.Ieee.{Float, binary64, ofBits}
+use lib.Ieee.{Float, binary64, eq, ofInt, ofBits}
 use mir.Syntax.{Width, w32, w64}
 use mir.Val.{bits, hbits, SFits, toZ, ofZ}
 use mir.ValLaws.{toZ-ofZ, pow-bits}
 use borrow.Author.Tests.{eq-eqb, ne-eqb, eqb-true, eqb-false, lt-ltb, le-ltb, ltb-true}
 use Rattle.common.proofs.Choice.{true-false}
 use Rattle.truth.specs.Truth.{ofBool}
-use Rattle.number.specs.Integer.{exactOf, equalZ, isNegative}
+use Rattle.nearest.specs.Nearest.{isNegative}
+use Rattle.number.specs.Integer.{exactOf}
 use Rattle.number.specs.Bits.{onBits, shifted}
-use Rattle.number.specs.Number.{isInt32, isInteger, isReal, integerOf, int32Of, realOf, zeroReal, typed, inArithmetic, inComparison, onReals, realArithmetic, divides, isZero, zeroDivisor, arithmeticOf, bitwiseOf, placesIn, countOf, counted, shiftOf, sidesOf, comparedBy}
+use Rattle.number.specs.Number.{isInt32, isInteger, isReal, integerOf, int32Of, realOf, zeroReal, typed, inArithmetic, onReals, realArithmetic, divides, isZero, zeroDivisor, arithmeticOf, bitwiseOf, placesIn, countOf, counted, shiftOf, valueOf, isNumber, comparedBy}
 use Rattle.number.specs.declared.Number.{Number}
 use Rattle.number.specs.declared.Number.the-variants.{Int32, Int64, Real, None}
 use Rattle.number.specs.declared.Count.{Count}
 use Rattle.number.specs.declared.Count.the-variants.{Places, Outside}
-use Rattle.number.specs.declared.Sides.{Sides}
-use Rattle.number.specs.declared.Sides.the-variants.{Integers, Reals, Neither}
 use Rattle.opcode.specs.declared.Arithmetic.{Arithmetic}
 use Rattle.opcode.specs.declared.Bitwise.{Bitwise}
 use Rattle.opcode.specs.declared.Shift.{Shift}
-use Rattle.number.proofs.Sums.{R}
+use Rattle.opcode.specs.declared.Order.{Order}
+use Rattle.mixed.specs.declared.Relation.{Relation}
+use Rattle.mixed.specs.Mixed.{exactly, orderReal, relationOf, isLevel, holdsOf, flippedOf}
+use Rattle.mixed.proofs.Compare.{Same, exact-left, exact-right, level-says, holds-says, flip-says, eq-back}
+use Rattle.nearest.proofs.Ints.{R}
+use Rattle.number.proofs.Integers.{Wide, wide-is}
 
 -- tests joined, by what the two calls answer
 pub joined : {p q x y t : Bool} → p ≡ x → q ≡ y → (p && q) ≡ t → (x && y) ≡ t
@@ -56,21 +60,6 @@ zero-bits w (negsuc n) f =
 pub zero-real : ofBits binary64 0 ≡ zeroReal
 unfolding ofBits
 zero-real = refl
-
--- two integers are the same where their bits are, over the width
-pub same-bits : (w : Width) (a b : ℤ) → SFits w a → SFits w b → eqb (ofZ w a) (ofZ w b) ≡ equalZ a b
-same-bits w (pos m) (pos n) f g = refl
-same-bits w (pos m) (negsuc n) f g =
-    let h = f .sfits in let k = g .sfits in let p = pow-bits w in ne-eqb m (2 ^ bits w - suc n) (λ e. omega arith)
-same-bits w (negsuc m) (pos n) f g =
-    let h = f .sfits in let k = g .sfits in let p = pow-bits w in ne-eqb (2 ^ bits w - suc m) n (λ e. omega arith)
-same-bits w (negsuc m) (negsuc n) f g = go (eqb m n) refl
-  where
-    go : (t : Bool) → eqb m n ≡ t → eqb (2 ^ bits w - suc m) (2 ^ bits w - suc n) ≡ t
-    go true e = let d : m ≡ n = eqb-true m n e in eq-eqb (2 ^ bits w - suc m) (2 ^ bits w - suc n) (omega arith)
-    go false e =
-        let h = f .sfits in let k = g .sfits in let p = pow-bits w in
-        ne-eqb (2 ^ bits w - suc m) (2 ^ bits w - suc n) (λ d. eqb-false m n e (omega arith))
 
 -- arithmetic
 module _ (op : Arithmetic) (a b : Number) where
@@ -204,28 +193,53 @@ module _ (width : ℕ) (b : Number) where
           omega (arith, small (integerOf b) (and-right (isInteger b) (placesIn width (integerOf b)) t))
       go false t = let s : Places k ≡ Outside = sym d ∙ rw t at e in let z : _≡_ {A = ℕ} 0 1 = cc in absurd (omega arith)
 
--- comparisons
-module _ (a b : Number) where
-  pub as-integers : (isInteger a && isInteger b) ≡ true → Integers (integerOf a) (integerOf b) ≡ sidesOf a b
-  as-integers i = rw i
+-- comparisons: a beside b, which is c, by a test of their values
+module _ (f : Float → Float → Bool) where
+  pub compared : (a c b : Number) → isNumber a ≡ true → isNumber c ≡ true → b ≡ c → {t : Bool} → t ≡ f (valueOf a) (valueOf c) → ofBool t ≡ comparedBy f a b
+  compared a c b p q e h = rw (e, h, p, q)
 
-  module _ (i : (isInteger a && isInteger b) ≡ false) (x y : Number) (ex : x ≡ inComparison a) (ey : y ≡ inComparison b) where
-    others : onReals x y Reals Neither ≡ sidesOf a b
-    others = rw (i, ex, ey)
+  -- integers that the machine reads back from their bits
+  pub reread : {x y u v : ℤ} → u ≡ x → v ≡ y → f (exactly u) (exactly v) ≡ f (exactly x) (exactly y)
+  reread p q = rw (p, q)
 
-    pub as-reals : (isReal x && isReal y) ≡ true → (u v : Float) → u ≡ realOf x → v ≡ realOf y → Reals u v ≡ sidesOf a b
-    as-reals r u v eu ev = rw (eu, ev) (rw r at others)
+  pub two-int32 : (a b : Number) → (isInt32 a && isInt32 b) ≡ true → (x y : ℤ) → SFits w32 x → SFits w32 y → x ≡ int32Of a → y ≡ int32Of b
+      → {t : Bool} → t ≡ f (exactly (Wide x)) (exactly (Wide y)) → ofBool t ≡ comparedBy f a b
+  two-int32 (Int32 u) (Int32 v) i x y fx fy ex ey h = ap ofBool (h ∙ reread (wide-is x fx ∙ ex) (wide-is y fy ∙ ey))
+  two-int32 (Int32 u) (Int64 v) i x y fx fy ex ey h = true-false (sym i)
+  two-int32 (Int32 u) (Real v) i x y fx fy ex ey h = true-false (sym i)
+  two-int32 (Int32 u) None i x y fx fy ex ey h = true-false (sym i)
+  two-int32 (Int64 u) b i x y fx fy ex ey h = true-false (sym i)
+  two-int32 (Real u) b i x y fx fy ex ey h = true-false (sym i)
+  two-int32 None b i x y fx fy ex ey h = true-false (sym i)
 
-    pub neither : (isReal x && isReal y) ≡ false → Neither ≡ sidesOf a b
-    neither r = rw r at others
+-- an int32 is a real, on either side
+int32-small : (z : ℤ) → SFits w32 z → natAbs z ≤ 2 ^ 53
+int32-small z f = omega (arith, natAbs-le z (f .sfits))
 
--- a comparison by the sides that it was given, whose integers the machine reads back from their bits
-module _ (f : ℤ → ℤ → Bool) (g : Float → Float → Bool) (s : Sides) {t : Bool} where
-  pub compared-integers : (x y : ℤ) → s ≡ Integers x y → mag x < 2 ^ 63 → mag y < 2 ^ 63 → t ≡ f (R x) (R y) → ofBool t ≡ comparedBy f g s
-  compared-integers x y e fx fy h = rw (h, toZ-ofZ w64 x (record { sfits = fx }), toZ-ofZ w64 y (record { sfits = fy }), e)
+module _ (z : ℤ) (f : SFits w32 z) where
+  pub int32-left : (x : Float) → Same (ofInt binary64 (toZ w32 (ofZ w32 z))) x (exactly z) x
+  int32-left x = rw (toZ-ofZ w32 z f) (exact-left z (int32-small z f) x)
 
-  pub compared-reals : (x y : Float) → s ≡ Reals x y → t ≡ g x y → ofBool t ≡ comparedBy f g s
-  compared-reals x y e h = rw (h, e)
+  pub int32-right : (x : Float) → Same x (ofInt binary64 (toZ w32 (ofZ w32 z))) x (exactly z)
+  int32-right x = rw (toZ-ofZ w32 z f) (exact-right z (int32-small z f) x)
+
+-- an int64 beside a real, by the relation of the two; q is what the code was told
+module _ (z : ℤ) (f : mag z < 2 ^ 63) (x : Float) (q : Relation) (e : q ≡ relationOf (exactly (R z)) x) where
+  is-relation : q ≡ relationOf (exactly z) x
+  is-relation = rw (toZ-ofZ w64 z (record { sfits = f })) at e
+
+  module _ {t : Bool} where
+    pub level-left : t ≡ isLevel q → t ≡ eq (exactly z) x
+    level-left h = h ∙ ap isLevel is-relation ∙ level-says (exactly z) x
+
+    pub level-right : t ≡ isLevel q → t ≡ eq x (exactly z)
+    level-right h = level-left h ∙ eq-back (exactly z) x
+
+    pub holds-left : (op : Order) → t ≡ holdsOf op q → t ≡ orderReal op (exactly z) x
+    holds-left op h = h ∙ ap (holdsOf op) is-relation ∙ holds-says op (exactly z) x
+
+    pub holds-right : (op o : Order) → o ≡ flippedOf op → t ≡ holdsOf o q → t ≡ orderReal op x (exactly z)
+    holds-right op o g h = holds-left o h ∙ ap (λ (p : Order). orderReal p (exactly z) x) g ∙ flip-says op x (exactly z)
 
 -- shifts, over the width: `make` is the left side's type, x its value, and c its count
 module _ (w : Width) (make : ℤ → Number) (width : ℕ) (op : Shift) (a b : Number) (x : ℤ) (c : Count) (ea : a ≡ make x) (ec : c ≡ countOf width b)

@@ -4,30 +4,21 @@ use mathlib.Core.Bool.{Bool, true, false}
 use Prim.Native.Nat.{ℕ, zero, suc, _-_, _*_, _/_, _^_, _≤_, _<_}
 use native.Mathlib.Nat.{mul-zero, le-div-iff-mul-le, div-lt-iff-lt-mul}
 use native.Mathlib.Omega.{arith}
-use lib.IntN.{ℤ, pos, negsuc, natAbs, _*ℤ_}
-use lib.Signed.{ltZ}
+use lib.IntN.{ℤ, pos, natAbs, _*ℤ_}
 use lib.Dec.{ltb}
-use lib.Ieee.{unlike}
+use lib.Ieee.{Float, unlike, neg}
+use Rattle.nearest.specs.Nearest.{nearestReal}
+use Rattle.nearest.proofs.Signed.{neg-real, product-is}
 use mir.Syntax.{w64}
-use mir.Val.{Fits, SFits, toZ, ofZ}
+use mir.Val.{Fits, SFits, toZ}
 use mir.ValLaws.{toZ-pos, toZ-neg, toZ-ofZ}
 use borrow.Author.Tests.{lt-ltb, le-ltb, ltb-false}
 use Rattle.number.specs.Integer.{isNegative, signedOf}
 use Rattle.number.specs.Number.{typed, magnitudeOf}
-use Rattle.number.specs.declared.Number.the-variants.{Int64, None}
+use Rattle.number.specs.declared.Number.the-variants.{Int64, Real}
 use Rattle.number.specs.declared.integer.Magnitude.{Magnitude}
 use Rattle.number.specs.declared.integer.Magnitude.the-variants as M
-use Rattle.number.proofs.Sums.{R}
-
-product-is : (a b : ℤ) → a *ℤ b ≡ signedOf (unlike (isNegative a) (isNegative b)) (natAbs a * natAbs b)
-product-is (pos a) (pos b) = refl
-product-is (pos a) (negsuc b) = refl
-product-is (negsuc a) (pos b) = refl
-product-is (negsuc a) (negsuc b) = refl
-
-pub negative-is : (z : ℤ) → ltZ z (pos 0) ≡ isNegative z
-negative-is (pos n) = le-ltb n 0 (omega arith)
-negative-is (negsuc n) = refl
+use Rattle.nearest.proofs.Ints.{R}
 
 -- what `signed` returns, by its tests
 module _ (n : Bool) (m : ℕ) where
@@ -48,23 +39,23 @@ module _ (n : Bool) (m : ℕ) where
           let l : k < 2 ^ 63 = omega arith in
           rw (e, toZ-neg w64 k l, lt-ltb k (2 ^ 63) l)
 
-  pub signed-beneath : n ≡ true → 2 ^ 63 ≤ m - 1 → None ≡ typed false (signedOf n m)
-  signed-beneath t h = rw t (at m h)
+  pub signed-beneath : n ≡ true → 2 ^ 63 ≤ m - 1 → (x : Float) → x ≡ nearestReal (pos m) → Real (neg x) ≡ typed false (signedOf n m)
+  signed-beneath t h x e = ap (λ y. Real (neg y)) e ∙ rw t (ap Real (neg-real m (omega arith)) ∙ at m h)
     where
-      at : (m : ℕ) → 2 ^ 63 ≤ m - 1 → None ≡ typed false (signedOf true m)
+      at : (m : ℕ) → 2 ^ 63 ≤ m - 1 → Real (nearestReal (signedOf true m)) ≡ typed false (signedOf true m)
       at zero h = absurd (omega arith)
       at (suc k) h = rw (le-ltb k (2 ^ 63) (omega arith))
 
   pub signed-kept : n ≡ false → m < 2 ^ 63 → Int64 (toZ w64 m) ≡ typed false (signedOf n m)
   signed-kept t h = rw (t, toZ-pos w64 m h, lt-ltb m (2 ^ 63) h)
 
-  pub signed-above : n ≡ false → 2 ^ 63 ≤ m → None ≡ typed false (signedOf n m)
-  signed-above t h = rw (t, le-ltb m (2 ^ 63) h)
+  pub signed-above : n ≡ false → 2 ^ 63 ≤ m → (x : Float) → x ≡ nearestReal (pos m) → Real x ≡ typed false (signedOf n m)
+  signed-above t h x e = ap Real e ∙ rw (t, le-ltb m (2 ^ 63) h)
 
 -- a magnitude past 2 ^ 63 fits under neither sign
-too-large : (n : Bool) (m : ℕ) → 2 ^ 63 < m → None ≡ typed false (signedOf n m)
-too-large true m h = signed-beneath true m refl (omega arith)
-too-large false m h = signed-above false m refl (omega arith)
+too-large : (n : Bool) (m : ℕ) → 2 ^ 63 < m → Real (nearestReal (signedOf n m)) ≡ typed false (signedOf n m)
+too-large true m h = ap Real (sym (neg-real m (omega arith))) ∙ signed-beneath true m refl (omega arith) (nearestReal (pos m)) refl
+too-large false m h = signed-above false m refl (omega arith) (nearestReal (pos m)) refl
 
 -- what `product` returns, by its tests: m times n is past 64 bits exactly where the most of 64 bits over n is below m
 module _ (m n : ℕ) where
@@ -106,10 +97,12 @@ module _ (a b : ℤ) (fa : SFits w64 a) (fb : SFits w64 b) (m n : ℕ) (em : m �
       let d = fits-told k e ∙ same in
       rw (es, et, d, toZ-ofZ w64 a fa, toZ-ofZ w64 b fb) (ap (typed false) (sym (product-is a b)))
 
-  pub over-out : p ≡ M.Over → None ≡ typed false (a *ℤ b)
-  over-out e =
+  pub over-out : p ≡ M.Over → (x : Float) → x ≡ nearestReal (R a *ℤ R b) → Real x ≡ typed false (a *ℤ b)
+  over-out e x ex =
       let h : 2 ^ 63 < natAbs a * natAbs b = rw same at (over-lt (over-told e)) in
-      too-large (unlike (isNegative a) (isNegative b)) (natAbs a * natAbs b) h ∙ ap (typed false) (sym (product-is a b))
+      let read : nearestReal (R a *ℤ R b) ≡ nearestReal (a *ℤ b) = rw (toZ-ofZ w64 a fa, toZ-ofZ w64 b fb) in
+      ap Real (ex ∙ read ∙ ap nearestReal (product-is a b))
+      ∙ too-large (unlike (isNegative a) (isNegative b)) (natAbs a * natAbs b) h ∙ ap (typed false) (sym (product-is a b))
     where
       over-lt : 2 ^ 64 ≤ m * n → 2 ^ 63 < m * n
       over-lt h = omega arith

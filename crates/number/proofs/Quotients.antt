@@ -5,6 +5,7 @@ use mathlib.Core.Bool.{Bool, true, false, not, _&&_}
 use Prim.Native.Nat.{ℕ, zero, suc, _-_, _/_, _%_, _^_, _≤_, _<_}
 use native.Mathlib.Nat.{div-le-self, div-lt-self}
 use native.Mathlib.Omega.{arith}
+use lib.Ieee.{Float}
 use lib.IntN.{ℤ, pos, negsuc, negℤ, natAbs}
 use lib.Signed.{mag, quotZ, remZ, mag-rem}
 use lib.Dec.{ltb, eqb}
@@ -16,9 +17,10 @@ use Rattle.common.proofs.Choice.{true-false}
 use Rattle.number.specs.Integer.{fitsIn, leaves}
 use mir.Facts.{sfits-widen}
 use Rattle.number.specs.Number.{typed}
-use Rattle.number.specs.declared.Number.the-variants.{Int64, None}
-use Rattle.number.proofs.Ints.{and-no}
-use Rattle.number.proofs.Sums.{R, fits-is}
+use Rattle.number.specs.declared.Number.the-variants.{Int64, Real}
+use Rattle.nearest.specs.Nearest.{nearestReal}
+use Rattle.nearest.proofs.Ints.{R, and-no}
+use Rattle.number.proofs.Sums.{fits-is}
 
 mag-negative : (r : ℕ) {k : ℕ} → r ≤ k → 0 < k → mag (negℤ (pos r)) < k
 mag-negative zero h p = p
@@ -129,8 +131,8 @@ module _ (a b : ℤ) (fa : SFits w32 a) (fb : SFits w32 b) (r : Bool) (e : r ≡
 
 -- in 64 bits, with the answer as a number
 module _ (a b : ℤ) (fa : SFits w64 a) (fb : SFits w64 b) (r : Bool) (e : r ≡ leaves w64 (toZ w64 (ofZ w64 a)) (toZ w64 (ofZ w64 b))) where
-  pub quotient-none : r ≡ true → None ≡ typed false (quotZ a b)
-  quotient-none u = ap (typed false) (quotient-out w64 a b fa fb r e u)
+  pub quotient-real : r ≡ true → (x : Float) → x ≡ nearestReal (quotZ (negsuc 9223372036854775807) (negsuc 0)) → Real x ≡ typed false (quotZ a b)
+  quotient-real u x h = ap Real h ∙ ap (typed false) (quotient-out w64 a b fa fb r e u)
 
   pub quotient-typed : r ≡ false → Int64 (R (quotZ (R a) (R b))) ≡ typed false (quotZ a b)
   quotient-typed u = rw (toZ-ofZ w64 a fa, toZ-ofZ w64 b fb) (fits-is (quotZ a b) (fits w64 a b fa fb r e u))

@@ -1,27 +1,25 @@
 -- Sums and differences in 64 bits, exact, and their tests for what does not fit. Assumes nothing.
-use mathlib.Core.Path.{_≡_, refl}
+use mathlib.Core.Path.{_≡_, refl, ap, _∙_}
 use mathlib.Core.Bool.{Bool, true, false}
 use Prim.Native.Nat.{_+_, _^_, _≤_, _<_}
 use native.Mathlib.Omega.{arith}
 use lib.IntN.{ℤ, pos, negsuc, negℤ, _+ℤ_, _-ℤ_}
 use lib.Signed.{mag, ltZ}
 use lib.Dec.{lit<}
+use lib.Ieee.{Float}
 use mir.Syntax.{w64}
-use mir.Val.{SFits, toZ, ofZ}
+use mir.Val.{SFits}
 use mir.ValLaws.{toZ-ofZ}
 use borrow.Author.Tests.{lt-ltb, le-ltb}
 use Rattle.number.specs.Number.{typed}
-use Rattle.number.specs.declared.Number.the-variants.{Int64, None}
-use Rattle.number.proofs.Ints.{up, dn, apart, sum, neg, lt-yes, lt-no, range, in-range, above, beneath, read-lt}
-
--- a signed number as the machine reads it back from its bits
-abbrev pub R : ℤ → ℤ
-R z = toZ w64 (ofZ w64 z)
+use Rattle.number.specs.declared.Number.the-variants.{Int64, Real}
+use Rattle.nearest.specs.Nearest.{nearestReal}
+use Rattle.nearest.proofs.Ints.{R, up, dn, apart, sum, neg, lt-yes, lt-no, range, in-range, above, beneath, read-lt}
 
 pub fits-is : (z : ℤ) → SFits w64 z → Int64 (R z) ≡ typed false z
 fits-is z f = rw (toZ-ofZ w64 z f, lt-ltb (mag z) (2 ^ 63) (f .sfits))
 
-pub over-is : (z : ℤ) → 2 ^ 63 ≤ mag z → None ≡ typed false z
+pub over-is : (z : ℤ) → 2 ^ 63 ≤ mag z → Real (nearestReal z) ≡ typed false z
 over-is z h = rw (le-ltb (mag z) (2 ^ 63) h)
 
 abbrev pub least : ℤ
@@ -47,10 +45,10 @@ module _ (a c d : ℤ) (fa : SFits w64 a) where
   high-d : High c d → dn c ≤ up c → up c ≤ 2 ^ 63 → SFits w64 d
   high-d l h k = record { sfits = in-range d (omega (arith, apart d, apart c)) (omega (arith, apart d, apart c)) }
 
-  low-over : Low c d → ltZ a d ≡ true → None ≡ typed false (a +ℤ c)
+  low-over : Low c d → ltZ a d ≡ true → Real (nearestReal (a +ℤ c)) ≡ typed false (a +ℤ c)
   low-over l t = let z = a +ℤ c in over-is z (beneath z (omega (arith, apart z, sum a c, lt-yes a d t)))
 
-  high-over : High c d → ltZ d a ≡ true → None ≡ typed false (a +ℤ c)
+  high-over : High c d → ltZ d a ≡ true → Real (nearestReal (a +ℤ c)) ≡ typed false (a +ℤ c)
   high-over l t = let z = a +ℤ c in over-is z (above z (lit< tt) (omega (arith, apart z, sum a c, lt-yes d a t)))
 
   low-sum : Low c d → up c ≤ dn c → ltZ a d ≡ false → SFits w64 (a +ℤ c)
@@ -66,7 +64,7 @@ module _ (a c d : ℤ) (fa : SFits w64 a) where
 -- What the needs of a sum or a difference ask, whose operands the machine reads back from their bits: d is the bound that the test computes.
 pub record Tested (op : ℤ → ℤ → ℤ) (a b d : ℤ) (test : Bool) : Type 0 where
   pub fits : SFits w64 d
-  pub over : test ≡ true → None ≡ typed false (op a b)
+  pub over : test ≡ true → (x : Float) → x ≡ nearestReal (op (R a) (R b)) → Real x ≡ typed false (op a b)
   pub holds : test ≡ false → SFits w64 (op (R a) (R b))
   pub is : test ≡ false → Int64 (R (op (R a) (R b))) ≡ typed false (op a b)
 
@@ -78,13 +76,14 @@ Highs op hi a b = Tested op a b (hi (R b)) (ltZ (R (hi (R b))) (R a))
 
 -- c is what `op` adds
 module _ (a b c : ℤ) (fa : SFits w64 a) (fb : SFits w64 b) (op : ℤ → ℤ → ℤ) (e : op a b ≡ a +ℤ c) where
-  tested : (d : ℤ → ℤ) (test : ℤ → ℤ → Bool) → SFits w64 (d b) → (test a (d b) ≡ true → None ≡ typed false (a +ℤ c)) → (test a (d b) ≡ false → SFits w64 (a +ℤ c))
+  tested : (d : ℤ → ℤ) (test : ℤ → ℤ → Bool) → SFits w64 (d b) → (test a (d b) ≡ true → Real (nearestReal (a +ℤ c)) ≡ typed false (a +ℤ c)) → (test a (d b) ≡ false → SFits w64 (a +ℤ c))
       → Tested op a b (d (R b)) (test (R a) (R (d (R b))))
   tested d test f over holds =
+      let read : nearestReal (op (R a) (R b)) ≡ nearestReal (a +ℤ c) = rw (toZ-ofZ w64 a fa, toZ-ofZ w64 b fb, e) in
       let same : test (R a) (R (d (R b))) ≡ test a (d b) = rw (toZ-ofZ w64 b fb, toZ-ofZ w64 (d b) f, toZ-ofZ w64 a fa) in
       record {
         fits = rw (toZ-ofZ w64 b fb) f;
-        over = λ u. rw e (over (rw same at u));
+        over = λ u x h. ap Real (h ∙ read) ∙ rw e (over (rw same at u));
         holds = λ u. rw (toZ-ofZ w64 a fa, toZ-ofZ w64 b fb, e) (holds (rw same at u));
         is = λ u. rw (toZ-ofZ w64 a fa, toZ-ofZ w64 b fb, e) (fits-is (a +ℤ c) (holds (rw same at u)));
       }

@@ -7,23 +7,23 @@ use native.Mathlib.Nat.{div-add-mod', mod-lt, mul-zero, zero-mul}
 use native.Mathlib.Omega.{arith}
 use lib.IntN.{ℤ, pos, negsuc, negℤ, natAbs, _+ℤ_, _-ℤ_, _*ℤ_, negℤ-+ℤ, pos-+ℤ-pos}
 use lib.Signed.{quotZ, remZ}
-use lib.Dec.{leb}
 use lib.Ieee.{Float, nan, inf, fin, binary64, ofInt, toBits, unlike, eq, lt, le}
 use lib.Ieee.Bits.{ofBits-toBits, toBits-ofBits, toBits-lt}
 use lib.Ieee.Back.{round-whole}
 use mir.Val.{bits, toZ}
 use mir.ValLaws.{half-full, toZ-pos, toZ-neg}
-use borrow.Author.Tests.{lt-leb, le-ltb}
-use Rattle.common.proofs.Choice.{true-false}
+use borrow.Author.Tests.{le-ltb}
 use Rattle.truth.specs.Truth.{ofBool}
 use Rattle.number.specs.declared.Number.{Number}
 use Rattle.number.specs.declared.Number.the-variants.{Int32, Int64, Real, None}
 use Rattle.opcode.specs.declared.Order.{Order}
 use Rattle.opcode.specs.declared.Order.the-variants.{Less, LessEqual, Greater, GreaterEqual}
-use Rattle.number.specs.Integer.{isNegative, signedOf}
-use Rattle.number.specs.Number.{isInteger, isReal, integerOf, divides, zeroDivisor, asReal, shiftOf, orderReal}
-use Rattle.number.specs.Theorems.{QuotientRemainder, Ends, Complement, LeftNone, RightNone, ZeroDivisor, NegativeZero, LargeBesideReal, NanFalse, ZerosEqual, WholesExact, PowersExact, RealBits, BitsReal, NanBits, BitsBounded}
-use Rattle.number.proofs.Ints.{and-no}
+use Rattle.nearest.specs.Nearest.{isNegative, signedOf}
+use Rattle.mixed.specs.Mixed.{orderReal}
+use Rattle.mixed.proofs.Theorems.{integers}
+use Rattle.number.specs.Number.{isInteger, isReal, isNumber, valueOf, divides, zeroDivisor, inArithmetic, shiftOf}
+use Rattle.number.specs.Theorems.{QuotientRemainder, Ends, Complement, LeftNone, RightNone, ZeroDivisor, NegativeZero, MixedExact, IntegersCompared, Odometer, NanFalse, ZerosEqual, WholesExact, PowersExact, RealBits, BitsReal, NanBits, BitsBounded}
+use Rattle.nearest.proofs.Ints.{and-no}
 use Rattle.number.proofs.Tens.{powers-hold}
 
 -- by sign and magnitude
@@ -89,6 +89,7 @@ quotient-remainder a b h = (back, rw (remainder-of a b, size-of (isNegative a) (
         ∙ whole a
 
 pub ends : Ends
+unfolding ofInt
 ends = (refl, refl, refl, refl)
 
 pub complement : Complement
@@ -119,11 +120,11 @@ left-none b o p q r = (alike (zeroDivisor o b) None, refl, refl, refl, refl)
 
 pub right-none : RightNone
 right-none a o p q r = (
-  rw (no (divides o), no (isInteger a), no (isReal (asReal a))),
+  rw (no (divides o), no (isInteger a), no (isReal (inArithmetic a))),
   rw (no (isInteger a)),
   shifts a,
-  rw (no (isInteger a), no (isReal (asReal a))),
-  rw (no (isInteger a), no (isReal (asReal a))),
+  rw (no (isNumber a)),
+  rw (no (isNumber a)),
 )
   where
     shifts : (a : Number) → shiftOf q a None ≡ None
@@ -139,32 +140,21 @@ pub negative-zero : NegativeZero
 unfolding eq
 negative-zero = refl
 
-pub large-beside-real : LargeBesideReal
-large-beside-real a b o r i h e =
-    let l = large a i h in let n = not-integer b e in let z = no (isReal (asReal b)) in let y = no (isInteger a) in (
-      rw (n, y, l) (alike (zeroDivisor o b) None),
-      rw (n, l, z) (alike (zeroDivisor o a) None),
-      rw (n, y, l),
-      rw (n, l, z),
-      rw (n, y, l),
-      rw (n, l, z),
-    )
-  where
-    large : (a : Number) → isInteger a ≡ true → 2 ^ 53 < natAbs (integerOf a) → asReal a ≡ None
-    large (Int32 z) i h = rw (lt-leb (natAbs z) (2 ^ 53) h)
-    large (Int64 z) i h = rw (lt-leb (natAbs z) (2 ^ 53) h)
-    large (Real x) i h = true-false (sym i)
-    large None i h = true-false (sym i)
+pub mixed-exact : MixedExact
+mixed-exact z x r = (refl, refl, refl, refl)
 
-    not-integer : (b : Number) → isReal b ≡ true → isInteger b ≡ false
-    not-integer (Int32 z) e = true-false (sym e)
-    not-integer (Int64 z) e = true-false (sym e)
-    not-integer (Real x) e = refl
-    not-integer None e = true-false (sym e)
+pub integers-compared : IntegersCompared
+integers-compared a b = let p = integers a b in (ap ofBool (p .1), ap ofBool (p .0))
+
+pub odometer : Odometer
+unfolding ofInt eq
+odometer = refl
 
 pub nan-false : NanFalse
 unfolding eq lt le
-nan-false x r = (ap ofBool (equal-left x), ap ofBool (equal-right x), ap ofBool (before r x), ap ofBool (after r x))
+nan-false b r h =
+    let x = valueOf b in
+    (rw h (ap ofBool (equal-left x)), rw h (ap ofBool (equal-right x)), rw h (ap ofBool (before r x)), rw h (ap ofBool (after r x)))
   where
     equal-left : (x : Float) → eq nan x ≡ false
     equal-left x = refl

@@ -1,9 +1,9 @@
 -- Numbers and the operators on them. Document 01, "Meaning". `None` is no number: bottom, which every operator hands on.
 use Prim.Native.Nat.{ℕ, _^_}
-use mathlib.Core.Bool.{Bool, true, false, _&&_, cond}
+use mathlib.Core.Bool.{Bool, true, false, _&&_, _||_, cond}
 use lib.IntN.{ℤ, pos, negsuc, natAbs}
-use lib.Dec.{ltb, leb, eqb}
-use lib.Ieee.{Float, fin, binary64, ofInt, add, sub, mul, div, eq, lt, le}
+use lib.Dec.{ltb, eqb}
+use lib.Ieee.{Float, nan, fin, binary64, add, sub, mul, div, eq}
 use mir.Syntax.{w32, w64}
 use Rattle.truth.specs.declared.Truth.{Truth}
 use Rattle.truth.specs.declared.Truth.the-variants.{Bottom}
@@ -12,8 +12,6 @@ use Rattle.number.specs.declared.Number.{Number}
 use Rattle.number.specs.declared.Number.the-variants.{Int32, Int64, Real, None}
 use Rattle.number.specs.declared.Count.{Count}
 use Rattle.number.specs.declared.Count.the-variants.{Places, Outside}
-use Rattle.number.specs.declared.Sides.{Sides}
-use Rattle.number.specs.declared.Sides.the-variants.{Integers, Reals, Neither}
 use Rattle.number.specs.declared.integer.Magnitude.{Magnitude}
 use Rattle.number.specs.declared.integer.Magnitude.the-variants.{Fits, Over}
 use Rattle.opcode.specs.declared.Arithmetic.{Arithmetic}
@@ -21,8 +19,9 @@ use Rattle.opcode.specs.declared.Arithmetic.the-variants.{Mul, Div, Rem, Add, S
 use Rattle.opcode.specs.declared.Bitwise.{Bitwise}
 use Rattle.opcode.specs.declared.Shift.{Shift}
 use Rattle.opcode.specs.declared.Order.{Order}
-use Rattle.opcode.specs.declared.Order.the-variants.{Less, LessEqual, Greater, GreaterEqual}
-use Rattle.number.specs.Integer.{fitsIn, exactOf, equalZ, orderZ}
+use Rattle.nearest.specs.Nearest.{nearestReal}
+use Rattle.mixed.specs.Mixed.{exactly, orderReal}
+use Rattle.number.specs.Integer.{fitsIn, exactOf}
 use Rattle.number.specs.Bits.{onBits, turned, shifted}
 
 -- Kinds of numbers, and their values: 0 where there is none.
@@ -59,27 +58,17 @@ realOf (Int64 z) = zeroReal
 realOf (Real x) = x
 realOf None = zeroReal
 
--- "The result is int32 if both are int32 and it fits, else int64, else bottom."
+-- "The result is int32 if both are int32 and it fits, else int64", and request 6 of document 02: "An integer result of `+ - * /` outside int64 becomes
+-- the nearest f64, ties to even".
 abbrev pub typed : Bool → ℤ → Number
-typed both z = cond (both && fitsIn w32 z) (Int32 z) (cond (fitsIn w64 z) (Int64 z) None)
+typed both z = cond (both && fitsIn w32 z) (Int32 z) (cond (fitsIn w64 z) (Int64 z) (Real (nearestReal z)))
 
--- "real if its size is at most 2^53, else bottom"
-abbrev pub exactReal : ℤ → Number
-exactReal z = cond (leb (natAbs z) (2 ^ 53)) (Real (ofInt binary64 z)) None
-
-abbrev pub asReal : Number → Number
-asReal (Int32 z) = exactReal z
-asReal (Int64 z) = exactReal z
-asReal (Real x) = Real x
-asReal None = None
-
--- "With a real, the other side becomes real if its size is at most 2^53, else bottom, ..": a side of an arithmetic operator ..
+-- Request 6: "In arithmetic with a real the integer is rounded to the nearest f64, ties to even."
 abbrev pub inArithmetic : Number → Number
-inArithmetic a = asReal a
-
--- ".. also in comparisons": .. and a side of a comparison
-abbrev pub inComparison : Number → Number
-inComparison a = asReal a
+inArithmetic (Int32 z) = Real (nearestReal z)
+inArithmetic (Int64 z) = Real (nearestReal z)
+inArithmetic (Real x) = Real x
+inArithmetic None = None
 
 -- two reals, or nothing where a side is none
 abbrev pub onReals : {A : Type 0} → Number → Number → (Float → Float → A) → A → A
@@ -151,30 +140,26 @@ shiftOf op (Int64 z) b = counted (countOf 64 b) (λ k. Int64 (shifted op w64 z k
 shiftOf op (Real x) b = None
 shiftOf op None b = None
 
--- Comparisons: two integers as integers, else both as reals.
-abbrev pub sidesOf : Number → Number → Sides
-sidesOf a b =
-    cond (isInteger a && isInteger b)
-    (Integers (integerOf a) (integerOf b))
-    (onReals (inComparison a) (inComparison b) Reals Neither)
+-- Request 6: "An integer and a real are to be compared by exact value": the value of a number, unrounded, and NaN where there is none.
+abbrev pub valueOf : Number → Float
+valueOf (Int32 z) = exactly z
+valueOf (Int64 z) = exactly z
+valueOf (Real x) = x
+valueOf None = nan
 
-abbrev pub comparedBy : (ℤ → ℤ → Bool) → (Float → Float → Bool) → Sides → Truth
-comparedBy f g (Integers x y) = ofBool (f x y)
-comparedBy f g (Reals x y) = ofBool (g x y)
-comparedBy f g Neither = Bottom
+abbrev pub isNumber : Number → Bool
+isNumber a = isInteger a || isReal a
 
--- `==` and the orders are f64's own: "NaN equals nothing and orders with nothing (false). Zeros of both signs are equal."
-abbrev pub orderReal : Order → Float → Float → Bool
-orderReal Less x y = lt x y
-orderReal LessEqual x y = le x y
-orderReal Greater x y = lt y x
-orderReal GreaterEqual x y = le y x
+abbrev pub comparedBy : (Float → Float → Bool) → Number → Number → Truth
+comparedBy f a b = cond (isNumber a && isNumber b) (ofBool (f (valueOf a) (valueOf b))) Bottom
 
+-- `==` and the orders are IEEE 754's: "NaN equals nothing and orders with nothing (false). Zeros of both signs are equal.", and request 6: "an infinity
+-- lying beyond every integer on its side".
 abbrev pub equalOf : Number → Number → Truth
-equalOf a b = comparedBy equalZ eq (sidesOf a b)
+equalOf a b = comparedBy eq a b
 
 abbrev pub orderOf : Order → Number → Number → Truth
-orderOf op a b = comparedBy (orderZ op) (orderReal op) (sidesOf a b)
+orderOf op a b = comparedBy (orderReal op) a b
 
 -- Inside the code: an int32's value, and a magnitude that 64 bits hold.
 abbrev pub int32Of : Number → ℤ

@@ -4,24 +4,28 @@ use mathlib.Core.Logic.{_⊎_}
 use mathlib.Core.Bool.{true, false}
 use Prim.Native.Nat.{ℕ, _^_, _≤_, _<_}
 use lib.IntN.{ℤ, pos, negsuc, negℤ, natAbs, _+ℤ_, _-ℤ_, _*ℤ_}
-use lib.Signed.{quotZ, remZ}
+use lib.Signed.{quotZ, remZ, ltZ}
 use lib.Dec.{T}
-use lib.Ieee.{Float, nan, fin, binary64, fits, isNan, ofInt, ofBits, toBits}
+use lib.Ieee.{Float, eq, nan, fin, binary64, fits, isNan, ofInt, ofBits, toBits}
 use lib.Ieee.Exact.{HasValue}
 use mir.Syntax.{Width}
 use mir.Val.{SFits}
+use Rattle.truth.specs.Truth.{ofBool}
 use Rattle.truth.specs.declared.Truth.the-variants.{False, Bottom, True}
 use Rattle.number.specs.declared.Number.{Number}
 use Rattle.number.specs.declared.Number.the-variants.{Int32, Int64, Real, None}
 use Rattle.opcode.specs.declared.Arithmetic.{Arithmetic}
-use Rattle.opcode.specs.declared.Arithmetic.the-variants.{Div, Rem}
+use Rattle.opcode.specs.declared.Arithmetic.the-variants.{Add, Div, Rem}
 use Rattle.opcode.specs.declared.Bitwise.{Bitwise}
 use Rattle.opcode.specs.declared.Shift.{Shift}
 use Rattle.opcode.specs.declared.Order.{Order}
+use Rattle.opcode.specs.declared.Order.the-variants.{Less}
+use Rattle.mixed.specs.Mixed.{exactly, orderReal}
+use Rattle.mixed.specs.Theorems.{equalZ}
 use Rattle.number.specs.Integer.{isNegative}
 use Rattle.number.specs.Bits.{turned}
 use Rattle.number.specs.Real.{tenTo}
-use Rattle.number.specs.Number.{isInteger, isReal, integerOf, isZero, arithmeticOf, bitwiseOf, shiftOf, equalOf, orderOf}
+use Rattle.number.specs.Number.{isNumber, isZero, arithmeticOf, bitwiseOf, shiftOf, equalOf, orderOf}
 
 -- "`/` cuts toward zero", "`%` .. has the sign of the left side": quotient and remainder give the left side back, the remainder is smaller than the
 -- divisor, and it is negative only where the left side is, positive only where the left side is.
@@ -35,7 +39,7 @@ abbrev pub Ends : Type 0
 Ends =
     (arithmeticOf Div (Int32 (negsuc 2147483647)) (Int32 (negsuc 0)) ≡ Int64 (pos 2147483648))
     × (arithmeticOf Rem (Int32 (negsuc 2147483647)) (Int32 (negsuc 0)) ≡ Int32 (pos 0))
-    × (arithmeticOf Div (Int64 (negsuc 9223372036854775807)) (Int64 (negsuc 0)) ≡ None)
+    × (arithmeticOf Div (Int64 (negsuc 9223372036854775807)) (Int64 (negsuc 0)) ≡ Real (fin false 1 (pos 63)))
     × (arithmeticOf Rem (Int64 (negsuc 9223372036854775807)) (Int64 (negsuc 0)) ≡ Int64 (pos 0))
 
 -- `~` of an integer is its opposite less 1, whatever the width.
@@ -61,17 +65,26 @@ ZeroDivisor = (a b : Number) → isZero b ≡ true → (arithmeticOf Div a b ≡
 abbrev pub NegativeZero : Type 0
 NegativeZero = isZero (Real (fin true 0 (pos 0))) ≡ true
 
--- An integer over 2^53 in size beside any real, NaN and the infinities too, is bottom on either side of arithmetic and of comparisons.
-abbrev pub LargeBesideReal : Type 0
-LargeBesideReal =
-    (a b : Number) (o : Arithmetic) (r : Order) → isInteger a ≡ true → 2 ^ 53 < natAbs (integerOf a) → isReal b ≡ true
-    → (arithmeticOf o a b ≡ None) × (arithmeticOf o b a ≡ None) × (equalOf a b ≡ Bottom) × (equalOf b a ≡ Bottom) × (orderOf r a b ≡ Bottom) × (orderOf r b a ≡ Bottom)
+-- "An integer and a real are to be compared by exact value", on either side; two integers as integers. What `eq` and `lt` say of `exactly z` and a real is
+-- told in specs/Theorems.antt of crate mixed.
+abbrev pub MixedExact : Type 0
+MixedExact =
+    (z : ℤ) (x : Float) (r : Order)
+    → (equalOf (Int64 z) (Real x) ≡ ofBool (eq (exactly z) x)) × (equalOf (Real x) (Int64 z) ≡ ofBool (eq x (exactly z)))
+    × (orderOf r (Int64 z) (Real x) ≡ ofBool (orderReal r (exactly z) x)) × (orderOf r (Real x) (Int64 z) ≡ ofBool (orderReal r x (exactly z)))
 
--- "NaN equals nothing and orders with nothing (false)", beside any real.
+abbrev pub IntegersCompared : Type 0
+IntegersCompared = (a b : ℤ) → (equalOf (Int64 a) (Int64 b) ≡ ofBool (equalZ a b)) × (orderOf Less (Int64 a) (Int64 b) ≡ ofBool (ltZ a b))
+
+-- "The example with 9223372036854775807L turns from bottom to false": `9223372036854775807L + 1 == 0`.
+abbrev pub Odometer : Type 0
+Odometer = equalOf (arithmeticOf Add (Int64 (pos 9223372036854775807)) (Int32 (pos 1))) (Int32 (pos 0)) ≡ False
+
+-- "NaN equals nothing and orders with nothing (false)", beside any number; request 6: "NaN stays unequal and unordered".
 abbrev pub NanFalse : Type 0
 NanFalse =
-    (x : Float) (r : Order)
-    → (equalOf (Real nan) (Real x) ≡ False) × (equalOf (Real x) (Real nan) ≡ False) × (orderOf r (Real nan) (Real x) ≡ False) × (orderOf r (Real x) (Real nan) ≡ False)
+    (b : Number) (r : Order) → isNumber b ≡ true
+    → (equalOf (Real nan) b ≡ False) × (equalOf b (Real nan) ≡ False) × (orderOf r (Real nan) b ≡ False) × (orderOf r b (Real nan) ≡ False)
 
 -- "Zeros of both signs are equal."
 abbrev pub ZerosEqual : Type 0

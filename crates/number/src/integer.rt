@@ -1,16 +1,15 @@
 // Exact arithmetic on integers. Document 01, "Meaning": "`+ - * /` on integers is exact; `/` cuts toward zero.", "`%` .. has the sign of the left side".
-// Two int32 have their result in 64 bits. Of int64 a result past 64 bits is none, found before the operation.
+// Two int32 have their result in 64 bits. Of int64 a result past 64 bits is found before the operation, and is the nearest real.
 ghost use mathlib.Core.Path.{_≡_};
 ghost use mathlib.Core.Bool.{true, false};
 ghost use Prim.Native.Nat.{_*_, _<_};
 ghost use lib.IntN.{natAbs, _+ℤ_, _-ℤ_, _*ℤ_};
 ghost use lib.Signed.{quotZ, remZ};
 ghost use mir.Syntax.{w32, w64};
-ghost use Rattle.number.specs.Integer.{isNegative, signedOf, leaves, exactOf, equalZ, orderZ};
+ghost use Rattle.number.specs.Integer.{signedOf, leaves, exactOf};
 ghost use Rattle.number.specs.Number.{typed, magnitudeOf, divides};
 use crate::Number;
 use opcode::Arithmetic;
-use opcode::Order;
 
 const LEAST: i64 = -9223372036854775808;
 
@@ -22,12 +21,12 @@ fn sum_i64(a: i64, b: i64) -> Number
 {
     if b < 0 {
         if a < LEAST - b {
-            return Number::None;
+            return Number::Real(nearest::sum_real(a, b));
         }
         return Number::Int64(a + b);
     }
     if MOST - b < a {
-        return Number::None;
+        return Number::Real(nearest::sum_real(a, b));
     }
     Number::Int64(a + b)
 }
@@ -37,29 +36,17 @@ fn difference_i64(a: i64, b: i64) -> Number
 {
     if b < 0 {
         if MOST + b < a {
-            return Number::None;
+            return Number::Real(nearest::difference_real(a, b));
         }
         return Number::Int64(a - b);
     }
     if a < LEAST + b {
-        return Number::None;
+        return Number::Real(nearest::difference_real(a, b));
     }
     Number::Int64(a - b)
 }
 
-pub(crate) fn absolute(a: i64) -> u64
-    ensures { λ r. ⌜ r ≡ natAbs a ⌝ }
-{
-    if a < 0 { (!a) as u64 + 1 } else { a as u64 }
-}
-
-pub(crate) fn is_negative(a: i64) -> bool
-    ensures { λ r. ⌜ r ≡ isNegative a ⌝ }
-{
-    a < 0
-}
-
-// A magnitude with a sign, where 64 bits hold it.
+// A magnitude with a sign.
 fn signed(negative: bool, m: u64) -> Number
     ensures { λ r. ⌜ r ≡ typed false (signedOf negative m) ⌝ }
 {
@@ -71,12 +58,12 @@ fn signed(negative: bool, m: u64) -> Number
         if n < 0x8000_0000_0000_0000 {
             return Number::Int64(!(n as i64));
         }
-        return Number::None;
+        return Number::Real(-std::num::nearest_u64_to_f64(m));
     }
     if m < 0x8000_0000_0000_0000 {
         return Number::Int64(m as i64);
     }
-    Number::None
+    Number::Real(std::num::nearest_u64_to_f64(m))
 }
 
 // A product of magnitudes.
@@ -101,9 +88,9 @@ fn product(m: u64, n: u64) -> Magnitude
 fn product_i64(a: i64, b: i64) -> Number
     ensures { λ r. ⌜ r ≡ typed false (a *ℤ b) ⌝ }
 {
-    match product(absolute(a), absolute(b)) {
-        Magnitude::Fits(m) => signed(is_negative(a) != is_negative(b), m),
-        Magnitude::Over => Number::None,
+    match product(nearest::absolute(a), nearest::absolute(b)) {
+        Magnitude::Fits(m) => signed(nearest::is_negative(a) != nearest::is_negative(b), m),
+        Magnitude::Over => Number::Real(nearest::product_real(a, b)),
     }
 }
 
@@ -136,7 +123,7 @@ fn quotient_i64(a: i64, b: i64) -> Number
     ensures { λ r. ⌜ r ≡ typed false (quotZ a b) ⌝ }
 {
     if leaves_i64(a, b) {
-        return Number::None; // 2^63 is past 64 bits
+        return Number::Real(nearest::quotient_real()); // 2^63 is past 64 bits
     }
     Number::Int64(a / b)
 }
@@ -202,21 +189,4 @@ pub(crate) fn narrow(z: i64) -> Number
         return Number::Int32(z as i32);
     }
     Number::Int64(z)
-}
-
-pub(crate) fn equal_i64(a: i64, b: i64) -> bool
-    ensures { λ r. ⌜ r ≡ equalZ a b ⌝ }
-{
-    a == b
-}
-
-pub(crate) fn order_i64(op: Order, a: i64, b: i64) -> bool
-    ensures { λ r. ⌜ r ≡ orderZ op a b ⌝ }
-{
-    match op {
-        Order::Less => a < b,
-        Order::LessEqual => a <= b,
-        Order::Greater => b < a,
-        Order::GreaterEqual => b <= a,
-    }
 }

@@ -4,7 +4,7 @@ ghost use mathlib.Core.Bool.{true, _&&_};
 ghost use Prim.Native.Nat.{_<_};
 ghost use lib.IntN.{natAbs};
 ghost use Rattle.number.specs.Integer.{exactOf};
-ghost use Rattle.number.specs.Number.{isInt32, isInteger, isReal, integerOf, int32Of, realOf, typed, asReal, inArithmetic, inComparison, onReals, realArithmetic, divides, isZero, zeroDivisor, arithmeticOf, bitwiseOf, complementOf, countOf, shiftOf, sidesOf, equalOf, orderOf};
+ghost use Rattle.number.specs.Number.{isInt32, isInteger, isReal, integerOf, int32Of, realOf, typed, inArithmetic, onReals, realArithmetic, divides, isZero, zeroDivisor, arithmeticOf, bitwiseOf, complementOf, countOf, shiftOf, equalOf, orderOf};
 
 mod bits;
 mod integer;
@@ -95,30 +95,16 @@ fn real_of(a: Number) -> f64
     }
 }
 
-// A number as a real, an integer only up to 2^53 in size.
-fn as_real(a: Number) -> Number
-    ensures { λ r. ⌜ r ≡ asReal a ⌝ }
-{
-    match a {
-        Number::Int32(z) => real::exact_real(z as i64),
-        Number::Int64(z) => real::exact_real(z),
-        Number::Real(x) => Number::Real(x),
-        Number::None => Number::None,
-    }
-}
-
-// "With a real, the other side becomes real if its size is at most 2^53, else bottom, ..": a side of an arithmetic operator ..
+// Document 02, request 6: "In arithmetic with a real the integer is rounded to the nearest f64, ties to even." An int32 is a real.
 fn in_arithmetic(a: Number) -> Number
     ensures { λ r. ⌜ r ≡ inArithmetic a ⌝ }
 {
-    as_real(a)
-}
-
-// ".. also in comparisons": .. and a side of a comparison.
-fn in_comparison(a: Number) -> Number
-    ensures { λ r. ⌜ r ≡ inComparison a ⌝ }
-{
-    as_real(a)
+    match a {
+        Number::Int32(z) => Number::Real(z as f64),
+        Number::Int64(z) => Number::Real(nearest::integer_real(z)),
+        Number::Real(x) => Number::Real(x),
+        Number::None => Number::None,
+    }
 }
 
 // "A zero divisor, whole or real, gives bottom."
@@ -220,10 +206,10 @@ fn places(width: u64, b: Number) -> Count
     ensures { λ r. ⌜ r ≡ countOf width b ⌝ }
 {
     let z = integer_of(b);
-    if !is_integer(b) | integer::is_negative(z) {
+    if !is_integer(b) | nearest::is_negative(z) {
         return Count::Outside;
     }
-    let k = integer::absolute(z);
+    let k = nearest::absolute(z);
     if k < width {
         Count::Places(k)
     } else {
@@ -249,46 +235,98 @@ pub fn shift(op: Shift, a: Number, b: Number) -> Number
     }
 }
 
-// Two numbers as a comparison takes them.
-enum Sides {
-    Integers(i64, i64),
-    Reals(f64, f64),
-    Neither,
-}
-
-// Two integers as integers, else both as reals.
-fn sides_of(a: Number, b: Number) -> Sides
-    ensures { λ r. ⌜ r ≡ sidesOf a b ⌝ }
-{
-    if is_integer(a) & is_integer(b) {
-        return Sides::Integers(integer_of(a), integer_of(b));
-    }
-    let x = in_comparison(a);
-    let y = in_comparison(b);
-    if is_real(x) & is_real(y) {
-        return Sides::Reals(real_of(x), real_of(y));
-    }
-    Sides::Neither
-}
-
-// `==`
+// `==`, by the kinds of both sides, two int32 first: two integers as integers, two reals as reals, an integer and a real by exact value. An int32 is a real.
 pub fn equal(a: Number, b: Number) -> Truth
     ensures { λ r. ⌜ r ≡ equalOf a b ⌝ }
 {
-    match sides_of(a, b) {
-        Sides::Integers(x, y) => truth::of_bool(integer::equal_i64(x, y)),
-        Sides::Reals(x, y) => truth::of_bool(x == y),
-        Sides::Neither => Truth::Bottom,
+    if is_int32(a) & is_int32(b) {
+        return truth::of_bool(mixed::equal_i64(int32_of(a) as i64, int32_of(b) as i64));
+    }
+    match a {
+        Number::Int32(x) => int32_equal(x, b),
+        Number::Int64(x) => int64_equal(x, b),
+        Number::Real(x) => real_equal(x, b),
+        Number::None => Truth::Bottom,
     }
 }
 
-// `< <= > >=`
+fn int32_equal(x: i32, b: Number) -> Truth
+    ensures { λ r. ⌜ r ≡ equalOf (Number.Int32 x) b ⌝ }
+{
+    match b {
+        Number::Int32(y) => truth::of_bool(mixed::equal_i64(x as i64, y as i64)),
+        Number::Int64(y) => truth::of_bool(mixed::equal_i64(x as i64, y)),
+        Number::Real(y) => truth::of_bool((x as f64) == y),
+        Number::None => Truth::Bottom,
+    }
+}
+
+fn int64_equal(x: i64, b: Number) -> Truth
+    ensures { λ r. ⌜ r ≡ equalOf (Number.Int64 x) b ⌝ }
+{
+    match b {
+        Number::Int32(y) => truth::of_bool(mixed::equal_i64(x, y as i64)),
+        Number::Int64(y) => truth::of_bool(mixed::equal_i64(x, y)),
+        Number::Real(y) => truth::of_bool(mixed::is_level(mixed::compared(x, y))),
+        Number::None => Truth::Bottom,
+    }
+}
+
+fn real_equal(x: f64, b: Number) -> Truth
+    ensures { λ r. ⌜ r ≡ equalOf (Number.Real x) b ⌝ }
+{
+    match b {
+        Number::Int32(y) => truth::of_bool(x == (y as f64)),
+        Number::Int64(y) => truth::of_bool(mixed::is_level(mixed::compared(y, x))),
+        Number::Real(y) => truth::of_bool(x == y),
+        Number::None => Truth::Bottom,
+    }
+}
+
+// `< <= > >=`, likewise.
 pub fn order(op: Order, a: Number, b: Number) -> Truth
     ensures { λ r. ⌜ r ≡ orderOf op a b ⌝ }
 {
-    match sides_of(a, b) {
-        Sides::Integers(x, y) => truth::of_bool(integer::order_i64(op, x, y)),
-        Sides::Reals(x, y) => truth::of_bool(real::order_real(op, x, y)),
-        Sides::Neither => Truth::Bottom,
+    if is_int32(a) & is_int32(b) {
+        return truth::of_bool(mixed::order_i64(op, int32_of(a) as i64, int32_of(b) as i64));
+    }
+    match a {
+        Number::Int32(x) => int32_order(op, x, b),
+        Number::Int64(x) => int64_order(op, x, b),
+        Number::Real(x) => real_order(op, x, b),
+        Number::None => Truth::Bottom,
+    }
+}
+
+fn int32_order(op: Order, x: i32, b: Number) -> Truth
+    ensures { λ r. ⌜ r ≡ orderOf op (Number.Int32 x) b ⌝ }
+{
+    match b {
+        Number::Int32(y) => truth::of_bool(mixed::order_i64(op, x as i64, y as i64)),
+        Number::Int64(y) => truth::of_bool(mixed::order_i64(op, x as i64, y)),
+        Number::Real(y) => truth::of_bool(mixed::order_real(op, x as f64, y)),
+        Number::None => Truth::Bottom,
+    }
+}
+
+fn int64_order(op: Order, x: i64, b: Number) -> Truth
+    ensures { λ r. ⌜ r ≡ orderOf op (Number.Int64 x) b ⌝ }
+{
+    match b {
+        Number::Int32(y) => truth::of_bool(mixed::order_i64(op, x, y as i64)),
+        Number::Int64(y) => truth::of_bool(mixed::order_i64(op, x, y)),
+        Number::Real(y) => truth::of_bool(mixed::holds(op, mixed::compared(x, y))),
+        Number::None => Truth::Bottom,
+    }
+}
+
+fn real_order(op: Order, x: f64, b: Number) -> Truth
+    ensures { λ r. ⌜ r ≡ orderOf op (Number.Real x) b ⌝ }
+{
+    match b {
+        Number::Int32(y) => truth::of_bool(mixed::order_real(op, x, y as f64)),
+        Number::Int64(y) => truth::of_bool(mixed::holds(mixed::flipped(op), mixed::compared(y, x))),
+        Number::Real(y) => truth::of_bool(mixed::order_real(op, x, y)),
+        Number::None => Truth::Bottom,
     }
 }

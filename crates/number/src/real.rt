@@ -1,13 +1,12 @@
-// Reals: the value of a real literal, the bits of a real, an integer as a real, and f64's own operators.
+// Reals: the value of a real literal, the bits of a real, and f64's own operators.
 // Document 01, "Tokens" ("Reals"), "Notice" ("real64 (8, bits)"), "Meaning".
 ghost use mathlib.Core.Path.{_≡_};
 ghost use Prim.Native.Nat.{_<_};
 ghost use lib.Ieee.{binary64, nan, isNan, ofBits, toBits};
 ghost use Rattle.number.specs.Real.{tenTo, scaledOf, decimalOf};
-ghost use Rattle.number.specs.Number.{exactReal, realArithmetic, orderReal};
+ghost use Rattle.number.specs.Number.{realArithmetic};
 use crate::Number;
 use opcode::Arithmetic;
-use opcode::Order;
 
 // The powers of ten up to 10^22, which f64 holds exactly.
 const POWERS: [f64; 23] = [
@@ -103,19 +102,6 @@ pub fn bits_of_real(x: f64) -> u64
     f64::to_bits(x)
 }
 
-// An integer as a real: "if its size is at most 2^53, else bottom".
-pub(crate) fn exact_real(z: i64) -> Number
-    ensures { λ r. ⌜ r ≡ exactReal z ⌝ }
-{
-    if z < -9007199254740992 {
-        return Number::None;
-    }
-    if 9007199254740992 < z {
-        return Number::None;
-    }
-    Number::Real(z as f64)
-}
-
 // "Real with real is f64's own `+ - * /`"; "`%` with a real" is bottom.
 pub(crate) fn real_arithmetic(op: Arithmetic, x: f64, y: f64) -> Number
     ensures { λ r. ⌜ r ≡ realArithmetic op x y ⌝ }
@@ -126,16 +112,5 @@ pub(crate) fn real_arithmetic(op: Arithmetic, x: f64, y: f64) -> Number
         Arithmetic::Rem => Number::None,
         Arithmetic::Add => Number::Real(x + y),
         Arithmetic::Sub => Number::Real(x - y),
-    }
-}
-
-pub(crate) fn order_real(op: Order, x: f64, y: f64) -> bool
-    ensures { λ r. ⌜ r ≡ orderReal op x y ⌝ }
-{
-    match op {
-        Order::Less => x < y,
-        Order::LessEqual => x <= y,
-        Order::Greater => y < x,
-        Order::GreaterEqual => y <= x,
     }
 }

@@ -1,17 +1,33 @@
-use mathlib.Core.Path.{refl, sym, ap, _∙_}
+use mathlib.Core.Path.{sym, ap, _∙_}
 use lib.Ieee.{eq}
-use Rattle.number.specs.Integer.{equalZ}
-use Rattle.number.specs.Number.{comparedBy}
-use Rattle.number.proofs.Numbers.{compared-integers, compared-reals}
+use mir.Syntax.{w32, w64}
+use mir.ValLaws.{toZ-ofZ}
+use Rattle.number.specs.Number.{equalOf}
+use Rattle.number.specs.declared.Number.{Number}
+use Rattle.number.specs.declared.Number.the-variants.{Int32, Int64}
+use Rattle.number.proofs.Integers.{wide-fits}
+use Rattle.number.proofs.Numbers.{joined, two-int32}
 use borrow.Author.Needs.{needs}
 use Rattle.number.proofs.equal.Statement.{statement}
 use Rattle.number.proofs.equal.Tie as tie
 
-sides-of-requires : tie.Need-sides-of-requires
-sides-of-requires c κs = search needs
+is-int32-requires : tie.Need-is-int32-requires
+is-int32-requires c κs = search needs
 
-enum-known-x : tie.Need-enum-known-x
-enum-known-x c = search needs
+is-int32-requires-2 : tie.Need-is-int32-requires-2
+is-int32-requires-2 c κs = search needs
+
+int32-of-requires : tie.Need-int32-of-requires
+int32-of-requires c κs = search needs
+
+cast-equal-i64 : tie.Need-cast-equal-i64
+cast-equal-i64 c = wide-fits (c .int32-of .result) (record { sfits = c .int32-of .ok })
+
+int32-of-requires-2 : tie.Need-int32-of-requires-2
+int32-of-requires-2 c κs = search needs
+
+cast-equal-i64-2 : tie.Need-cast-equal-i64-2
+cast-equal-i64-2 c = wide-fits (c .int32-of2 .result) (record { sfits = c .int32-of2 .ok })
 
 equal-i64-requires : tie.Need-equal-i64-requires
 equal-i64-requires c κs = search needs
@@ -19,42 +35,73 @@ equal-i64-requires c κs = search needs
 of-bool-requires : tie.Need-of-bool-requires
 of-bool-requires c κs = search needs
 
-enum-known-x-2 : tie.Need-enum-known-x-2
-enum-known-x-2 c = search needs
+returns : tie.Need-returns
+returns c =
+    let e = c .before in let v2 = e .before in let v1 = v2 .before in let i = v1 .before in let q2 = i .before in let q1 = q2 .before in let s = q1 .before in
+    c .of-bool .ensures
+    ∙ two-int32 eq (s .args .a) (s .args .b) (joined (q1 .is-int32 .ensures) (q2 .is-int322 .ensures) (i .if1 .taken)) (v1 .int32-of .result) (v2 .int32-of2 .result)
+    (record { sfits = v1 .int32-of .ok }) (record { sfits = v2 .int32-of2 .ok }) (v1 .int32-of .ensures) (v2 .int32-of2 .ensures) (e .equal-i64 .ensures)
 
-of-bool-requires-2 : tie.Need-of-bool-requires-2
-of-bool-requires-2 c κs = search needs
+enum-known-a : tie.Need-enum-known-a
+enum-known-a c = search needs
+
+int32-equal-requires : tie.Need-int32-equal-requires
+int32-equal-requires c κs = search needs
+
+enum-known-a-2 : tie.Need-enum-known-a-2
+enum-known-a-2 c = search needs
+
+int64-equal-requires : tie.Need-int64-equal-requires
+int64-equal-requires c κs = search needs
+
+enum-known-a-3 : tie.Need-enum-known-a-3
+enum-known-a-3 c = search needs
+
+real-equal-requires : tie.Need-real-equal-requires
+real-equal-requires c κs = search needs
 
 enum-told : tie.Need-enum-told
 enum-told c = search needs
 
-returns : tie.Need-returns
-returns c =
-    let o = c .before in let k = o .before in let g = k .before in let s = g .before .before in
-    c .of-bool .ensures
-    ∙ compared-integers equalZ eq (s .sides-of .result) _ _ (g .x .given .1) (k .known-told .given .0 .1) (k .known-told .given .1 .0 .1) (o .equal-i64 .ensures) ∙ ap (comparedBy equalZ eq) (s .sides-of .ensures)
-
 returns-2 : tie.Need-returns-2
 returns-2 c =
-    let g = c .before .before in let s = g .before .before in
-    c .of-bool2 .ensures ∙ compared-reals equalZ eq (s .sides-of .result) _ _ (g .x2 .given .1) refl ∙ ap (comparedBy equalZ eq) (s .sides-of .ensures)
+    let m = c .before in let g = m .before in let i = g .before .before in let s = i .before .before .before in let b = s .args .b in
+    c .int32-equal .ensures ∙ ap (λ z. equalOf (Int32 z) b) (toZ-ofZ w32 (g .a .given .0 .0) (record { sfits = m .known-told .given .0 .1 })) ∙ sym (ap (λ (a : Number). equalOf a b) (g .a .given .1))
 
 returns-3 : tie.Need-returns-3
 returns-3 c =
-    let s = c .before .before in
-    ap (comparedBy equalZ eq) (sym (c .enum-told .given .1) ∙ s .sides-of .ensures)
+    let m = c .before in let g = m .before in let i = g .before .before in let s = i .before .before .before in let b = s .args .b in
+    c .int64-equal .ensures ∙ ap (λ z. equalOf (Int64 z) b) (toZ-ofZ w64 (g .a2 .given .0 .0) (record { sfits = m .known-told2 .given .0 .1 })) ∙ sym (ap (λ (a : Number). equalOf a b) (g .a2 .given .1))
+
+returns-4 : tie.Need-returns-4
+returns-4 c =
+    let m = c .before in let g = m .before in let i = g .before .before in let s = i .before .before .before in let b = s .args .b in
+    c .real-equal .ensures ∙ sym (ap (λ (a : Number). equalOf a b) (g .a3 .given .1))
+
+returns-5 : tie.Need-returns-5
+returns-5 c = search needs
 
 pub equal-spec : {M : Type 1} → statement M
 equal-spec =
     tie.close
     (tie.spec
-    sides-of-requires
-    enum-known-x
+    is-int32-requires
+    is-int32-requires-2
+    int32-of-requires
+    cast-equal-i64
+    int32-of-requires-2
+    cast-equal-i64-2
     equal-i64-requires
     of-bool-requires
-    enum-known-x-2
-    of-bool-requires-2
-    enum-told
     returns
+    enum-known-a
+    int32-equal-requires
+    enum-known-a-2
+    int64-equal-requires
+    enum-known-a-3
+    real-equal-requires
+    enum-told
     returns-2
-    returns-3)
+    returns-3
+    returns-4
+    returns-5)

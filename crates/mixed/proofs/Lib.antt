@@ -1,0 +1,3 @@
+pub mod Weights
+pub mod Theorems
+pub mod Compare
