@@ -1,8 +1,21 @@
 /*
  * Translates a subscription and matches notices: those of two staff numbers, and one of a console
  * that sends no Staff field. A missing name is bottom, not unequal, so that notice is not delivered.
+ * Which field Staff is, if any, is asked beside it.
  */
 #include "notice.h"
+
+/* Says which field has the name, and how many names were looked at to tell. */
+static void find(const struct notice *n, const char *name)
+{
+    size_t place, index, looked;
+    virentolex_find(n->bytes, n->length, (const uint8_t *)name, strlen(name),
+                    &place, &index, &looked);
+    if (index == VIRENTOLEX_NO_FIELD)
+        printf("; no field %s, %zu looked at\n", name, looked);
+    else
+        printf("; %s is field %zu, %zu looked at\n", name, index, looked);
+}
 
 static void match(const uint8_t *table, size_t table_len, const struct notice *n)
 {
@@ -12,10 +25,11 @@ static void match(const uint8_t *table, size_t table_len, const struct notice *n
     uint8_t number = virentolex_run(table, table_len, n->bytes, n->length, &place, &verdict, &steps);
     show(n);
     if (number != 0)
-        printf(": refused %d at %zu\n", number, place);
+        printf(": refused %d at %zu", number, place);
     else
-        printf(": %s, %s\n", names[verdict],
+        printf(": %s, %s", names[verdict],
                verdict == VIRENTOLEX_TRUE ? "delivered" : "not delivered");
+    find(n, "Staff");
 }
 
 int main(void)

@@ -70,6 +70,9 @@ extern "C" {
 #define VIRENTOLEX_TABLE_MAX 10250
 #define VIRENTOLEX_NOTICE_MAX 16384
 
+/* The index for a name that no field has. */
+#define VIRENTOLEX_NO_FIELD 64
+
 /* The bytes of a decision before its table, and the most bytes of a whole one. */
 #define VIRENTOLEX_DECISION_HEAD 528
 #define VIRENTOLEX_DECISION_MAX 10778
@@ -131,6 +134,21 @@ uint8_t virentolex_run(const uint8_t *table, size_t table_len,
 uint8_t virentolex_read(const uint8_t *notice, size_t notice_len, size_t k,
                         size_t *place, uint16_t *kind,
                         size_t *name, size_t *value, size_t *end);
+
+/*
+ * Finds the field of a name in a notice. Names rise, so the search stops at the first name that is not
+ * below the one sought, and finds what a walk over all fields finds. Any bytes may be sought, of any
+ * length; a name that breaks the rules for names is one that no field has.
+ *
+ * Answers 0, found or not, or 11 if the notice fails its layout.
+ * *place    after 11 as virentolex_check_notice says; else 0.
+ * *index    the field's number, the first being 0, as virentolex_read takes it; VIRENTOLEX_NO_FIELD if
+ *           no field has the name, and after 11.
+ * *looked   the names looked at: those below the one sought, and one more if any is left; after 11, 0.
+ */
+uint8_t virentolex_find(const uint8_t *notice, size_t notice_len,
+                        const uint8_t *name, size_t name_len,
+                        size_t *place, size_t *index, size_t *looked);
 
 /*
  * Adds a field to the notice in the first `length` bytes of the buffer, at its name's place.

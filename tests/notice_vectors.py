@@ -1,7 +1,8 @@
 #!/usr/bin/env python3
-"""notice_vectors.py [VECTORS]: writes crates/notice_test/stdin and stdout from the cases and answers of VECTORS/read.txt and VECTORS/write.txt, after document 01's Op42 and E and cases at the limits.
+"""notice_vectors.py [VECTORS]: writes crates/notice_test/stdin and stdout from the cases and answers of VECTORS/read.txt, VECTORS/write.txt and VECTORS/11-find.txt, after document 01's Op42 and E and cases at the limits.
 
 One case a line, byte strings in hex, `-` for none. read.txt: notice, k, number, place, kind, name, value. write.txt: buffer, named length, name, kind, value, number, place, new length, buffer afterwards.
+11-find.txt: notice, name, index or `-`, names looked at. Names are also found in other notices, those of read.txt among them, with answers after document 02's request 11.
 """
 import struct
 import sys
@@ -66,6 +67,52 @@ def limits():
     return reads, writes
 
 
+def names_of(s):
+    """The names of a well-formed notice."""
+    names, at = [], 8
+    for _ in range(struct.unpack_from("<H", s, 6)[0]):
+        size, _, length = struct.unpack_from("<HHB", s, at)
+        names.append(s[at + 5 : at + 5 + length])
+        at += 2 + size
+    return names
+
+
+def found(names, name):
+    """"those below the one sought, and one more if any is left"; 64 for the index of no field."""
+    below = sum(other < name for other in names)
+    return 0, 0, names.index(name) if name in names else 64, below + (below < len(names))
+
+
+def sought(names):
+    """Names to find: none, below and above all, and each name, its starts and longer ones, one of them as long as it but for a whole 256."""
+    some = [b"", b"\0", b" ", b"\x7f", b"~" * 65, b"\xff", b"\xc3\xa9"]
+    for name in names:
+        some += [name, name[:-1], name[:1], name + b"\0", name + b" ", name + b"\x80", name[:-1] + b"\xff", name.swapcase(), name + bytes(256)]
+    return list(dict.fromkeys(some))
+
+
+def edges():
+    """Cases of finding, with all these names, in notices of none, one and many fields, and of names that begin others."""
+    cases = []
+    for own in ([], [b"Op"], [b"a", b"ab", b"abc", b"abd", b"b", b"bb"], [b"~" * 63, b"~" * 64], [b"n%02d" % i for i in range(64)]):
+        s = notice([(name, 5, b"") for name in own])
+        cases += [(s, name, *found(own, name)) for name in sought(own[:4] + own[-2:])]
+    return cases
+
+
+def finds(reads):
+    """Two names in each notice of some cases of reading. One that is no notice is refused as reading refuses it, and no name is looked at."""
+    cases, seen = [], set()
+    for i, (s, _, number, place, *_) in enumerate(reads):
+        if s not in seen:
+            own = [] if number == 11 else names_of(s)
+            some = sought(own)
+            for name in (some[i % len(some)], some[(7 * i + 3) % len(some)]):
+                cases.append((s, name, 11, place, 64, 0) if number == 11 else (s, name, *found(own, name)))
+        seen.add(s)
+    return cases
+
+
 def unhex(word):
     return b"" if word == "-" else bytes.fromhex(word)
 
@@ -87,6 +134,10 @@ def main(vectors=Path(__file__).resolve().with_name("vectors")):
     for line in (folder / "write.txt").read_text().splitlines():
         buffer, size, name, kind, value, number, place, now, after = line.split()
         writes.append((unhex(buffer), int(size), unhex(name), int(kind), unhex(value), int(number), int(place), int(now), unhex(after)))
+    finding = edges() + finds(reads)
+    for line in (folder / "11-find.txt").read_text().splitlines():
+        s, name, index, looked = line.split()
+        finding.append((unhex(s), unhex(name), 0, 0, 64 if index == "-" else int(index), int(looked)))
     stdin, rows = [], []
 
     def put(*parts):
@@ -94,11 +145,14 @@ def main(vectors=Path(__file__).resolve().with_name("vectors")):
 
     for s, k, number, place, kind, name, value in reads:
         put(b"\1", s, struct.pack("<Q", k))
-        found = f"{kind} {show(value)} " if number == 0 else ""
-        rows.append(f"{number} {place} {kind} {show(name)} {show(value)} {found}")
+        looked_up = f"{kind} {show(value)} " if number == 0 else ""
+        rows.append(f"{number} {place} {kind} {show(name)} {show(value)} {looked_up}")
     for buffer, size, name, kind, value, number, place, now, after in writes:
         put(b"\2", buffer, struct.pack("<Q", size), name, struct.pack("<H", kind), value)
         rows.append(f"{number} {place} {now} {show(after)} ")
+    for s, name, number, place, index, looked in finding:
+        put(b"\3", s, name)
+        rows.append(f"{number} {place} {index} {looked} ")
     (here / "stdin").write_bytes(b"".join(stdin))
     (here / "stdout").write_text("\n".join(rows) + "\n")
 

@@ -259,7 +259,7 @@ pub fn ubf_write(notice: &[u8], text: &mut [u8]) -> (u8, usize, usize) {
     (number, place, length)
 }
 
-/// The inner run so many times: the sum of the runs' steps, each four times, and of their verdicts; 0 if the table fails the check.
+/// The inner run so many times: the sum of the runs' steps, each four times, and of their verdicts; 0 if the table fails the check or the notice is not well-formed.
 pub fn repeat(table: &[u8], notice: &[u8], times: u32) -> u64 {
     // SAFETY: as above
     unsafe {

@@ -74,10 +74,10 @@ fn truth(verdict: virentolex::Verdict) -> Truth {
 }
 
 /// The kinds in turn, by the case's number.
-const KINDS: [&str; 24] = [
+const KINDS: [&str; 25] = [
     "text", "table", "notice", "write", "text", "operator", "text", "notice", "text", "table",
     "text", "write", "text", "table", "notice", "text", "write", "text", "table", "quorum",
-    "wildcard", "size", "ubf", "meter",
+    "wildcard", "size", "ubf", "meter", "find",
 ];
 /// So many operators are tried in one case of theirs.
 const OPERATORS: usize = 20;
@@ -105,6 +105,7 @@ impl Case<'_> {
             "size" => self.size(),
             "ubf" => self.ubf(),
             "meter" => self.meter(),
+            "find" => self.find(),
             "operator" => (0..OPERATORS).try_for_each(|_| self.operator()),
             _ => self.program(),
         }
@@ -489,8 +490,8 @@ mod tests {
         assert_eq!(
             kinds,
             [
-                "meter", "notice", "operator", "program", "quorum", "size", "table", "text",
-                "ubf", "wildcard", "write"
+                "find", "meter", "notice", "operator", "program", "quorum", "size", "table",
+                "text", "ubf", "wildcard", "write"
             ]
         );
     }

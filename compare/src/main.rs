@@ -10,6 +10,8 @@ mod corners;
 mod decisions;
 mod edges;
 mod expressions;
+mod find;
+mod find_edges;
 mod inputs;
 mod meter_corners;
 mod meters;

@@ -1,7 +1,7 @@
 //! What occurred: how many cases of each kind, and each answer, op, verdict, limit and corner.
 
 use crate::edges::EDGES;
-use crate::{corners, quorum_edges, size, spellings, ubf_edges, wildcard};
+use crate::{corners, find_edges, quorum_edges, size, spellings, ubf_edges, wildcard};
 use reference::op::OPS;
 use std::collections::BTreeMap;
 
@@ -15,12 +15,13 @@ const MOST_NAMED: usize = 64;
 const RAREST: usize = 8;
 
 /// What must occur in a run of many cases.
-const NUMBERS: [(&str, &[u8]); 10] = [
+const NUMBERS: [(&str, &[u8]); 11] = [
     ("translate", &[0, 1, 2, 3, 4, 5, 6, 7, 8, 9, 10, 18]),
     ("check", &[0, 12]),
     ("run", &[0, 11, 12]),
     ("check_notice", &[0, 11]),
     ("read", &[0, 11, 17]),
+    ("find", &[0, 11]),
     ("write", &[0, 11, 13, 14, 15, 16]),
     ("quorum open", &[0, 9, 12, 21]),
     ("quorum show", &[0, 11, 12, 19, 20]),
@@ -32,7 +33,7 @@ const WORDS: [(&str, &[&str]); 11] = [
         "case",
         &[
             "text", "table", "operator", "notice", "write", "program", "quorum", "wildcard",
-            "size", "ubf", "meter",
+            "size", "ubf", "meter", "find",
         ],
     ),
     ("verdict", &["True", "False", "Bottom"]),
@@ -77,11 +78,13 @@ impl Tally {
         let corners = corners::names().into_iter().map(|one| ("corner", one));
         let spellings = spellings::names().into_iter().map(|one| ("spelling", one));
         let sizes = size::names().into_iter().map(|one| ("size", one));
+        let searches = find_edges::names().into_iter().map(|one| ("search", one));
         let all = numbers
             .chain(words)
             .chain(ops)
             .chain(corners)
             .chain(sizes)
+            .chain(searches)
             .chain(spellings);
         all.filter(|key| !self.counts.contains_key(key))
             .map(|(of, one)| format!("{of} {one}"))

@@ -23,7 +23,7 @@ pub mod wildcard;
 
 pub use compile::{translate, Translation};
 pub use meaning::meaning;
-pub use notice::{check_notice, read, write, Reading, Writing};
+pub use notice::{check_notice, find, read, write, Finding, Reading, Writing};
 pub use run::{run, Running};
 pub use table::check;
 pub use value::Truth;

@@ -1,4 +1,4 @@
-//! "Notice": its layout, reading a field, writing one.
+//! "Notice": its layout, reading a field, writing one; and, by document 02's request 11, finding one.
 
 use crate::value::Value;
 use crate::{word, MOST_FIELDS, MOST_NOTICE};
@@ -139,6 +139,41 @@ pub fn read(notice: &[u8], k: usize) -> Reading {
     }
 }
 
+/// Document 02, request 11: the index of the field that has the name, if one has, and "how many names it
+/// looked at".
+#[derive(Clone, Copy, PartialEq, Eq, Debug)]
+pub struct Finding {
+    pub number: u8,
+    pub place: usize,
+    pub index: Option<usize>,
+    pub looked: usize,
+}
+
+/// Document 02, request 11: "it finds what a walk over all fields finds. Beside that it answers how many
+/// names it looked at: those below the one sought, and one more if any is left." It asks for "a notice
+/// found well-formed", so 11 otherwise. No order of the names is used here.
+pub fn find(notice: &[u8], name: &[u8]) -> Finding {
+    let fields = match fields(notice) {
+        Ok(fields) => fields,
+        Err(place) => {
+            return Finding {
+                number: 11,
+                place,
+                index: None,
+                looked: 0,
+            }
+        }
+    };
+    let names = fields.iter().map(|field| &notice[field.name.clone()]);
+    let below = names.clone().filter(|one| *one < name).count();
+    Finding {
+        number: 0,
+        place: 0,
+        index: names.clone().position(|one| one == name),
+        looked: below + usize::from(below < names.len()),
+    }
+}
+
 /// "writing answers number, place and the new length, or the old one if refused"
 #[derive(Clone, Copy, PartialEq, Eq, Debug)]
 pub struct Writing {
@@ -276,6 +311,36 @@ mod tests {
             .map(|k| &buffer[read(&buffer[..length], k).name])
             .collect();
         assert_eq!(names, [&b"a"[..], b"ab", b"b", b"c"]);
+    }
+
+    #[test]
+    fn a_name_is_found_and_names_are_counted() {
+        let names = [&b"a"[..], b"ab", b"b"];
+        let fields = names.map(|name| field_bytes(name, 4, b"v"));
+        let mut notice = notice_bytes(3, &[&fields[0], &fields[1], &fields[2]]);
+        let cases: [(&[u8], Option<usize>, usize); 8] = [
+            (b"a", Some(0), 1),
+            (b"ab", Some(1), 2),
+            (b"b", Some(2), 3),
+            (b"", None, 1),
+            (b"aa", None, 2),
+            (b"abc", None, 3),
+            (b"c", None, 3),
+            (b"\xff", None, 3),
+        ];
+        let found = |number, place, index, looked| Finding {
+            number,
+            place,
+            index,
+            looked,
+        };
+        for (name, index, looked) in cases {
+            assert_eq!(find(&notice, name), found(0, 0, index, looked));
+            assert_eq!(find(&E, name), found(0, 0, None, 0));
+        }
+        notice[13] = b'c';
+        assert_eq!(find(&notice, b"c"), found(11, 15, None, 0));
+        assert_eq!(find(b"", b"a"), found(11, 0, None, 0));
     }
 
     #[test]

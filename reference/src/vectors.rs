@@ -17,6 +17,7 @@
 //! - `05-read.txt`: UBF(A) text, buffer length, number, place, notice
 //! - `05-write.txt`: notice, buffer length, number, place, UBF(A) text
 //! - `06-run.txt`: as `run.txt`, of tables with integers beside reals and results beyond int64
+//! - `11-find.txt`: notice, name, index of the field that has it or `-`, names looked at
 
 use crate::quorum::{self, Decision, Shown};
 use crate::wildcard::Pattern;
@@ -48,6 +49,7 @@ fn answer(file: &str, words: &[&str]) -> Option<(usize, String)> {
         ("03-states.txt", 8) => Some((4, state(words)?)),
         ("05-read.txt", 5) => Some((2, ubf(words, crate::ubf::read)?)),
         ("05-write.txt", 5) => Some((2, ubf(words, crate::ubf::write)?)),
+        ("11-find.txt", 4) => Some((2, find(words)?)),
         _ => None,
     }
 }
@@ -154,6 +156,13 @@ fn ubf(words: &[&str], call: fn(&[u8], &mut [u8]) -> crate::Writing) -> Option<S
         answer.place,
         hex(&buffer[..answer.length])
     ))
+}
+
+/// A name sought in a notice; no case is refused.
+fn find(words: &[&str]) -> Option<String> {
+    let answer = crate::find(&bytes(words[0])?, &bytes(words[1])?);
+    let index = answer.index.map_or("-".into(), |k| k.to_string());
+    (answer.number == 0).then(|| format!("{index} {}", answer.looked))
 }
 
 fn shown(answer: Shown) -> String {

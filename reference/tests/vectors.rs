@@ -21,6 +21,7 @@ fn the_vectors_agree() {
         ("05-read.txt", 900),
         ("05-write.txt", 400),
         ("06-run.txt", 1200),
+        ("11-find.txt", 500),
     ];
     for (file, cases) in files {
         let lines = read_to_string(format!("{folder}/{file}")).expect(file);

@@ -43,6 +43,15 @@ mod library {
             value: *mut usize,
             end: *mut usize,
         ) -> u8;
+        pub fn virentolex_find(
+            notice: *const u8,
+            notice_len: usize,
+            name: *const u8,
+            name_len: usize,
+            place: *mut usize,
+            index: *mut usize,
+            looked: *mut usize,
+        ) -> u8;
         pub fn virentolex_write(
             buffer: *mut u8,
             buffer_len: usize,
@@ -107,6 +116,9 @@ pub const DECISION_MAX: usize = DECISION_HEAD + TABLE_MAX;
 
 /// The most bytes of a UBF(A) text that is written; one that is read may be longer.
 pub const UBF_TEXT_MAX: usize = 32_839;
+
+/// The library's index for a name that no field has.
+const NO_FIELD: usize = 64;
 
 /// The notice without fields, with which a new notice is begun.
 pub const EMPTY_NOTICE: [u8; 8] = [4, 0, 0, 0, 1, 0, 0, 0];
@@ -189,6 +201,16 @@ pub struct Field<'a> {
     pub kind: u16,
     pub name: &'a [u8],
     pub value: &'a [u8],
+}
+
+/// What finding a name answers: the index of the field that has it, if one has, and how many names were
+/// looked at; if refused, none and 0.
+#[derive(Debug, Clone, Copy, PartialEq, Eq)]
+pub struct Found {
+    pub number: u8,
+    pub place: usize,
+    pub index: Option<usize>,
+    pub looked: usize,
 }
 
 /// What writing answers: the notice's new length, or the length that was named if refused.
@@ -309,6 +331,31 @@ pub fn read(notice: &[u8], k: usize) -> Field<'_> {
         kind,
         name: &notice[name..value],
         value: &notice[value..end],
+    }
+}
+
+/// Finds the field of a name, which may be any bytes: 11. The search stops at the first name that is not
+/// below the one sought; looked at are the names below it, and one more if any is left.
+pub fn find(notice: &[u8], name: &[u8]) -> Found {
+    let (mut place, mut index, mut looked) = (0, 0, 0);
+    // SAFETY: each pointer and length come from one slice, which is only read; the three results are
+    // borrowed here alone.
+    let number = unsafe {
+        library::virentolex_find(
+            notice.as_ptr(),
+            notice.len(),
+            name.as_ptr(),
+            name.len(),
+            &mut place,
+            &mut index,
+            &mut looked,
+        )
+    };
+    Found {
+        number,
+        place,
+        index: (index != NO_FIELD).then_some(index),
+        looked,
     }
 }
 

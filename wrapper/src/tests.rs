@@ -189,6 +189,8 @@ fn empty_slices_are_answered() {
     assert_eq!(run(&[], &[]).number, 12);
     assert_eq!(run(&OP_IS_42, &[]).number, 11);
     assert_eq!(read(&[], 0).number, 11);
+    assert_eq!(find(&[], b"").number, 11);
+    assert_eq!(find(&EMPTY_NOTICE, b"").number, 0);
     assert_eq!(write(&mut [], 0, b"", kind::STRING, b"").number, 11);
 }
 
@@ -212,6 +214,20 @@ fn an_empty_slice_may_have_a_null_pointer() {
     assert_eq!((number, place, length), (2, 0, 0));
     // SAFETY: a slice of length 0 may have any pointer.
     assert_eq!(unsafe { library::virentolex_check(null, 0) }, 12);
+    let (mut index, mut looked) = (9, 9);
+    // SAFETY: as above; the results are borrowed here alone.
+    let number = unsafe {
+        library::virentolex_find(
+            OP42.as_ptr(),
+            OP42.len(),
+            null,
+            0,
+            &mut place,
+            &mut index,
+            &mut looked,
+        )
+    };
+    assert_eq!((number, place, index, looked), (0, 0, 64, 1));
 }
 
 /// A notice of string fields, their names rising.
@@ -232,6 +248,62 @@ fn strings(fields: &[(&str, &str)]) -> Vec<u8> {
     }
     buffer.truncate(length);
     buffer
+}
+
+fn found(number: u8, place: usize, index: Option<usize>, looked: usize) -> Found {
+    Found {
+        number,
+        place,
+        index,
+        looked,
+    }
+}
+
+#[test]
+fn the_search_stops_at_the_first_name_not_below() {
+    let notice = strings(&[("Cab", "T-41"), ("Cabin", ""), ("Staff", "417"), ("~", "")]);
+    let cases: [(&[u8], Option<usize>, usize); 16] = [
+        (b"Cab", Some(0), 1),
+        (b"Cabin", Some(1), 2),
+        (b"Staff", Some(2), 3),
+        (b"~", Some(3), 4),
+        (b"Ca", None, 1),
+        (b"Cabi", None, 2),
+        (b"Cabs", None, 3),
+        (b"Staf", None, 3),
+        (b"Staff ", None, 4),
+        (b"~~", None, 4),
+        // what no field can have: it is sought like any other
+        (b"", None, 1),
+        (b"\0", None, 1),
+        (b"Cab\0", None, 2),
+        (b"Cab\xFF", None, 3),
+        (b"\x80", None, 4),
+        (&[b'C'; 65], None, 1),
+    ];
+    for (name, index, looked) in cases {
+        let answer = find(&notice, name);
+        assert_eq!(
+            answer,
+            found(0, 0, index, looked),
+            "{}",
+            name.escape_ascii()
+        );
+        assert_eq!(find(&EMPTY_NOTICE, name), found(0, 0, None, 0));
+        if let Some(k) = index {
+            assert_eq!(read(&notice, k).name, name);
+        }
+    }
+}
+
+#[test]
+fn no_name_is_looked_at_in_what_is_no_notice() {
+    let mut fallen = strings(&[("Cab", "T-41"), ("Staff", "417")]);
+    assert_eq!(find(&fallen, b"Cab"), found(0, 0, Some(0), 1));
+    // "Staff" becomes "Btaff", so that the names no longer rise; its field starts behind that of "Cab"
+    fallen[8 + 12 + 5] = b'B';
+    assert_eq!(find(&fallen, b"Cab"), found(11, 8 + 12, None, 0));
+    assert_eq!(find(&OP42[..18], b"Op"), found(11, 0, None, 0));
 }
 
 fn shown(number: u8, place: usize, count: u8, reached: bool) -> Shown {

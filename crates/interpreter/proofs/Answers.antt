@@ -1,9 +1,11 @@
 -- The guarded run's answers: the refusals, and the last machine's slot and steps. Assumes nothing.
-use mathlib.Core.Path.{_≡_, sym, ap, _∙_}
-use mathlib.Core.Bool.{true, false}
+use mathlib.Core.Path.{_≡_, refl, sym, ap, _∙_}
+use mathlib.Core.Bool.{Bool, true, false}
 use mathlib.Core.List.{List}
 use Prim.Native.Nat.{ℕ}
+use native.Mathlib.Omega.{arith}
 use lib.ListN.{length, getD}
+use Rattle.common.specs.Choice.{pick}
 use Rattle.truth.specs.declared.Truth.{Truth}
 use Rattle.notice.specs.declared.Layout.{Layout}
 use Rattle.notice.specs.Layout.{checkOf as noticeCheck, numberOf}
@@ -16,7 +18,7 @@ use Rattle.interpreter.specs.declared.Machine.{Machine}
 use Rattle.interpreter.specs.declared.Ran.{Ran}
 use Rattle.interpreter.specs.Run.{State, slotAt, after, runOf, verdictOf}
 use Rattle.interpreter.specs.Machine.{blank, stackOf, stateOf}
-use Rattle.interpreter.specs.Running.{refused, answerOf, runningOf}
+use Rattle.interpreter.specs.Running.{refused, answerOf, onLayout, runningOf}
 use Rattle.interpreter.proofs.Visits.{as-many}
 use Rattle.interpreter.proofs.Theorems.{run-ends}
 
@@ -29,6 +31,15 @@ module _ (table notice : List ℕ) where
 
   pub neither-refused : tableCheck table ≡ true → noticeCheck notice ≡ Layout.WellFormed → answerOf (runOf (decode table) notice) ≡ runningOf table notice
   neither-refused e f = rw (e, f)
+
+  -- a run that is not refused has found the notice well-formed
+  pub ran-well : runningOf table notice .number ≡ 0 → noticeCheck notice ≡ Layout.WellFormed
+  ran-well = go (tableCheck table) (noticeCheck notice)
+    where
+      go : (b : Bool) (l : Layout) → pick b (λ _. onLayout l (λ _. answerOf (runOf (decode table) notice))) (λ _. refused (refusalOf false) 0) .number ≡ 0 → l ≡ Layout.WellFormed
+      go true Layout.WellFormed z = refl
+      go true (Layout.Fault place) z = absurd (omega arith)
+      go false l z = absurd (omega arith)
 
   -- the last machine of the whole run
   module _ (m : Machine) (n : ℕ) (checked : tableCheck table ≡ true) (count : n ≡ countOf table) (ran : stateOf (poolOf table) notice m ≡ after (decode table) notice n) where

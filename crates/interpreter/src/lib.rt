@@ -3,6 +3,8 @@ ghost use mathlib.Core.Path.{_≡_};
 ghost use mathlib.Core.Bool.{true, cond};
 ghost use mathlib.Core.List.{List};
 ghost use Prim.Native.Nat.{ℕ, _+_, _≤_};
+ghost use Rattle.notice.specs.Layout.{checkOf as noticeCheck};
+ghost use Rattle.notice.specs.declared.Layout.the-variants.{WellFormed};
 ghost use Rattle.table.specs.Table.{decode};
 ghost use Rattle.table.specs.Check.{checkOf};
 ghost use Rattle.value.specs.Value.{truthIn};
@@ -49,13 +51,13 @@ fn stride(skip: Skip, a: u16, top: Held) -> usize
     }
 }
 
-// The inner run: at most `budget` visits, or as many as there are. It asks for a table that passes the check, so that a caller checks a table once and runs it often; the notice may be any bytes.
+// The inner run: at most `budget` visits, or as many as there are. It asks for a table that passes the check, so that a caller checks a table once and runs it often, and for a notice found well-formed, so that the search for a field may stop (document 02, request 11).
 // "After each visit the runner's own next entry and whole stack are those of this rule": `Visited`. Two things are left free. The slots above the depth hold whatever earlier visits left in them; the array has 32 slots, and the depth is
 // at most 32. Where a string lies is not told: its slot names some stretch of the pool or of the notice, with a mark or without, that gives the string's bytes.
 // The stack is updated in place, and the numbers stand beside it, so that they stay in registers. Each group of operators stores its own answer and goes on: where the groups meet, a slot would be put together from its parts.
 // Of two operands the second is read first: the slot that is written is then the one that was read last, and the compiler copies nothing between the two.
 pub fn run_checked<'a>(table: &'a [u8], notice: &'a [u8], budget: usize) -> Machine
-    requires { ⌜ checkOf (now table) ≡ true ⌝ }
+    requires { ⌜ (checkOf (now table) ≡ true) × (noticeCheck (now notice) ≡ WellFormed) ⌝ }
     ensures { λ r. ⌜ Visited (now (table .entry)) (now (notice .entry)) budget r ⌝ }
 {
     let n = table::count(table);
@@ -240,9 +242,9 @@ fn refused(number: u8, place: usize) -> Ran
     }
 }
 
-// The whole run of a table that passes the check, for a caller who checks a table once and runs it often: "At N it ends and the one slot is the verdict."
+// The whole run of a table that passes the check on a notice found well-formed, for a caller who checks a table once and runs it often: "At N it ends and the one slot is the verdict."
 pub fn run_whole<'a>(table: &'a [u8], notice: &'a [u8]) -> Ran
-    requires { ⌜ checkOf (now table) ≡ true ⌝ }
+    requires { ⌜ (checkOf (now table) ≡ true) × (noticeCheck (now notice) ≡ WellFormed) ⌝ }
     ensures { λ r. ⌜ r ≡ answerOf (runOf (decode (now (table .entry))) (now (notice .entry))) ⌝ }
 {
     let n = table::count(table);

@@ -2,7 +2,7 @@
 use mathlib.Core.Path.{_≡_, refl, sym, ap, ap₂, _∙_}
 use mathlib.Core.Bool.{Bool, true, false, not, _&&_, _||_}
 use mathlib.Core.List.{List, [], _∷_, _++_, map, append-assoc, append-nil}
-use Prim.Native.Nat.{ℕ, zero, suc, _+_, _-_, _≤_, _<_}
+use Prim.Native.Nat.{ℕ, suc, _+_, _-_, _≤_, _<_}
 use native.Mathlib.Omega.{arith}
 use lib.Dec.{leb, ltb}
 use lib.ListN.{length, take, drop, length-append, length-drop, take-append-drop}
@@ -18,8 +18,8 @@ use Rattle.notice.specs.declared.Found.{Found}
 use Rattle.notice.specs.declared.Found.the-variants.{At, Nothing}
 use Rattle.notice.specs.Field.{Field, nameRight, sizeRight, fieldRight, allRight}
 use Rattle.notice.specs.Render.{fieldBytes, fieldsBytes, headerBytes, render}
-use Rattle.notice.specs.Layout.{unless, nameAt, kindAt, valueStart, valueSizeAt, fieldAt, countOf, startsFrom, startsOf, fieldsOf}
-use Rattle.notice.specs.Lookup.{lookupIn, lookupOf}
+use Rattle.notice.specs.Layout.{unless, nameAt, fieldAt, countOf, startsFrom, startsOf, fieldsOf}
+use Rattle.notice.specs.Lookup.{foundAt, lookupIn, lookupOf}
 use Rattle.notice.specs.Write.{fieldSize, hasName, insertField, placeIn, placeFor, hasRoom, refusalIn, Insertable, insertedBytes}
 use Rattle.notice.proofs.Keys.{bytes-take}
 use Rattle.notice.proofs.Walks.{starts-end, starts-more}
@@ -36,7 +36,7 @@ found-named s name [] = refl
 found-named s name (at ∷ ats) = go (sameOf (nameAt s at) name) (found-named s name ats)
   where
     go : (b : Bool) → hasName name (map (fieldAt s) ats) ≡ isFound (lookupIn s name ats)
-        → (b || hasName name (map (fieldAt s) ats)) ≡ isFound (pick b (λ _. At (kindAt s at) (valueStart s at) (valueSizeAt s at)) (λ _. lookupIn s name ats))
+        → (b || hasName name (map (fieldAt s) ats)) ≡ isFound (pick b (λ _. foundAt s at) (λ _. lookupIn s name ats))
     go true e = refl
     go false e = e
 

@@ -10,6 +10,7 @@ pub mod Stores
 pub mod Inserts
 pub mod Writes
 pub mod Orders
+pub mod Searches
 pub mod Faults
 pub mod Trips
 pub mod Theorems

@@ -69,6 +69,21 @@ checked-more n last s at bytes e c =
       rises = rw m (ap₂ (λ (a b : Bool). a && b) (c .after) (c .rises));
     }
 
+-- a check that finds no fault: the first field stands, and the others pass
+stands-suc : (n : ℕ) (last s : List ℕ) (at : ℕ) → checkFrom (suc n) last s at ≡ WellFormed → (standsAt last s at ≡ true) × (checkFrom n (nameAt s at) s (nextAt s at) ≡ WellFormed)
+unfolding checkFrom
+stands-suc n last s at e = go (standsAt last s at) refl e
+  where
+    go : (b : Bool) → standsAt last s at ≡ b → pick b (λ _. checkFrom n (nameAt s at) s (nextAt s at)) (λ _. Fault at) ≡ WellFormed
+        → (standsAt last s at ≡ true) × (checkFrom n (nameAt s at) s (nextAt s at) ≡ WellFormed)
+    go true p h = (p, h)
+    go false p h = fault-well h
+
+pub first-stands : (n : ℕ) (last s : List ℕ) (at : ℕ) → 0 < n → checkFrom n last s at ≡ WellFormed → (standsAt last s at ≡ true) × (checkFrom (n - 1) (nameAt s at) s (nextAt s at) ≡ WellFormed)
+first-stands n last s at p e =
+    let z : n ≡ suc (n - 1) = omega arith in
+    stands-suc (n - 1) last s at (ap (λ (k : ℕ). checkFrom k last s at) (sym z) ∙ e)
+
 pub check-sound : (n : ℕ) (last s : List ℕ) (at : ℕ) → Bytes s → checkFrom n last s at ≡ WellFormed → Checked n last s at
 unfolding checkFrom
 check-sound zero last s at bytes e = go (eqb at (length s)) refl e
@@ -76,12 +91,9 @@ check-sound zero last s at bytes e = go (eqb at (length s)) refl e
     go : (b : Bool) → eqb at (length s) ≡ b → cond b WellFormed (Fault at) ≡ WellFormed → Checked 0 last s at
     go true p h = let z : at ≡ length s = eqb-true at (length s) p in checked-end last s at (omega arith)
     go false p h = fault-well h
-check-sound (suc n) last s at bytes e = go (standsAt last s at) refl e (check-sound n (nameAt s at) s (nextAt s at) bytes)
-  where
-    go : (b : Bool) → standsAt last s at ≡ b → pick b (λ _. checkFrom n (nameAt s at) s (nextAt s at)) (λ _. Fault at) ≡ WellFormed
-        → (checkFrom n (nameAt s at) s (nextAt s at) ≡ WellFormed → Checked n (nameAt s at) s (nextAt s at)) → Checked (suc n) last s at
-    go true p h ih = checked-more n last s at bytes p (ih h)
-    go false p h ih = fault-well h
+check-sound (suc n) last s at bytes e =
+    let p = stands-suc n last s at e in
+    checked-more n last s at bytes (p .0) (check-sound n (nameAt s at) s (nextAt s at) bytes (p .1))
 
 -- a list of right fields after some bytes
 module _ (fs : List Field) where
@@ -201,7 +213,7 @@ module _ (fs : List Field) (ok : NoticeFields fs) where
 
 -- a well-formed notice is what `render` gives of its fields
 module _ (s : List ℕ) (bytes : Bytes s) (well : checkOf s ≡ WellFormed) where
-  header-well : (headerRight s ≡ true) × (checkFrom (countOf s) [] s 8 ≡ WellFormed)
+  pub header-well : (headerRight s ≡ true) × (checkFrom (countOf s) [] s 8 ≡ WellFormed)
   header-well = go (headerRight s) refl well
     where
       go : (b : Bool) → headerRight s ≡ b → pick b (λ _. checkFrom (countOf s) [] s 8) (λ _. Fault 0) ≡ WellFormed → (headerRight s ≡ true) × (checkFrom (countOf s) [] s 8 ≡ WellFormed)

@@ -1,9 +1,9 @@
 -- The theorems that specs/Theorems.antt states. Assumes nothing.
 use mathlib.Core.Path.{_≡_, refl, sym, ap, ap₂, _∙_}
 use mathlib.Core.Logic.{_⊎_, inl, inr}
-use mathlib.Core.Bool.{Bool, true, false, _&&_}
+use mathlib.Core.Bool.{Bool, true, false, cond, _&&_}
 use mathlib.Core.List.{List, [], _∷_, _++_, map, List·Memᴰ, List·Memᴰ·head, List·Memᴰ·tail, List·Memᴰ·cases-cons, List·Memᴰ·not-nil}
-use mathlib.Core.Option.{some, none}
+use mathlib.Core.Option.{Option, some, none, Option·some-injective}
 use Prim.Native.Nat.{ℕ, zero, suc, _+_, _-_, _≤_, _<_}
 use native.Mathlib.Omega.{arith}
 use lib.Dec.{leb, ltb}
@@ -14,7 +14,7 @@ use Rattle.common.specs.Choice.{pick}
 use Rattle.common.proofs.Choice.{true-false}
 use Rattle.word.specs.Word.{wordBytes, Bytes}
 use Rattle.octets.specs.Octets.{sameOf, beforeOf}
-use Rattle.octets.proofs.Theorems.{and-parts, same, before-transitive}
+use Rattle.octets.proofs.Theorems.{and-parts, same, before-irreflexive, before-transitive}
 use Rattle.notice.specs.declared.Layout.{Layout}
 use Rattle.notice.specs.declared.Layout.the-variants as layouts
 use Rattle.notice.specs.declared.Written.{Written}
@@ -22,14 +22,16 @@ use Rattle.notice.specs.Field.{Field, allRight, beforeFirst, rising}
 use Rattle.notice.specs.Render.{fieldsBytes, render, NoticeFields}
 use Rattle.notice.specs.Layout.{nextAt, nameAt, fieldAt, liesAt, countOf, checkOf, startsFrom, fieldsOf, headerRight, standsAt, checkFrom, placeOf}
 use Rattle.notice.specs.Lookup.{fieldNamed, lookupIn, FoundIs}
+use Rattle.notice.specs.Search.{further, indexOf, belowOf, notBelow, firstNamed}
 use Rattle.notice.specs.Read.{readNumber, blank, readField}
 use Rattle.notice.specs.Write.{fieldSize, insertField, refusalBy, refusalOf, writtenOf, writtenBytes, Writes, Insertable}
-use Rattle.notice.specs.Theorems.{WellFormedExactly, lastName, FaultPlace, OneList, FieldsRead, CountFields, ReadEach, Lookup, NamedField, NoneNamed, EachFound, WriteAdds, InsertAdds, WrittenAgain, EmptyNotice, Op42}
+use Rattle.notice.specs.Theorems.{WellFormedExactly, lastName, FaultPlace, OneList, FieldsRead, CountFields, ReadEach, Lookup, NamedField, NoneNamed, EachFound, StoppingFinds, StoppingLooks, IndexFinds, NoIndex, WriteAdds, InsertAdds, WrittenAgain, EmptyNotice, Op42}
 use Rattle.notice.proofs.Places.{lies-true}
 use Rattle.notice.proofs.Walks.{starts-end, starts-more, starts-stop}
 use Rattle.notice.proofs.Renders.{render-passes, render-fields, well-render, well-fields, well-count, length-render}
 use Rattle.notice.proofs.Keys.{bytes-take}
 use Rattle.notice.proofs.Orders.{before-not-same, insert-splits, insertAll, fresh, perm-fresh, perm-inserted, perm-right, perm-length, perm-size, allBeforeFirst, rising-fresh, rising-inserted}
+use Rattle.notice.proofs.Searches.{first-above, none-same, not-below}
 use Rattle.notice.proofs.Checks.{header-long}
 use Rattle.notice.proofs.Faults.{faulted}
 use Rattle.notice.proofs.Trips.{Fitting, added-fields, added-length, over, writes-all}
@@ -99,7 +101,7 @@ lookup s name = go (leb 8 (length s) && leb (length s) 16384)
     go false = tt
 
 -- the field of a name
-some-none : {A : Type 0} {f : Field} → some f ≡ none → A
+some-none : {A B : Type 0} {x : B} → some x ≡ none → A
 some-none e = true-false (cc)
 
 pub named-field : NamedField
@@ -153,6 +155,82 @@ each-found (g ∷ gs) f r m = go (List·Memᴰ·cases-cons m) (each-found gs f (
         let p = and-parts (beforeFirst (g .name) gs) (rising gs) r in
         let n : sameOf (g .name) (f .name) ≡ false = before-not-same (g .name) (f .name) (after-first (g .name) gs f (p .0) (p .1) c) in
         rw n (ih c)
+
+-- the search that stops
+further-none : (i : Option ℕ) → further i ≡ none → i ≡ none
+further-none none e = refl
+further-none (some k) e = some-none e
+
+index-none : (name : List ℕ) (fs : List Field) → indexOf name fs ≡ none → fieldNamed name fs ≡ none
+index-none name [] e = refl
+index-none name (f ∷ fs) e = go (sameOf (f .name) name) e (index-none name fs)
+  where
+    go : (b : Bool) → pick b (λ _. some 0) (λ _. further (indexOf name fs)) ≡ none → (indexOf name fs ≡ none → fieldNamed name fs ≡ none) → pick b (λ _. some f) (λ _. fieldNamed name fs) ≡ none
+    go true h ih = some-none h
+    go false h ih = ih (further-none (indexOf name fs) h)
+
+none-index : (name : List ℕ) (fs : List Field) → fieldNamed name fs ≡ none → indexOf name fs ≡ none
+none-index name [] e = refl
+none-index name (f ∷ fs) e = go (sameOf (f .name) name) e (none-index name fs)
+  where
+    go : (b : Bool) → pick b (λ _. some f) (λ _. fieldNamed name fs) ≡ none → (fieldNamed name fs ≡ none → indexOf name fs ≡ none) → pick b (λ _. some 0) (λ _. further (indexOf name fs)) ≡ none
+    go true h ih = some-none h
+    go false h ih = ap further (ih h)
+
+pub no-index : NoIndex
+no-index name fs = (index-none name fs, none-index name fs)
+
+-- after a field whose name is not below, none has the name
+none-after : (name : List ℕ) (f : Field) (fs : List Field) → rising (f ∷ fs) ≡ true → beforeOf (f .name) name ≡ false → indexOf name fs ≡ none
+none-after name f fs r n =
+    let p = and-parts (beforeFirst (f .name) fs) (rising fs) r in
+    none-same name fs (first-above name (f .name) fs n (p .0)) (p .1)
+
+pub stopping-finds : StoppingFinds
+stopping-finds name [] r = refl
+stopping-finds name (f ∷ fs) r = go (beforeOf (f .name) name) refl (stopping-finds name fs (and-parts (beforeFirst (f .name) fs) (rising fs) r .1))
+  where
+    go : (b : Bool) → beforeOf (f .name) name ≡ b → firstNamed name (notBelow name fs) ≡ fieldNamed name fs
+        → firstNamed name (pick b (λ _. notBelow name fs) (λ _. f ∷ fs)) ≡ fieldNamed name (f ∷ fs)
+    go true p ih = rw (before-not-same (f .name) name p) ih
+    go false p ih = rw (index-none name fs (none-after name f fs r p))
+
+pub stopping-looks : StoppingLooks
+stopping-looks name [] r = omega arith
+stopping-looks name (f ∷ fs) r = go (beforeOf (f .name) name) refl (stopping-looks name fs (and-parts (beforeFirst (f .name) fs) (rising fs) r .1))
+  where
+    go : (b : Bool) → beforeOf (f .name) name ≡ b → belowOf name fs + length (notBelow name fs) ≡ length fs
+        → belowOf name (f ∷ fs) + length (pick b (λ _. notBelow name fs) (λ _. f ∷ fs)) ≡ suc (length fs)
+    go true p ih = rw p (omega (arith, ih))
+    go false p ih = omega (arith, not-below name f fs p r)
+
+pub index-finds : IndexFinds
+index-finds name [] k e = some-none (sym e)
+index-finds name (f ∷ fs) k e = go (sameOf (f .name) name) refl e (index-finds name fs)
+  where
+    first : sameOf (f .name) name ≡ true → 0 ≡ k → (k < suc (length fs)) × (some f ≡ some (getD (f ∷ fs) k blank)) × (rising (f ∷ fs) ≡ true → k ≡ belowOf name (f ∷ fs))
+    first p z =
+        let m : beforeOf (f .name) name ≡ false = ap (λ (t : List ℕ). beforeOf t name) (same (f .name) name .0 p) ∙ before-irreflexive name in
+        rw (← z) (omega arith, refl, λ r. sym (not-below name f fs m r))
+
+    later : (j : ℕ) → indexOf name fs ≡ some j → suc j ≡ k → (j < length fs) × (fieldNamed name fs ≡ some (getD fs j blank)) × (rising fs ≡ true → j ≡ belowOf name fs)
+        → (k < suc (length fs)) × (fieldNamed name fs ≡ some (getD (f ∷ fs) k blank)) × (rising (f ∷ fs) ≡ true → k ≡ belowOf name (f ∷ fs))
+    later j i z ih = rw (← z) (omega (arith, ih .0), ih .1, λ r. below r (beforeOf (f .name) name) refl)
+      where
+        below : rising (f ∷ fs) ≡ true → (b : Bool) → beforeOf (f .name) name ≡ b → suc j ≡ cond b 1 0 + belowOf name fs
+        below r true p = omega (arith, ih .2 (and-parts (beforeFirst (f .name) fs) (rising fs) r .1))
+        below r false p = some-none (sym i ∙ none-after name f fs r p)
+
+    rest : (i : Option ℕ) → indexOf name fs ≡ i → further i ≡ some k → ((j : ℕ) → indexOf name fs ≡ some j → (j < length fs) × (fieldNamed name fs ≡ some (getD fs j blank)) × (rising fs ≡ true → j ≡ belowOf name fs))
+        → (k < suc (length fs)) × (fieldNamed name fs ≡ some (getD (f ∷ fs) k blank)) × (rising (f ∷ fs) ≡ true → k ≡ belowOf name (f ∷ fs))
+    rest none q h ih = some-none (sym h)
+    rest (some j) q h ih = later j q (Option·some-injective (suc j) k h) (ih j q)
+
+    go : (b : Bool) → sameOf (f .name) name ≡ b → pick b (λ _. some 0) (λ _. further (indexOf name fs)) ≡ some k
+        → ((j : ℕ) → indexOf name fs ≡ some j → (j < length fs) × (fieldNamed name fs ≡ some (getD fs j blank)) × (rising fs ≡ true → j ≡ belowOf name fs))
+        → (k < suc (length fs)) × (pick b (λ _. some f) (λ _. fieldNamed name fs) ≡ some (getD (f ∷ fs) k blank)) × (rising (f ∷ fs) ≡ true → k ≡ belowOf name (f ∷ fs))
+    go true p h ih = first p (Option·some-injective 0 k h)
+    go false p h ih = rest (indexOf name fs) refl h ih
 
 -- insertion into the fields of a notice
 pub insert-adds : InsertAdds

@@ -3,6 +3,7 @@ pub mod Render
 pub mod Layout
 pub mod Key
 pub mod Lookup
+pub mod Search
 pub mod Read
 pub mod Write
 pub mod Theorems

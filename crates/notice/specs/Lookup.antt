@@ -16,10 +16,14 @@ abbrev pub fieldNamed : List ℕ → List Field → Option Field
 fieldNamed name [] = none
 fieldNamed name (f ∷ fs) = pick (sameOf (f .name) name) (λ _. some f) (λ _. fieldNamed name fs)
 
--- the same in the bytes: of the fields that start at these places, the first that has the name, its kind and where its value lies
+-- the kind of the field that starts at `at`, and where its value lies
+abbrev pub foundAt : List ℕ → ℕ → Found
+foundAt s at = At (kindAt s at) (valueStart s at) (valueSizeAt s at)
+
+-- the same in the bytes: of the fields that start at these places, the first that has the name
 abbrev pub lookupIn : List ℕ → List ℕ → List ℕ → Found
 lookupIn s name [] = Nothing
-lookupIn s name (at ∷ ats) = pick (sameOf (nameAt s at) name) (λ _. At (kindAt s at) (valueStart s at) (valueSizeAt s at)) (λ _. lookupIn s name ats)
+lookupIn s name (at ∷ ats) = pick (sameOf (nameAt s at) name) (λ _. foundAt s at) (λ _. lookupIn s name ats)
 
 abbrev pub lookupOf : List ℕ → List ℕ → Found
 lookupOf s name = lookupIn s name (startsOf s)

@@ -12,6 +12,7 @@ use Rattle.notice.specs.Field.{Field, allRight, rising}
 use Rattle.notice.specs.Render.{fieldsBytes, render, NoticeFields}
 use Rattle.notice.specs.Layout.{countOf, headerRight, standsAt, checkOf, fieldsOf}
 use Rattle.notice.specs.Lookup.{fieldNamed, lookupOf, FoundIs}
+use Rattle.notice.specs.Search.{indexOf, belowOf, notBelow, firstNamed}
 use Rattle.notice.specs.Read.{readNumber, blank, readField}
 use Rattle.notice.specs.Write.{field, insertField, writtenOf, writtenBytes, Writes}
 
@@ -64,6 +65,23 @@ NoneNamed = (name : List ℕ) (fs : List Field) → (fieldNamed name fs ≡ none
 -- Every field of a notice is found by its name.
 abbrev pub EachFound : Type 0
 EachFound = (fs : List Field) (f : Field) → rising fs ≡ true → List·Memᴰ f fs → fieldNamed (f .name) fs ≡ some f
+
+-- "the search for a field should stop at the first name not below the one sought; it finds what a walk over all fields finds": where names rise, the first field whose name is not below has the name, or none has.
+abbrev pub StoppingFinds : Type 0
+StoppingFinds = (name : List ℕ) (fs : List Field) → rising fs ≡ true → firstNamed name (notBelow name fs) ≡ fieldNamed name fs
+
+-- .. and the fields passed before it are just those whose names are below: "how many names it looked at: those below the one sought, and one more if any is left".
+abbrev pub StoppingLooks : Type 0
+StoppingLooks = (name : List ℕ) (fs : List Field) → rising fs ≡ true → belowOf name fs + length (notBelow name fs) ≡ length fs
+
+-- The index that is found is that of the field that lookup finds; where names rise, as many names are below it as it says.
+abbrev pub IndexFinds : Type 0
+IndexFinds =
+    (name : List ℕ) (fs : List Field) (k : ℕ) → indexOf name fs ≡ some k → (k < length fs) × (fieldNamed name fs ≡ some (getD fs k blank)) × (rising fs ≡ true → k ≡ belowOf name fs)
+
+-- No index is found exactly if lookup finds none.
+abbrev pub NoIndex : Type 0
+NoIndex = (name : List ℕ) (fs : List Field) → (indexOf name fs ≡ none) ↔ (fieldNamed name fs ≡ none)
 
 -- What a write that is not refused leaves is a notice. It has all the old fields and the new one, as it was given, at its name's place, and no other.
 abbrev pub WriteAdds : Type 0

@@ -1,19 +1,22 @@
 // Notices: layout, lookup by name, reading and writing. Document 01, "Notice".
 ghost use mathlib.Core.Path.{_≡_};
+ghost use mathlib.Core.Bool.{true};
 ghost use mathlib.Core.List.{[]};
 ghost use Prim.Native.Nat.{_≤_};
 ghost use lib.ListN.{length};
-ghost use Rattle.notice.specs.Layout.{headerRight, countOf, checkFrom, checkOf};
-ghost use Rattle.notice.specs.Lookup.{lookupOf};
+ghost use Rattle.notice.specs.Layout.{headerRight, countOf, checkFrom, checkOf, rightAt};
+ghost use Rattle.notice.specs.declared.Layout.the-variants.{WellFormed};
+ghost use Rattle.notice.specs.Lookup.{foundAt, lookupOf};
+ghost use Rattle.notice.specs.Search.{findOf};
 
 mod field;
 mod name;
 mod order;
 mod reading;
+mod search;
 mod writing;
 
 use field::field_size;
-use field::lies;
 use field::name_size;
 pub use field::size_right;
 use field::stands;
@@ -26,6 +29,8 @@ pub use reading::name_of;
 pub use reading::part;
 pub use reading::read;
 pub use reading::value_of;
+use search::search;
+use search::sought;
 pub use writing::write;
 
 // A notice is well-formed, or its first fault is at a place.
@@ -38,6 +43,14 @@ pub enum Layout {
 pub enum Found {
     At { kind: u16, start: u16, len: u16 },
     Nothing,
+}
+
+// What finding a name answers: document 01's number and place, the field's index, 64 if there is no such field, and how many names were looked at.
+pub struct Sought {
+    pub number: u8,
+    pub place: usize,
+    pub index: usize,
+    pub looked: usize,
 }
 
 // Where field k lies, with document 01's number and place: its name, its value after the name, and its end.
@@ -126,35 +139,44 @@ pub fn check(notice: &[u8]) -> Layout
     Layout::Fault(0)
 }
 
-// The field of a name. On any slice it looks at the fields that lie within it; `check` says whether it is a notice.
+// Where a field's kind and value lie.
+fn found_at(notice: &[u8], at: usize) -> Found
+    requires { ⌜ (length (now notice) ≤ 16384) × (rightAt (now notice) at ≡ true) ⌝ }
+    ensures { λ r. ⌜ r ≡ foundAt (now (notice .entry)) at ⌝ }
+{
+    let value = at + 5 + name_size(notice, at);
+    let next = at + 2 + field_size(notice, at);
+    Found::At {
+        kind: word::read_u16(notice, at + 2),
+        start: value as u16,
+        len: (next - value) as u16,
+    }
+}
+
+// The field of a name: "5 the field's or bottom". It asks for a notice found well-formed, in which the search may stop; it finds what a walk over all fields finds.
 pub fn lookup(notice: &[u8], name: &[u8]) -> Found
+    requires { ⌜ checkOf (now notice) ≡ WellFormed ⌝ }
     ensures { λ r. ⌜ r ≡ lookupOf (now (notice .entry)) (now (name .entry)) ⌝ }
 {
-    if notice.len() < 8 {
-        return Found::Nothing;
-    }
-    if 16384 < notice.len() {
-        return Found::Nothing;
-    }
-    let mut left = word::read_u16(notice, 6);
-    let mut at = 8;
-    while 0 < left {
-        if lies(notice, at) {
-            let start = at + 5;
-            let value = start + name_size(notice, at);
-            let next = at + 2 + field_size(notice, at);
-            if octets::same(&notice[start..value], false, name, false) {
-                return Found::At {
-                    kind: word::read_u16(notice, at + 2),
-                    start: value as u16,
-                    len: (next - value) as u16,
-                };
-            }
-            at = next;
-            left -= 1;
-        } else {
-            return Found::Nothing;
-        }
+    let stop = search(notice, name);
+    if stop.found {
+        return found_at(notice, stop.at);
     }
     Found::Nothing
+}
+
+// The index of a name's field and the names looked at, for any bytes: 11 with its place if they are no notice.
+pub fn find(notice: &[u8], name: &[u8]) -> Sought
+    ensures { λ r. ⌜ r ≡ findOf (now (notice .entry)) (now (name .entry)) ⌝ }
+{
+    let layout = check(notice);
+    match layout {
+        Layout::WellFormed => sought(notice, name),
+        Layout::Fault(place) => Sought {
+            number: 11,
+            place: place,
+            index: 64,
+            looked: 0,
+        },
+    }
 }

@@ -3,6 +3,8 @@ ghost use mathlib.Core.Path.{_≡_};
 ghost use Prim.Native.Nat.{_+_, _≤_};
 ghost use lib.ListN.{length};
 ghost use lib.Seq.{sets};
+ghost use Rattle.notice.specs.declared.Layout.the-variants.{WellFormed};
+ghost use Rattle.notice.specs.Layout.{checkOf};
 ghost use Rattle.notice.specs.Render.{fieldBytes};
 ghost use Rattle.notice.specs.Write.{field, placeFor, hasRoom, refusalIn, Insertable, insertedBytes, WriteIs};
 use crate::Found;
@@ -59,7 +61,7 @@ fn has_room(count: u16, size: usize, room: usize) -> bool
 
 // The refusals of a field for a notice in `room` bytes: 13, 16, 14, 15 in this order, and 0 for none.
 fn refusal(notice: &[u8], room: usize, name: &[u8], kind: u16, value: &[u8]) -> u8
-    requires { ⌜ 8 ≤ length (now notice) ⌝ }
+    requires { ⌜ checkOf (now notice) ≡ WellFormed ⌝ }
     ensures { λ r. ⌜ r ≡ refusalIn (now (notice .entry)) room (field kind (now (name .entry)) (now (value .entry))) ⌝ }
 {
     let named = name_right(name);

@@ -1,10 +1,14 @@
-// Reads, looks up and writes on the cases of standard input. A case is a part of one byte and its operands: 1, a notice, k (8 bytes); or
-// 2, a buffer, the named length (8 bytes), a name, a kind (2 bytes), a value. Reading prints number, place, kind, name and value, and where it is not
-// refused the kind and the value that lookup finds by the name; writing prints number, place, length and the buffer.
+// Reads, looks up, writes and finds on the cases of standard input. A case is a part of one byte and its operands: 1, a notice, k (8 bytes);
+// 2, a buffer, the named length (8 bytes), a name, a kind (2 bytes), a value; or 3, a notice, a name. Reading prints number, place, kind, name and value,
+// and where it is not refused the kind and the value that lookup finds by the name; writing prints number, place, length and the buffer; finding prints
+// number, place, index and the names looked at.
 ghost use mathlib.Core.Path.{_≡_};
+ghost use Rattle.notice.specs.Layout.{checkOf};
 ghost use Rattle.notice.specs.Read.{readNumber};
+ghost use Rattle.notice.specs.declared.Layout.the-variants.{WellFormed};
 use libc::STDOUT_FILENO;
 use notice::Found;
+use notice::Layout;
 
 fn put(s: &[u8]) {
     io::write_all(STDOUT_FILENO, s);
@@ -39,7 +43,9 @@ fn put_field(s: &[u8], k: usize) -> usize
     put_parts(f.number, f.place, f.kind, f.name, f.value)
 }
 
-fn put_found(s: &[u8], name: &[u8]) {
+fn put_found(s: &[u8], name: &[u8])
+    requires { ⌜ checkOf (now s) ≡ WellFormed ⌝ }
+{
     let found = notice::lookup(s, name);
     match found {
         Found::At { kind, start, len } => {
@@ -52,9 +58,18 @@ fn put_found(s: &[u8], name: &[u8]) {
     }
 }
 
+// Lookup asks for a notice found well-formed, as every one is of which a field was read.
+fn put_checked(s: &[u8], name: &[u8]) {
+    let layout = notice::check(s);
+    match layout {
+        Layout::WellFormed => put_found(s, name),
+        Layout::Fault(_) => {}
+    }
+}
+
 fn read_case(s: &[u8], k: usize) {
     if put_field(s, k) == 0 {
-        put_found(s, notice::name_of(s, k));
+        put_checked(s, notice::name_of(s, k));
     }
     put(b"\n");
 }
@@ -65,6 +80,15 @@ fn write_case(buffer: &mut [u8], len: usize, name: &[u8], kind: u16, value: &[u8
     put_number(w.place as u64);
     put_number(w.len as u64);
     put_hex(&buffer[..]);
+    put(b"\n");
+}
+
+fn find_case(s: &[u8], name: &[u8]) {
+    let w = notice::find(s, name);
+    put_number(w.number as u64);
+    put_number(w.place as u64);
+    put_number(w.index as u64);
+    put_number(w.looked as u64);
     put(b"\n");
 }
 
@@ -111,6 +135,20 @@ fn next_write() -> bool {
     true
 }
 
+fn next_find() -> bool {
+    let mut s = [0u8; 20000];
+    let m = cases::next_part(&mut s);
+    let mut name = [0u8; 1000];
+    let n = cases::next_part(&mut name);
+    if !n.whole {
+        return false;
+    }
+    let end = m.len;
+    let name_end = n.len;
+    find_case(&s[0..end], &name[0..name_end]);
+    true
+}
+
 fn next_case() -> bool {
     let mut tag = [0u8; 1];
     let t = cases::next_part(&mut tag);
@@ -119,6 +157,9 @@ fn next_case() -> bool {
     }
     if tag[0] == 1 {
         return next_read();
+    }
+    if tag[0] == 3 {
+        return next_find();
     }
     next_write()
 }

@@ -11,8 +11,11 @@ use borrow.Author.Tests.{lt-ltb, le-ltb, eq-eqb, ne-eqb}
 use Rattle.common.specs.Choice.{pick}
 use Rattle.common.proofs.Choice.{true-false}
 use Rattle.truth.specs.Truth.{isTrue}
+use Rattle.notice.specs.Layout.{checkOf as noticeCheck}
+use Rattle.notice.specs.declared.Layout.the-variants.{WellFormed}
 use Rattle.interpreter.specs.declared.Ran.{Ran}
 use Rattle.interpreter.specs.Running.{runningOf}
+use Rattle.interpreter.proofs.Answers.{ran-well}
 use Rattle.quorum.specs.declared.Turn.{Turn}
 use Rattle.quorum.specs.declared.Turn.the-variants.{Keep, Add, Refuse}
 use Rattle.quorum.specs.declared.Shown.{Shown}
@@ -82,14 +85,14 @@ told d notice =
     go (no n) true (yes x) false (yes y) f g = let p : Delivered d notice = record { accepted = omega arith; holds-true = f } in by Add (turn-new (staffOf notice) (d .values) (λ z. omega arith) g y) p (new p x g y)
     go (no n) true (yes x) false (no y) f g = let p : Delivered d notice = record { accepted = omega arith; holds-true = f } in by (Refuse 20 0) (turn-ninth (staffOf notice) (d .values) (λ z. omega arith) g (omega arith)) p (ninth p x g (omega arith))
 
--- a Staff is added only while there is a free place
-few : (d : Decision) (notice : List ℕ) (t : Turn) → Told d notice t → adds t ≡ true → length (d .values) < 8
-few d notice t (refused-run n) e = true-false (sym e)
-few d notice t (aside n f) e = true-false (sym e)
-few d notice t (nameless p l) e = true-false (sym e)
-few d notice t (known p x g) e = true-false (sym e)
-few d notice t (new p x g y) e = y
-few d notice t (ninth p x g y) e = true-false (sym e)
+-- a Staff is added only by a notice whose run is not refused and true, and while there is a free place
+adding : (d : Decision) (notice : List ℕ) (t : Turn) → Told d notice t → adds t ≡ true → Delivered d notice × (length (d .values) < 8)
+adding d notice t (refused-run n) e = true-false (sym e)
+adding d notice t (aside n f) e = true-false (sym e)
+adding d notice t (nameless p l) e = true-false (sym e)
+adding d notice t (known p x g) e = true-false (sym e)
+adding d notice t (new p x g y) e = (p, y)
+adding d notice t (ninth p x g y) e = true-false (sym e)
 
 -- ---- a notice shown to a buffer
 
@@ -120,8 +123,14 @@ module _ (s notice : List ℕ) where
     bytes-by t e = rw (h, ← e)
 
     module _ (t : Turn) (e : t ≡ turnOf (kept s) notice) where
+      added : adds t ≡ true → Delivered (kept s) notice × (length (kept s .values) < 8)
+      added a = adding (kept s) notice (turnOf (kept s) notice) (told (kept s) notice) (rw e at a)
+
+      pub added-well : adds t ≡ true → noticeCheck notice ≡ WellFormed
+      added-well a = ran-well (kept s .table) notice (added a .0 .accepted)
+
       pub free-place : adds t ≡ true → countOf s < 8
-      free-place a = let l = few (kept s) notice (turnOf (kept s) notice) (told (kept s) notice) (rw e at a) in omega (arith, l, length-values s 0 (countOf s))
+      free-place a = omega (arith, added a .1, length-values s 0 (countOf s))
 
       pub shows-by : (after : List ℕ) (r : Shown) → r ≡ answerBy t (countOf s) (neededOf s) → after ≡ bytesBy t s (staffOf notice) → Shows s notice after r
       shows-by after r p q = record { answer = p ∙ sym (answer-by t e); bytes = q ∙ sym (bytes-by t e) }

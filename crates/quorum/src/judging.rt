@@ -1,6 +1,8 @@
 // What a notice is to a decision.
 ghost use mathlib.Core.Path.{_≡_};
 ghost use mathlib.Core.Bool.{true};
+ghost use Rattle.notice.specs.Layout.{checkOf as noticeCheck};
+ghost use Rattle.notice.specs.declared.Layout.the-variants.{WellFormed};
 ghost use Rattle.interpreter.specs.Running.{runningOf};
 ghost use Rattle.quorum.specs.Decision.{tableOf, valuesOf, kept, holdsOf};
 ghost use Rattle.quorum.specs.Showing.{staffOf, staffTurn, turnOf};
@@ -10,8 +12,9 @@ use crate::state::size_of;
 use interpreter::Ran;
 use notice::Found;
 
-// The value of the field Staff, or no bytes if it is absent, no string or not 1..64 bytes.
+// The value of the field Staff, or no bytes if it is absent, no string or not 1..64 bytes. It asks for a notice found well-formed, so that the search may stop (document 02, request 11).
 pub fn staff<'a>(notice: &'a [u8]) -> &'a [u8]
+    requires { ⌜ noticeCheck (now notice) ≡ WellFormed ⌝ }
     ensures { λ r. ⌜ now r ≡ staffOf (now (notice .entry)) ⌝ }
 {
     let found = notice::lookup(notice, b"Staff");

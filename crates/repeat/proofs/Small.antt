@@ -7,8 +7,10 @@ use native.Mathlib.Nat.{suc-mul}
 use native.Mathlib.Numerals.{add-one}
 use native.Mathlib.Omega.{arith}
 use Rattle.truth.specs.Truth.{rank}
+use Rattle.notice.specs.Layout.{checkOf as noticeCheck}
+use Rattle.notice.specs.declared.Layout.the-variants.{WellFormed, Fault}
 use Rattle.table.specs.Table.{countOf, decode}
-use Rattle.table.specs.Check.{checkOf}
+use Rattle.table.specs.Check.{checkOf as tableCheck}
 use Rattle.table.proofs.Theorems.{checked-layout}
 use Rattle.table.proofs.Laid.{laid}
 use Rattle.interpreter.specs.declared.Ran.{Ran}
@@ -17,7 +19,7 @@ use Rattle.interpreter.specs.Running.{answerOf}
 use Rattle.interpreter.proofs.Theorems.{run-steps}
 use Rattle.repeat.specs.Repeat.{weightOf, repeatOf}
 
-module _ (table notice : List ℕ) (checked : checkOf table ≡ true) (r : Ran) (ran : r ≡ answerOf (runOf (decode table) notice)) where
+module _ (table notice : List ℕ) (checked : tableCheck table ≡ true) (r : Ran) (ran : r ≡ answerOf (runOf (decode table) notice)) where
   pub few : r .steps ≤ 512
   few =
       let same : r .steps ≡ runOf (decode table) notice .steps = ap (λ (x : Ran). x .steps) ran in
@@ -32,9 +34,13 @@ module _ (table notice : List ℕ) (checked : checkOf table ≡ true) (r : Ran) 
 pub one-more : (i total w v : ℕ) → total ≡ i * v → w ≡ v → total + w ≡ (i + 1) * v
 one-more i total w v e f = ap (λ (k : ℕ). k + w) e ∙ ap (λ (k : ℕ). i * v + k) f ∙ sym (ap (λ (k : ℕ). k * v) (add-one i) ∙ suc-mul i v)
 
--- the answer where the check fails, and where it passes
-pub nothing : (table notice : List ℕ) (times : ℕ) → checkOf table ≡ false → 0 ≡ repeatOf table notice times
-nothing table notice times e = rw e
+-- the answer where a check fails, and where both pass
+module _ (table notice : List ℕ) (times : ℕ) where
+  pub nothing : tableCheck table ≡ false → 0 ≡ repeatOf table notice times
+  nothing e = rw e
 
-pub whole : (table notice : List ℕ) (times : ℕ) → checkOf table ≡ true → times * weightOf (runOf (decode table) notice) ≡ repeatOf table notice times
-whole table notice times e = rw e
+  pub no-notice : (place : ℕ) → tableCheck table ≡ true → noticeCheck notice ≡ Fault place → 0 ≡ repeatOf table notice times
+  no-notice place e f = rw (e, f)
+
+  pub whole : tableCheck table ≡ true → noticeCheck notice ≡ WellFormed → times * weightOf (runOf (decode table) notice) ≡ repeatOf table notice times
+  whole e f = rw (e, f)

@@ -1,12 +1,15 @@
-// Runs a table many times, for the benchmark: checked once, then the inner run over and over.
+// Runs a table many times, for the benchmark: table and notice checked once, then the inner run over and over.
 ghost use mathlib.Core.Path.{_≡_};
 ghost use mathlib.Core.Bool.{true};
 ghost use Prim.Native.Nat.{_+_, _*_, _≤_};
 ghost use Rattle.truth.specs.Truth.{rank as rankOf};
+ghost use Rattle.notice.specs.Layout.{checkOf as noticeCheck};
+ghost use Rattle.notice.specs.declared.Layout.the-variants.{WellFormed};
 ghost use Rattle.table.specs.Table.{decode};
-ghost use Rattle.table.specs.Check.{checkOf};
+ghost use Rattle.table.specs.Check.{checkOf as tableCheck};
 ghost use Rattle.interpreter.specs.Run.{runOf};
 ghost use Rattle.repeat.specs.Repeat.{weightOf, repeatOf};
+use notice::Layout;
 use truth::Truth;
 
 // The verdict's rank among the truth values.
@@ -20,9 +23,9 @@ fn rank(t: Truth) -> u64
     }
 }
 
-// What one run adds to the sum. It asks for a table that passes the check.
+// What one run adds to the sum. It asks for a table that passes the check and a notice found well-formed.
 fn weight<'a>(table: &'a [u8], notice: &'a [u8]) -> u64
-    requires { ⌜ checkOf (now table) ≡ true ⌝ }
+    requires { ⌜ (tableCheck (now table) ≡ true) × (noticeCheck (now notice) ≡ WellFormed) ⌝ }
     ensures { λ r. ⌜ (r ≡ weightOf (runOf (decode (now (table .entry))) (now (notice .entry)))) × (r ≤ 2050) ⌝ }
 {
     let a = interpreter::run_whole(table, notice);
@@ -30,9 +33,9 @@ fn weight<'a>(table: &'a [u8], notice: &'a [u8]) -> u64
     4 * (a.steps as u64) + rank(verdict)
 }
 
-// The sum over so many runs. It asks for a table that passes the check.
+// The sum over so many runs. It asks for a table that passes the check and a notice found well-formed.
 fn sum<'a>(table: &'a [u8], notice: &'a [u8], times: u32) -> u64
-    requires { ⌜ checkOf (now table) ≡ true ⌝ }
+    requires { ⌜ (tableCheck (now table) ≡ true) × (noticeCheck (now notice) ≡ WellFormed) ⌝ }
     ensures { λ r. ⌜ r ≡ times * weightOf (runOf (decode (now (table .entry))) (now (notice .entry))) ⌝ }
 {
     let mut total: u64 = 0;
@@ -44,7 +47,7 @@ fn sum<'a>(table: &'a [u8], notice: &'a [u8], times: u32) -> u64
     total
 }
 
-// The inner run so many times, the table checked once; the notice may be any bytes. It answers the sum of the runs' steps, each four times, and of their verdicts' ranks; 0 if the table fails the check.
+// The inner run so many times, table and notice checked once. It answers the sum of the runs' steps, each four times, and of their verdicts' ranks; 0 if the table fails the check or the notice is not well-formed.
 #[no_mangle]
 pub extern "C" fn repeat_run<'a>(table: &'a [u8], notice: &'a [u8], times: u32) -> u64
     ensures { λ r. ⌜ r ≡ repeatOf (now (table .entry)) (now (notice .entry)) times ⌝ }
@@ -52,5 +55,9 @@ pub extern "C" fn repeat_run<'a>(table: &'a [u8], notice: &'a [u8], times: u32) 
     if !table::check(table) {
         return 0;
     }
-    sum(table, notice, times)
+    let layout = notice::check(notice);
+    match layout {
+        Layout::WellFormed => sum(table, notice, times),
+        Layout::Fault(_) => 0,
+    }
 }

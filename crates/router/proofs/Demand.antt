@@ -86,7 +86,7 @@ pub demand-three : DemandThree
 demand-three text buffer notice visits tree c b a room w =
     let e = writes-table text tree (length buffer) a room in
     let t : take (c .translated .length) (c .written) ≡ encode (compile tree) = written-table _ buffer (c .written) (c .translated) room (rw e at (c .translates)) in
-    let v : Visited (encode (compile tree)) notice visits (c .machine) = subst (λ (x : List ℕ). Visited x notice visits (c .machine)) t (c .runner (rw t (passes-check text tree b a))) in
+    let v : Visited (encode (compile tree)) notice visits (c .machine) = subst (λ (x : List ℕ). Visited x notice visits (c .machine)) t (c .runner (rw t (passes-check text tree b a)) w) in
     let m = met text notice tree b a w v in
     let n : c .translated .number ≡ 0 = rw (c .translates .answer, e) in
     (n, c .checks ∙ rw t (m .passes), rw (c .runs, t) m)

@@ -69,9 +69,9 @@ pub record Calls (text buffer notice : List ℕ) (visits : ℕ) : Type 0 where
   -- `run(table, notice)`
   pub ran : Ran
   pub runs : ran ≡ runningOf (take (translated .length) written) notice
-  -- `run_checked(table, notice, visits)`, by which `run` makes its visits: the runner's machine after that many; it asks for a table that passes the check
+  -- `run_checked(table, notice, visits)`, by which `run` makes its visits: the runner's machine after that many; it asks for a table that passes the check and a notice found well-formed
   pub machine : Machine
-  pub runner : tableCheck (take (translated .length) written) ≡ true → Visited (take (translated .length) written) notice visits machine
+  pub runner : tableCheck (take (translated .length) written) ≡ true → noticeCheck notice ≡ WellFormed → Visited (take (translated .length) written) notice visits machine
 
 -- Demand 3, for every number of visits: a run has at most 512, and a larger number makes as many as there are, so that a `usize` names them all.
 abbrev pub DemandThree : Type 0

@@ -9,6 +9,7 @@ ghost use Rattle.translator.specs.Translation.{translationOf, Answers};
 ghost use Rattle.table.specs.Check.{checkOf as tableCheck, refusalOf};
 ghost use Rattle.notice.specs.Layout.{checkOf as noticeCheck, numberOf, placeOf};
 ghost use Rattle.notice.specs.Read.{Located};
+ghost use Rattle.notice.specs.Search.{findOf};
 ghost use Rattle.notice.specs.Write.{field, writtenOf, writtenBytes};
 ghost use Rattle.interpreter.specs.Running.{runningOf};
 ghost use Rattle.quorum.specs.Showing.{openOf, openedBytes, showOf, shownBytes, Gives};
@@ -102,6 +103,24 @@ pub extern "C" fn virentolex_read(
     *value = p.value;
     *end = p.end;
     p.number
+}
+
+// "it finds what a walk over all fields finds. Beside that it answers how many names it looked at": the field's index, 64 if there is no such field. "in a notice found well-formed": 11 with its place otherwise.
+#[no_mangle]
+pub extern "C" fn virentolex_find(
+    notice: &[u8],
+    name: &[u8],
+    place: &mut usize,
+    index: &mut usize,
+    looked: &mut usize,
+) -> u8
+    ensures { λ r. ⌜ record { number = r; place = now (place .exit); index = now (index .exit); looked = now (looked .exit) } ≡ findOf (now (notice .entry)) (now (name .entry)) ⌝ }
+{
+    let s = notice::find(notice, name);
+    *place = s.place;
+    *index = s.index;
+    *looked = s.looked;
+    s.number
 }
 
 // "writing answers number, place and the new length, or the old one if refused": `len` is the length that the caller names, `total` the answered one. A refusal changes no byte.

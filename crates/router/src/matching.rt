@@ -1,6 +1,8 @@
 // Text, buffer and notice in, verdict and steps out: the function that carries demand 3 of the customer's letter.
 ghost use Rattle.router.specs.Demand.{RunsChecked, RunsTable, Matches, refused as refusedWith};
 ghost use Rattle.translator.specs.Translation.{translationOf};
+ghost use Rattle.notice.specs.Layout.{checkOf as noticeCheck};
+ghost use Rattle.notice.specs.declared.Layout.the-variants.{WellFormed};
 ghost use mathlib.Core.Path.{_≡_};
 ghost use lib.ListN.{length};
 use interpreter::Machine;
@@ -42,8 +44,9 @@ fn refused(number: u8, place: usize) -> Matched
     }
 }
 
-// Checks a table and runs it on the notice; beside the whole run's answer stands the runner's machine after `visits` visits.
+// Checks a table and runs it on the notice; beside the whole run's answer stands the runner's machine after `visits` visits. It asks for a notice found well-formed, as `run_checked` does.
 fn check_and_run<'a>(table: &'a [u8], notice: &'a [u8], visits: usize) -> Matched
+    requires { ⌜ noticeCheck (now notice) ≡ WellFormed ⌝ }
     ensures { λ r. ⌜ RunsChecked (now (table .entry)) (now (notice .entry)) visits r ⌝ }
 {
     if !table::check(table) {
@@ -62,8 +65,9 @@ fn check_and_run<'a>(table: &'a [u8], notice: &'a [u8], visits: usize) -> Matche
     }
 }
 
-// Translates the text into the buffer, then checks the table, of the length that translation answers, and runs it on the notice.
+// Translates the text into the buffer, then checks the table, of the length that translation answers, and runs it on the notice. It asks for a notice found well-formed.
 fn translate_and_run(text: &[u8], buffer: &mut [u8], notice: &[u8], visits: usize) -> Matched
+    requires { ⌜ noticeCheck (now notice) ≡ WellFormed ⌝ }
     ensures { λ r. ⌜ RunsTable (translationOf (now (text .entry)) (length (now (buffer .entry)))) (now (buffer .entry)) (now (notice .entry)) (now (buffer .exit)) visits r ⌝ }
 {
     let t = translator::translate(text, buffer);

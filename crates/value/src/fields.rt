@@ -4,6 +4,8 @@ ghost use mathlib.Core.List.{List};
 ghost use Prim.Native.Nat.{ℕ, _≤_, _<_, _^_};
 ghost use lib.ListN.{take, drop};
 ghost use Rattle.word.specs.Word.{wordAt};
+ghost use Rattle.notice.specs.Layout.{checkOf as noticeCheck};
+ghost use Rattle.notice.specs.declared.Layout.the-variants.{WellFormed};
 ghost use Rattle.value.specs.Value.{fieldValue, valueNamed};
 ghost use Rattle.value.specs.Held.{partOf, noticed, typedOf};
 use crate::Origin;
@@ -50,8 +52,9 @@ fn in_notice(start: u16, len: u16) -> Piece
     }
 }
 
-// The value of the field whose name is a piece's bytes, or bottom.
+// The value of the field whose name is a piece's bytes, or bottom. It asks for a notice found well-formed, so that the search may stop.
 pub fn named<'a>(pool: &'a [u8], notice: &'a [u8], name: Piece) -> Typed
+    requires { ⌜ noticeCheck (now notice) ≡ WellFormed ⌝ }
     ensures { λ r. ⌜ ((p : List ℕ) → typedOf p (now (notice .entry)) r ≡ valueNamed (now (notice .entry)) (partOf (now (pool .entry)) (now (notice .entry)) name)) ⌝ }
 {
     let key = texts::fetch(pool, notice, name);

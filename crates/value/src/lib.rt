@@ -1,8 +1,11 @@
 // Values as a table's run holds them, and what each operator and function gives. Document 01, "Meaning", "Table".
 // No function here asks anything of its operands: what a piece names beyond its source is not there, and an operand of the other kind counts as bottom.
+// Of the notice only `load_name` asks something: that it was found well-formed, so that the search for a field may stop. Document 02, request 11.
 ghost use mathlib.Core.Path.{_≡_};
 ghost use mathlib.Core.List.{List};
 ghost use Prim.Native.Nat.{ℕ};
+ghost use Rattle.notice.specs.Layout.{checkOf as noticeCheck};
+ghost use Rattle.notice.specs.declared.Layout.the-variants.{WellFormed};
 ghost use Rattle.opcode.specs.declared.Load.{Load};
 ghost use Rattle.opcode.specs.declared.Unary.{Unary};
 ghost use Rattle.opcode.specs.declared.Binary.{Binary};
@@ -202,6 +205,7 @@ pub fn load_text(a: u16, b: u64) -> Held
 }
 
 pub fn load_name<'a>(pool: &'a [u8], notice: &'a [u8], a: u16, b: u64) -> Held
+    requires { ⌜ noticeCheck (now notice) ≡ WellFormed ⌝ }
     ensures { λ r. ⌜ itemOf (now (pool .entry)) (now (notice .entry)) r ≡ loadOf (now (pool .entry)) (now (notice .entry)) Load.Name a b ⌝ }
 {
     Held::Value(fields::named(pool, notice, in_pool(a, b)))

@@ -2,6 +2,7 @@
 // All but the last give the operands in their order: ops 1..5, with 256 added where the value is folded, or 0 for the truth value of rank a.
 // The last is the op to run; 0 gives its one operand. An answer is a truth value, or a type and its bits or bytes in hex.
 use libc::STDOUT_FILENO;
+use notice::Layout;
 use opcode::Binary;
 use opcode::Change;
 use opcode::Load;
@@ -97,13 +98,22 @@ fn folded<'a>(pool: &'a [u8], notice: &'a [u8], number: u16, h: Held) -> Held {
     value::change(pool, notice, Change::FoldCase, h)
 }
 
+// In a notice that is not well-formed every name is missing.
+fn load_name<'a>(pool: &'a [u8], notice: &'a [u8], a: u16, b: u64) -> Held {
+    let layout = notice::check(notice);
+    match layout {
+        Layout::WellFormed => value::load_name(pool, notice, a, b),
+        Layout::Fault(_) => Held::Value(Typed::Bottom),
+    }
+}
+
 fn load<'a>(pool: &'a [u8], notice: &'a [u8], op: Load, a: u16, b: u64) -> Held {
     match op {
         Load::Int32 => value::load_int32(b),
         Load::Int64 => value::load_int64(b),
         Load::Real64 => value::load_real64(b),
         Load::Text => value::load_text(a, b),
-        Load::Name => value::load_name(pool, notice, a, b),
+        Load::Name => load_name(pool, notice, a, b),
     }
 }
 

@@ -135,16 +135,16 @@ module _ (d : Turn) where
       rw k at (within low-steps unspent (binary-law going more h (op-is e) q) refl)
 
 count-requires : tie.Need-count-requires Inv-loop2 μ-loop2 Inv-loop μ-loop
-count-requires c κs = laid (c .before .before .args .table .now) (checked-layout _ (c .before .before .pre)) .head
+count-requires c κs = laid (c .before .before .args .table .now) (checked-layout _ (c .before .before .pre .0)) .head
 
 pool-requires : tie.Need-pool-requires Inv-loop2 μ-loop2 Inv-loop μ-loop
 pool-requires c κs =
-    let l = laid (c .before .before .before .args .table .now) (checked-layout _ (c .before .before .before .pre)) in
+    let l = laid (c .before .before .before .args .table .now) (checked-layout _ (c .before .before .before .pre .0)) in
     (l .head, omega (arith, l .whole))
 
 loop-holds : tie.Need-loop-holds Inv-loop2 μ-loop2 Inv-loop μ-loop
 loop-holds c =
-    (begin (c .before .before .before .before .args .notice .now) (c .before .count .result) (c .before .before .before .before .pre) (c .before .count .ensures .0) (c .pool .ensures), omega arith)
+    (begin (c .before .before .before .before .args .notice .now) (c .before .count .result) (c .before .before .before .before .pre .0) (c .before .count .ensures .0) (c .pool .ensures), omega arith)
 
 returns : tie.Need-returns Inv-loop2 μ-loop2 Inv-loop μ-loop
 returns c = spent (c .before .before .loop .inv .0) (c .if1 .taken)

@@ -30,7 +30,7 @@ enum-told : tie.Need-enum-told
 enum-told c = search needs
 
 run-whole-requires : tie.Need-run-whole-requires
-run-whole-requires c κs = search needs
+run-whole-requires c κs = (c .before .before .before .before .before .before .pre, sym (layout-is (c .before .before)) ∙ c .enum-told .given .1)
 
 enum-known-layout : tie.Need-enum-known-layout
 enum-known-layout c = search needs

@@ -8,7 +8,7 @@ use Rattle.interpreter.proofs.run_whole.Statement.{statement}
 use Rattle.interpreter.proofs.run_whole.Tie as tie
 
 count-requires : tie.Need-count-requires
-count-requires c κs = laid (c .before .before .args .table .now) (checked-layout _ (c .before .before .pre)) .head
+count-requires c κs = laid (c .before .before .args .table .now) (checked-layout _ (c .before .before .pre .0)) .head
 
 run-checked-requires : tie.Need-run-checked-requires
 run-checked-requires c κs = search needs
@@ -22,7 +22,7 @@ truth-in-requires c κs = search needs
 returns : tie.Need-returns
 returns c =
     let a = c .before .before .before .before .before .before .args in
-    answer-is (a .table .now) (a .notice .now) (c .before .before .run-checked .result) (c .before .before .before .count .result) (c .before .before .before .before .before .before .pre) (c .before .before .before .count .ensures .0) (c .before .before .run-checked .ensures .state)
+    answer-is (a .table .now) (a .notice .now) (c .before .before .run-checked .result) (c .before .before .before .count .result) (c .before .before .before .before .before .before .pre .0) (c .before .before .before .count .ensures .0) (c .before .before .run-checked .ensures .state)
     (c .truth-in .result) (c .truth-in .ensures (poolOf (a .table .now)) (a .notice .now))
 
 pub run-whole-spec : {M : Type 1} → statement M

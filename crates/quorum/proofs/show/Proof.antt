@@ -12,7 +12,7 @@ use Rattle.quorum.specs.Decision.{holdsOf, addedTo}
 use Rattle.quorum.specs.Showing.{staffOf, bytesBy}
 use Rattle.quorum.proofs.Reading.{Holding, holding}
 use Rattle.quorum.proofs.Staff.{staff-short}
-use Rattle.quorum.proofs.Turns.{length-by, with-staff, without-staff, not-held, free-place, shows-by}
+use Rattle.quorum.proofs.Turns.{length-by, with-staff, without-staff, not-held, added-well, free-place, shows-by}
 use Rattle.quorum.proofs.show.Statement.{statement}
 use Rattle.quorum.proofs.show.Tie as tie
 
@@ -57,7 +57,9 @@ adds-requires : tie.Need-adds-requires
 adds-requires c κs = search needs
 
 staff-requires : tie.Need-staff-requires
-staff-requires c κs = search needs
+staff-requires c κs =
+    let t = c .before .before .before .before .before in
+    added-well (buffer-of t) (notice-of t) (held t) (t .turn-of .result) (t .turn-of .ensures) (sym (c .before .before .adds .ensures) ∙ c .before .if2 .taken)
 
 add-requires : tie.Need-add-requires
 add-requires c κs =

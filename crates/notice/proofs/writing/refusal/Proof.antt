@@ -3,12 +3,18 @@ use mathlib.Core.Bool.{true}
 use Prim.Native.Nat.{ℕ, _+_}
 use native.Mathlib.Omega.{arith}
 use lib.ListN.{length}
+use Rattle.word.specs.Word.{Bytes}
 use Rattle.notice.specs.Field.{nameRight, sizeRight}
 use Rattle.notice.specs.Write.{field, hasRoom}
+use Rattle.notice.proofs.Renders.{well-header}
 use Rattle.notice.proofs.Inserts.{wrong-name, wrong-size, small-parts, present, no-room, no-refusal}
 use borrow.Author.Needs.{needs}
 use Rattle.notice.proofs.writing.refusal.Statement.{statement}
 use Rattle.notice.proofs.writing.refusal.Tie as tie
+
+-- the notice's bytes
+bytes : (c : tie.After-shared-slice-known) → Bytes (c .before .args .notice .now)
+bytes c i = c .shared-slice-known .given i .fits
 
 -- where both tests hold
 named : (c : tie.Then2) → nameRight (c .before .before .before .before .before .before .before .args .name .now) ≡ true
@@ -58,7 +64,7 @@ add-size-3 c =
     omega (arith, m .name-fits, m .value-fits, c .before .before .before .before .before .before .before .before .before .before .good)
 
 read-u16-requires : tie.Need-read-u16-requires
-read-u16-requires c κs = search needs
+read-u16-requires c κs = well-header (c .before .before .before .before .before .before .before .before .before .before .args .notice .now) (bytes (c .before .before .before .before .before .before .before .before .before)) (c .before .before .before .before .before .before .before .before .before .before .pre) .long
 
 has-room-requires : tie.Need-has-room-requires
 has-room-requires c κs = search needs

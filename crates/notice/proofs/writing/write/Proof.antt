@@ -3,14 +3,11 @@ use Prim.Native.Nat.{ℕ, _-_}
 use native.Mathlib.Omega.{arith}
 use lib.ListN.{length, take}
 use Rattle.word.specs.Word.{Bytes}
-use Rattle.notice.specs.declared.Layout.{Layout}
 use Rattle.notice.specs.declared.Layout.the-variants.{WellFormed}
 use Rattle.notice.specs.Layout.{checkOf}
 use Rattle.notice.specs.Field.{Field}
 use Rattle.notice.specs.Write.{field, refusalIn, Insertable}
-use Rattle.notice.proofs.Keys.{bytes-take}
 use Rattle.notice.proofs.Inserts.{known}
-use Rattle.notice.proofs.Renders.{well-header}
 use Rattle.notice.proofs.Writes.{past-buffer, faulty, refused, added}
 use borrow.Author.Needs.{needs}
 use Rattle.notice.proofs.writing.write.Statement.{statement}
@@ -78,8 +75,7 @@ refusal-requires : tie.Need-refusal-requires
 refusal-requires c κs =
     let a = c .before .before .before .before .before .before .before .before .before .before .before .args in
     let z : a .len - 0 ≡ a .len = omega arith in
-    let w = well-header (take (a .len) (a .buffer .now)) (bytes-take (a .len) (a .buffer .now) (bytes (c .before .before .before .before .before .before .before .before .before .before))) (well (c .before .before)) in
-    rw z (w .long)
+    rw z (well (c .before .before))
 
 same-length : tie.Need-same-length
 same-length c = search needs

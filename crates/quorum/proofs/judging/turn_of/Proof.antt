@@ -3,7 +3,9 @@ use mathlib.Core.Path.{sym, ap, _∙_}
 use mathlib.Core.List.{List}
 use Prim.Native.Nat.{ℕ}
 use borrow.Author.Needs.{needs}
-use Rattle.quorum.specs.Decision.{valuesOf, kept}
+use Rattle.interpreter.specs.declared.Ran.{Ran}
+use Rattle.interpreter.proofs.Answers.{ran-well}
+use Rattle.quorum.specs.Decision.{tableOf, valuesOf, kept}
 use Rattle.quorum.specs.Showing.{staffTurn}
 use Rattle.quorum.proofs.Turns.{run-refused, short-of-true, by-staff}
 use Rattle.quorum.proofs.judging.turn_of.Statement.{statement}
@@ -22,7 +24,10 @@ is-true-requires : tie.Need-is-true-requires
 is-true-requires c κs = search needs
 
 staff-requires : tie.Need-staff-requires
-staff-requires c κs = search needs
+staff-requires c κs =
+    let a = c .before .before .before .before .before .before .before .args in
+    let r = c .before .before .before .before .run-in in
+    ran-well (tableOf (a .buffer .now)) (a .notice .now) (sym (ap (λ (x : Ran). x .number) (r .ensures)) ∙ c .before .before .if1 .left)
 
 judge-requires : tie.Need-judge-requires
 judge-requires c κs = search needs

@@ -21,7 +21,7 @@ run-requires : tie.Need-run-requires
 run-requires c κs = search needs
 
 run-checked-requires : tie.Need-run-checked-requires
-run-checked-requires c κs = sym (c .before .before .check .ensures) ∙ not-false _ (c .before .if1 .left)
+run-checked-requires c κs = (sym (c .before .before .check .ensures) ∙ not-false _ (c .before .if1 .left), c .before .before .before .before .before .pre)
 
 returns-2 : tie.Need-returns-2
 returns-2 c =

@@ -1,6 +1,6 @@
 -- `router::matching::match_text` meets its contract: the notice's refusal, or what translation, check and run answer. Assumes nothing.
 use native.Mathlib.Omega.{arith}
-use mathlib.Core.Path.{refl}
+use mathlib.Core.Path.{refl, sym, _∙_}
 use Rattle.router.proofs.Demand.{fault-matches, run-matches}
 use borrow.Author.Needs.{needs}
 use Rattle.router.proofs.matching.match_text.Statement.{statement}
@@ -13,7 +13,7 @@ enum-told : tie.Need-enum-told
 enum-told c = search needs
 
 translate-and-run-requires : tie.Need-translate-and-run-requires
-translate-and-run-requires c κs = search needs
+translate-and-run-requires c κs = sym (c .before .before .before .check .ensures) ∙ c .before .enum-told .given .1
 
 enum-known-layout : tie.Need-enum-known-layout
 enum-known-layout c = search needs
