@@ -5,10 +5,12 @@ use mathlib.Core.List.{List}
 use Prim.Native.Nat.{ℕ}
 use native.Mathlib.Omega.{arith}
 use lib.ListN.{length, getD}
+use lib.Seq.{sets}
 use Rattle.common.specs.Choice.{pick}
 use Rattle.truth.specs.declared.Truth.{Truth}
 use Rattle.notice.specs.declared.Layout.{Layout}
-use Rattle.notice.specs.Layout.{checkOf as noticeCheck, numberOf}
+use Rattle.notice.specs.Layout.{checkOf as noticeCheck, numberOf, stoodOf, Indexed}
+use Rattle.notice.proofs.Stood.{stood-indexed}
 use Rattle.table.specs.Table.{countOf, poolOf, decode}
 use Rattle.table.specs.Check.{checkOf as tableCheck, refusalOf}
 use Rattle.table.proofs.Reading.{length-entries}
@@ -21,6 +23,11 @@ use Rattle.interpreter.specs.Machine.{blank, stackOf, stateOf}
 use Rattle.interpreter.specs.Running.{refused, answerOf, onLayout, runningOf}
 use Rattle.interpreter.proofs.Visits.{as-many}
 use Rattle.interpreter.proofs.Theorems.{run-ends}
+
+-- the array that an index of the notice leaves, where it was lent as a part that is the whole
+pub indexed : {left : List ℕ} (notice part starts : List ℕ) → part ≡ notice → noticeCheck notice ≡ Layout.WellFormed → left ≡ sets starts 0 (stoodOf part) → length starts ≡ 64
+    → Indexed notice left
+indexed notice part starts p well e long = rw (e, p) (stood-indexed notice well starts long)
 
 module _ (table notice : List ℕ) where
   pub table-refused : tableCheck table ≡ false → refused (refusalOf false) 0 ≡ runningOf table notice

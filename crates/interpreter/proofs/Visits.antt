@@ -1,11 +1,14 @@
--- One visit of the machine, by the group of the entry's operator: what there is room for, and that the machine after it is the rule's. Assumes nothing.
+-- One visit of the loop, by the group of the entry's operator: what there is room for, and that the loop's variables after it are the rule's. Assumes nothing.
 use mathlib.Core.Path.{_≡_, refl, sym, ap, _∙_, subst}
-use mathlib.Core.Bool.{true, cond}
+use mathlib.Core.Bool.{Bool, true, false, cond, _&&_}
 use mathlib.Core.List.{List, _∷_, _++_, map, reverse}
 use Prim.Native.Nat.{ℕ, suc, _+_, _-_, _*_, _<_, _≤_}
 use native.Mathlib.Numerals.{add-one}
 use native.Mathlib.Omega.{arith}
+use borrow.Author.Tests.{ltb-true, ltb-false}
+use lib.Dec.{ltb}
 use lib.ListN.{length, getD, set, take, drop, length-set, length-map, length-append, length-replicate}
+use Rattle.common.proofs.Choice.{true-false}
 use Rattle.truth.specs.declared.Truth.{Truth}
 use Rattle.truth.specs.declared.Truth.the-variants.{Bottom}
 use Rattle.opcode.specs.Opcode.{opOf, Kind, takesOf}
@@ -17,44 +20,49 @@ use Rattle.opcode.specs.declared.Skip.{Skip}
 use Rattle.opcode.specs.declared.Op.{Op}
 use Rattle.table.specs.Table.{countOf, entryAt, poolOf, decode}
 use Rattle.table.specs.Check.{skipOp, checkOf}
+use Rattle.table.proofs.Tests.{both-true}
 use Rattle.table.proofs.Theorems.{checked-layout, checked-skip}
 use Rattle.table.proofs.Laid.{laid}
-use Rattle.value.specs.Value.{Item, logic, truthIn, kindOf, unaryOf, binaryOf, manyItems, loadOf, startOf, tallyOf}
-use Rattle.value.specs.Held.{itemOf}
-use Rattle.value.specs.declared.Held.{Held}
+use Rattle.value.specs.Value.{Item, logic, truthIn, kindOf, unaryOf, binaryOf, manyItems, loadOf, startOf, moreOf, tallyOf}
+use Rattle.value.specs.Held.{itemOf, itemIn}
+use Rattle.value.specs.declared.Slot.{Slot}
 use Rattle.value.proofs.Theorems.{tally}
 use Rattle.interpreter.specs.declared.Machine.{Machine}
 use Rattle.interpreter.specs.Run.{State, slotAt, skips, stackBy, strideBy, visit, rule, afterFrom, after}
 use Rattle.interpreter.specs.Machine.{blank, stackOf, stateOf, fresh, Visited, Follows}
-use Rattle.interpreter.proofs.Stack.{stack-put, stack-length, stack-drop, stack-get}
+use Rattle.interpreter.proofs.Stack.{stack-put, stack-length, stack-drop, stack-get, stack-up}
 use Rattle.interpreter.proofs.Safe.{Sound, known, operands, never-unknown, rule-more, after-next, after-past, always}
 use Rattle.interpreter.proofs.Theorems.{stack-small}
 
--- the machine at a turn of the loop: it follows the rule; n and pool are those of the table, which passes the check
-pub record Going (s pool notice : List ℕ) (n : ℕ) (m : Machine) : Type 0 where
+-- the machine of the loop's variables, after so many visits
+abbrev pub machine : List Slot → ℕ → ℕ → ℕ → Machine
+machine stack next depth steps = record { next = next; depth = depth; steps = steps; stack = stack }
+
+-- the stack as items, what a slot of it holds, and what the slots from j up hold, the deepest first
+abbrev pub items : List ℕ → List ℕ → List Slot → ℕ → List Item
+items pool notice stack depth = stackOf (itemOf pool notice) stack depth
+
+abbrev pub itemAt : List ℕ → List ℕ → List Slot → ℕ → Item
+itemAt pool notice stack i = itemIn pool notice (getD stack i blank)
+
+abbrev pub itemsUp : List ℕ → List ℕ → List Slot → ℕ → ℕ → List Item
+itemsUp pool notice stack depth j = reverse (take (depth - j) (items pool notice stack depth))
+
+-- The loop's variables at the head of a turn: their machine follows the rule, and has made the visits of the budget that are not left; n and pool are those of the table, which passes the check.
+pub record Going (s pool notice : List ℕ) (n budget : ℕ) (stack : List Slot) (next depth left : ℕ) : Type 0 where
   pub checked : checkOf s ≡ true
   pub count : n ≡ countOf s
   pub strings : pool ≡ poolOf s
-  pub long : length (m .stack) ≡ 32
-  pub follows : Follows s notice m
+  pub long : length stack ≡ 32
+  pub within : left ≤ budget
+  pub follows : Follows s notice (machine stack next depth (budget - left))
 
--- the stack as items, and what is held j slots from its end
-abbrev pub items : List ℕ → List ℕ → Machine → List Item
-items pool notice m = stackOf (itemOf pool notice) (m .stack) (m .depth)
-
-abbrev pub heldAt : List ℕ → List ℕ → Machine → ℕ → Item
-heldAt pool notice m i = itemOf pool notice (getD (m .stack) i blank .held)
-
--- the machine with j slots taken off and h put on, at the next entry; and the machine as it is, `far` entries on
-abbrev pub putOn : Machine → ℕ → Held → Machine
-putOn m j h = record { stack = set (m .stack) (m .depth - j) (record { held = h }); depth = m .depth - j + 1; next = m .next + 1; steps = m .steps + 1 }
-
-abbrev pub goOn : Machine → ℕ → Machine
-goOn m far = record { stack = m .stack; depth = m .depth; next = m .next + far; steps = m .steps + 1 }
-
-state-eq : {i j u : ℕ} {st tt : List Item} → i ≡ j → st ≡ tt
-    → _≡_ {A = State} (record { next = i; stack = st; steps = u }) (record { next = j; stack = tt; steps = u })
-state-eq p q = rw (p, q)
+-- .. and in the turn: there is a next entry, its operator is o, and a visit is left.
+pub record Visiting (s pool notice : List ℕ) (n budget : ℕ) (stack : List Slot) (next depth left : ℕ) (o : Op) : Type 0 where
+  pub going : Going s pool notice n budget stack next depth left
+  pub more : next < n
+  pub spare : 0 < left
+  pub op : opOf (entryAt s next .op) ≡ o
 
 -- a machine holds as many values as the rule after as many visits
 pub as-many : (s notice : List ℕ) (k : ℕ) (m : Machine) → stateOf (poolOf s) notice m ≡ after (decode s) notice k → m .depth ≡ length (after (decode s) notice k .stack)
@@ -64,150 +72,194 @@ as-many s notice k m e = sym (stack-length (itemOf (poolOf s) notice) (m .stack)
 visited : {s notice : List ℕ} {k : ℕ} {m : Machine} → checkOf s ≡ true → stateOf (poolOf s) notice m ≡ after (decode s) notice k → Visited s notice k m
 visited {s} {notice} {k} {m} c e = record { state = e; inside = omega (arith, as-many s notice k m e, stack-small s notice c k) }
 
-module _ {s pool notice : List ℕ} {n : ℕ} {m : Machine} (l : Going s pool notice n m) where
-  -- the state over the loop's own pool, and its soundness, which every state of the rule has
-  state : stateOf pool notice m ≡ after (decode s) notice (m .steps)
-  state = ap (λ (p : List ℕ). stateOf p notice m) (l .strings) ∙ l .follows .state
+-- what the loop's test says
+pub tested : (next n left : ℕ) → (ltb next n && ltb 0 left) ≡ true → (next < n) × (0 < left)
+tested next n left e = let b = both-true (ltb next n) (ltb 0 left) e in (ltb-true next n (b .0), ltb-true 0 left (b .1))
 
-  sound : Sound s (stateOf pool notice m)
-  sound = subst (Sound s) (sym state) (always s notice (l .checked) (m .steps))
+-- where a run starts
+pub begin : {s pool : List ℕ} (notice : List ℕ) (n budget : ℕ) → checkOf s ≡ true → n ≡ countOf s → pool ≡ poolOf s
+    → Going s pool notice n budget (fresh .stack) 0 0 budget
+unfolding afterFrom
+begin {s} {pool} notice n budget c e p =
+    let none : budget - budget ≡ 0 = omega arith in
+    record {
+      checked = c;
+      count = e;
+      strings = p;
+      long = length-replicate 32 blank;
+      within = omega arith;
+      follows = visited c (rw none refl);
+    }
 
-  -- the last machine: all visits are made, or no entry is left
-  pub spent : {budget : ℕ} → m .steps ≡ budget → Visited s notice budget m
-  spent e = subst (λ (k : ℕ). Visited s notice k m) e (l .follows)
+-- What is known of the first operand, at i, with the later ones below j: with those that are left it is what all of them give.
+pub record Tallied (pool notice : List ℕ) (stack : List Slot) (depth : ℕ) (o : Many) (i : ℕ) (known : Truth) (j : ℕ) : Type 0 where
+  pub past : i < j
+  pub within : j ≤ depth
+  pub whole : tallyOf o (itemAt pool notice stack i) known (itemsUp pool notice stack depth j)
+      ≡ tallyOf o (itemAt pool notice stack i) (startOf o (itemAt pool notice stack i)) (itemsUp pool notice stack depth (i + 1))
 
-  pub ended : {budget : ℕ} → m .steps ≤ budget → n ≤ m .next → Visited s notice budget m
-  ended {budget} h p =
-      let past : countOf s ≤ after (decode s) notice (m .steps) .next = omega (arith, l .count, ap (λ (t : State). t .next) state) in
-      visited (l .checked) (l .follows .state ∙ sym (after-past s notice (m .steps) budget h past))
+module _ {pool notice : List ℕ} {stack : List Slot} {depth i : ℕ} {o : Many} {known : Truth} where
+  pub tally-start : known ≡ startOf o (itemAt pool notice stack i) → i < depth → Tallied pool notice stack depth o i known (i + 1)
+  tally-start e h = record { past = omega arith; within = omega arith; whole = rw e }
 
-  deep : length (map kindOf (items pool notice m)) ≡ m .depth
-  deep = length-map (items pool notice m) kindOf ∙ stack-length (itemOf pool notice) (m .stack) (m .depth)
+  pub tally-more : {j : ℕ} {known′ : Truth} → Tallied pool notice stack depth o i known j → j < depth
+      → known′ ≡ moreOf o (itemAt pool notice stack i) known (itemAt pool notice stack j) → Tallied pool notice stack depth o i known′ (j + 1)
+  tally-more {j} {known′} t h e =
+      record {
+        past = omega arith;
+        within = omega arith;
+        whole = rw e (sym (ap (tallyOf o (itemAt pool notice stack i) known) (stack-up (itemOf pool notice) stack j depth h)) ∙ t .whole);
+      }
 
-  pub low : m .depth ≤ 32
-  low = l .follows .inside
+module _ {s pool notice : List ℕ} {n budget : ℕ} {stack : List Slot} {next depth left : ℕ} where
+  module _ (l : Going s pool notice n budget stack next depth left) where
+    -- the state over the loop's own pool, and its soundness, which every state of the rule has
+    state : stateOf pool notice (machine stack next depth (budget - left)) ≡ after (decode s) notice (budget - left)
+    state = ap (λ (p : List ℕ). stateOf p notice (machine stack next depth (budget - left))) (l .strings) ∙ l .follows .state
 
-  pub few : n ≤ 512
-  few = omega (arith, l .count, laid s (checked-layout s (l .checked)) .few)
+    sound : Sound s (stateOf pool notice (machine stack next depth (budget - left)))
+    sound = subst (Sound s) (sym state) (always s notice (l .checked) (budget - left))
 
-  module _ (more : m .next < n) where
-    here : m .next < countOf s
-    here = rw (l .count) at more
+    low : depth ≤ 32
+    low = l .follows .inside
 
-    pub entry-fits : 22 + 12 * m .next ≤ length s
-    entry-fits = known notice (l .checked) sound here .inside
+    pub few : n ≤ 512
+    few = omega (arith, l .count, laid s (checked-layout s (l .checked)) .few)
 
-    pub counted : m .steps < 512
-    counted = omega (arith, sound .counted, few)
+    pub entry-fits : next < n → 22 + 12 * next ≤ length s
+    entry-fits more = known notice (l .checked) sound (rw (l .count) at more) .inside
+
+    -- the last machine: all visits are made, or no entry is left
+    pub ended : (ltb next n && ltb 0 left) ≡ false → Visited s notice budget (machine stack next depth (budget - left))
+    ended = go (ltb next n) (ltb 0 left) refl refl
+      where
+        go : (a b : Bool) → ltb next n ≡ a → ltb 0 left ≡ b → (a && b) ≡ false → Visited s notice budget (machine stack next depth (budget - left))
+        go true true p q e = true-false e
+        go true false p q e =
+            let all : budget - left ≡ budget = omega (arith, ltb-false 0 left q) in
+            subst (λ (k : ℕ). Visited s notice k (machine stack next depth (budget - left))) all (l .follows)
+        go false b p q e =
+            let past : countOf s ≤ after (decode s) notice (budget - left) .next = omega (arith, l .count, ltb-false next n p, ap (λ (t : State). t .next) state) in
+            visited (l .checked) (l .follows .state ∙ sym (after-past s notice (budget - left) budget (omega arith) past))
+
+  module _ {o : Op} (v : Visiting s pool notice n budget stack next depth left o) where
+    here : next < countOf s
+    here = rw (v .going .count) at (v .more)
 
     -- the operands are there, and there is room for the result
-    pub room : (o : Op) → opOf (entryAt s (m .next) .op) ≡ o
-        → (length (takesOf o (entryAt s (m .next) .a)) ≤ m .depth) × (m .depth - length (takesOf o (entryAt s (m .next) .a)) < 32)
-    room o e =
-        let k = known notice (l .checked) sound here in
-        let p : length (map kindOf (items pool notice m)) ≡ length (takesOf o (entryAt s (m .next) .a) ++ k .rest) = ap length (rw e at (operands notice (l .checked) sound here)) in
-        let q = length-append (takesOf o (entryAt s (m .next) .a)) (k .rest) in
-        omega (arith, p, q, deep, k .room)
+    room : (length (takesOf o (entryAt s next .a)) ≤ depth) × (depth - length (takesOf o (entryAt s next .a)) < 32)
+    room =
+        let k = known notice (v .going .checked) (sound (v .going)) here in
+        let p : length (map kindOf (items pool notice stack depth)) ≡ length (takesOf o (entryAt s next .a) ++ k .rest) =
+        ap length (rw (v .op) at (operands notice (v .going .checked) (sound (v .going)) here)) in
+        let q = length-append (takesOf o (entryAt s next .a)) (k .rest) in
+        let d = length-map (items pool notice stack depth) kindOf ∙ stack-length (itemOf pool notice) stack depth in
+        omega (arith, p, q, d, k .room)
 
-    pub many-room : {k : Many} (a : ℕ) → a ≡ entryAt s (m .next) .a → opOf (entryAt s (m .next) .op) ≡ Op.Many k
-        → (a + 1 ≤ m .depth) × (m .depth - (a + 1) < 32)
-    many-room {k} a is e = omega (arith, room (Op.Many k) e, length-replicate (entryAt s (m .next) .a) Kind.value)
+    -- a slot of the stack by its place in the array
+    slot : (j : ℕ) → j < depth → slotAt (items pool notice stack depth) j ≡ itemAt pool notice stack (depth - (j + 1))
+    slot j h = stack-get (itemOf pool notice) stack j depth (logic Bottom) h
 
-    pub skip-room : {k : Skip} → opOf (entryAt s (m .next) .op) ≡ Op.Skip k → m .next + entryAt s (m .next) .a + 1 ≤ 512
-    skip-room e = omega (arith, checked-skip s (l .checked) (m .next) here (ap skipOp e) .0, few, l .count)
-
-    -- a machine that is the rule's next
-    again : (r : Machine) → stateOf pool notice r ≡ visit pool notice (entryAt s (m .next)) (stateOf pool notice m) → length (r .stack) ≡ 32
-        → Going s pool notice n r
-    again r e long =
+    -- variables that are the rule's next
+    again : (stack′ : List Slot) (next′ depth′ : ℕ) → next′ ≡ next + strideBy o (entryAt s next) (items pool notice stack depth)
+        → items pool notice stack′ depth′ ≡ stackBy pool notice o (entryAt s next) (items pool notice stack depth) → length stack′ ≡ 32
+        → Going s pool notice n budget stack′ next′ depth′ (left - 1)
+    again stack′ next′ depth′ p q long =
+        let l = v .going in
+        let t = stateOf pool notice (machine stack next depth (budget - left)) in
+        let one : budget - (left - 1) ≡ budget - left + 1 = omega (arith, v .spare, l .within) in
+        let e : stateOf pool notice (machine stack′ next′ depth′ (budget - (left - 1))) ≡ visit pool notice (entryAt s next) t = rw (v .op, p, q, one) in
         record {
           checked = l .checked;
           count = l .count;
           strings = l .strings;
           long = long;
+          within = omega (arith, l .within);
           follows = visited (l .checked)
-              (ap (λ (p : List ℕ). stateOf p notice r) (sym (l .strings))
+              (ap (λ (x : List ℕ). stateOf x notice (machine stack′ next′ depth′ (budget - (left - 1)))) (sym (l .strings))
               ∙ e
-              ∙ ap (λ (p : List ℕ). visit p notice (entryAt s (m .next)) (stateOf pool notice m)) (l .strings)
-              ∙ sym (rule-more s notice (stateOf pool notice m) here)
-              ∙ ap (rule (decode s) notice) state
-              ∙ sym (after-next (decode s) notice (m .steps))
-              ∙ ap (λ (t : State). after (decode s) notice (t .steps)) (sym e));
+              ∙ ap (λ (x : List ℕ). visit x notice (entryAt s next) t) (l .strings)
+              ∙ sym (rule-more s notice t here)
+              ∙ ap (rule (decode s) notice) (state l)
+              ∙ sym (after-next (decode s) notice (budget - left))
+              ∙ ap (after (decode s) notice) (sym one));
         }
 
-    -- an operator's result in its operands' place
-    answered : (o : Op) → opOf (entryAt s (m .next) .op) ≡ o → (j : ℕ) (h : Held) → m .depth - j < 32
-        → stackBy pool notice o (entryAt s (m .next)) (items pool notice m) ≡ itemOf pool notice h ∷ drop j (items pool notice m)
-        → strideBy o (entryAt s (m .next)) (items pool notice m) ≡ 1
-        → Going s pool notice n (putOn m j h)
-    answered o e j h fits q p =
-        let i : m .depth - j < length (m .stack) = omega (arith, l .long) in
-        let t : items pool notice (putOn m j h) ≡ itemOf pool notice h ∷ drop j (items pool notice m) =
-        stack-put (itemOf pool notice) (m .stack) (record { held = h }) (m .depth - j) i
-        ∙ ap (λ (st : List Item). itemOf pool notice h ∷ st) (sym (stack-drop (itemOf pool notice) (m .stack) j (m .depth))) in
-        again (putOn m j h) (rw e (state-eq (ap (λ (d : ℕ). m .next + d) (sym p)) (t ∙ sym q)))
-        (length-set (m .stack) (m .depth - j) (record { held = h }) ∙ l .long)
+    -- an operator's result in the place of its j operands
+    answered : (j i depth′ : ℕ) (r : Slot) → i ≡ depth - j → depth′ ≡ i + 1 → i < 32
+        → stackBy pool notice o (entryAt s next) (items pool notice stack depth) ≡ itemIn pool notice r ∷ drop j (items pool notice stack depth)
+        → strideBy o (entryAt s next) (items pool notice stack depth) ≡ 1
+        → Going s pool notice n budget (set stack i r) (next + 1) depth′ (left - 1)
+    answered j i depth′ r e d fits q p =
+        let f : i < length stack = omega (arith, v .going .long) in
+        again (set stack i r) (next + 1) depth′ (ap (λ (k : ℕ). next + k) (sym p))
+        (ap (items pool notice (set stack i r)) d
+        ∙ stack-put (itemOf pool notice) stack r i f
+        ∙ ap (λ (st : List Item). itemIn pool notice r ∷ st) (ap (items pool notice stack) e ∙ sym (stack-drop (itemOf pool notice) stack j depth))
+        ∙ sym q)
+        (length-set stack i r ∙ v .going .long)
 
-    -- a slot of the stack by its place in the array
-    slot : (j : ℕ) → j < m .depth → slotAt (items pool notice m) j ≡ heldAt pool notice m (m .depth - (j + 1))
-    slot j h = stack-get (itemOf pool notice) (m .stack) j (m .depth) (logic Bottom) h
+  -- ---- by group
 
-    pub load-law : {k : Load} (h : Held) → opOf (entryAt s (m .next) .op) ≡ Op.Load k
-        → itemOf pool notice h ≡ loadOf pool notice k (entryAt s (m .next) .a) (entryAt s (m .next) .b)
-        → Going s pool notice n (putOn m 0 h)
-    load-law {k} h e q = answered (Op.Load k) e 0 h (room (Op.Load k) e .1) (ap (λ (x : Item). x ∷ items pool notice m) (sym q)) refl
+  module _ {k : Load} (v : Visiting s pool notice n budget stack next depth left (Op.Load k)) where
+    pub load-fits : depth < 32
+    load-fits = omega (arith, room v)
 
-    pub unary-law : {k : Unary} (h : Held) → opOf (entryAt s (m .next) .op) ≡ Op.Unary k
-        → itemOf pool notice h ≡ unaryOf k (heldAt pool notice m (m .depth - 1))
-        → Going s pool notice n (putOn m 1 h)
-    unary-law {k} h e q =
-        let r = room (Op.Unary k) e in
-        answered (Op.Unary k) e 1 h (r .1) (ap (λ (x : Item). x ∷ drop 1 (items pool notice m)) (ap (unaryOf k) (slot 0 (omega (arith, r))) ∙ sym q)) refl
+    pub load-law : {l : Load} {a b : ℕ} (r : Slot) → k ≡ l → a ≡ entryAt s next .a → b ≡ entryAt s next .b → itemIn pool notice r ≡ loadOf pool notice l a b
+        → Going s pool notice n budget (set stack depth r) (next + 1) (depth + 1) (left - 1)
+    load-law r e p q f =
+        answered v 0 depth (depth + 1) r (omega arith) refl load-fits
+        (rw (e, ← p, ← q) (ap (λ (x : Item). x ∷ items pool notice stack depth) (sym f))) refl
 
-    pub binary-law : {k : Binary} (h : Held) → opOf (entryAt s (m .next) .op) ≡ Op.Binary k
-        → itemOf pool notice h ≡ binaryOf k (heldAt pool notice m (m .depth - 2)) (heldAt pool notice m (m .depth - 1))
-        → Going s pool notice n (putOn m 2 h)
-    binary-law {k} h e q =
-        let r = room (Op.Binary k) e in
-        answered (Op.Binary k) e 2 h (r .1)
-        (ap (λ (x : Item). x ∷ drop 2 (items pool notice m)) (rw (slot 0 (omega (arith, r)), slot 1 (omega (arith, r))) (sym q))) refl
+  module _ {k : Unary} (v : Visiting s pool notice n budget stack next depth left (Op.Unary k)) where
+    pub unary-fits : (1 ≤ depth) × (depth ≤ 32)
+    unary-fits = (room v .0, low (v .going))
+
+    pub unary-law : {l : Unary} (r : Slot) → k ≡ l → itemIn pool notice r ≡ unaryOf l (itemAt pool notice stack (depth - 1))
+        → Going s pool notice n budget (set stack (depth - 1) r) (next + 1) depth (left - 1)
+    unary-law r e f =
+        let h = unary-fits in
+        answered v 1 (depth - 1) depth r refl (omega arith) (omega arith)
+        (rw (e, slot v 0 (h .0)) (ap (λ (x : Item). x ∷ drop 1 (items pool notice stack depth)) (sym f))) refl
+
+  module _ {k : Binary} (v : Visiting s pool notice n budget stack next depth left (Op.Binary k)) where
+    pub binary-fits : (2 ≤ depth) × (depth ≤ 32)
+    binary-fits = (room v .0, low (v .going))
+
+    pub binary-law : {l : Binary} (r : Slot) → k ≡ l → itemIn pool notice r ≡ binaryOf l (itemAt pool notice stack (depth - 2)) (itemAt pool notice stack (depth - 1))
+        → Going s pool notice n budget (set stack (depth - 2) r) (next + 1) (depth - 1) (left - 1)
+    binary-law r e f =
+        let h = binary-fits in
+        answered v 2 (depth - 2) (depth - 1) r refl (omega arith) (omega arith)
+        (rw (e, slot v 0 (omega arith), slot v 1 (omega arith)) (ap (λ (x : Item). x ∷ drop 2 (items pool notice stack depth)) (sym f))) refl
+
+  module _ {k : Many} (v : Visiting s pool notice n budget stack next depth left (Op.Many k)) {a : ℕ} (is : a ≡ entryAt s next .a) where
+    pub many-fits : (a + 1 ≤ depth) × (depth ≤ 32)
+    many-fits = (omega (arith, room v, length-replicate (entryAt s next .a) Kind.value), low (v .going))
 
     -- what is known with all later operands
-    pub many-law : {k : Many} {known : Truth} (a : ℕ) → a ≡ entryAt s (m .next) .a → opOf (entryAt s (m .next) .op) ≡ Op.Many k
-        → known
-        ≡ tallyOf k (heldAt pool notice m (m .depth - (a + 1))) (startOf k (heldAt pool notice m (m .depth - (a + 1)))) (reverse (take a (items pool notice m)))
-        → Going s pool notice n (putOn m (a + 1) (Held.Logic known))
-    many-law {k} {known} a is e q =
-        let r = many-room a is e in
-        let x = heldAt pool notice m (m .depth - (a + 1)) in
-        answered (Op.Many k) e (a + 1) (Held.Logic known) (r .1)
-        (ap (λ (b : ℕ). manyItems k (slotAt (items pool notice m) b) (reverse (take b (items pool notice m))) ∷ drop (suc b) (items pool notice m)) (sym is)
-        ∙ ap (λ (y : Item). manyItems k y (reverse (take a (items pool notice m))) ∷ drop (suc a) (items pool notice m)) (slot a (omega (arith, r)))
-        ∙ ap (λ (y : Item). y ∷ drop (suc a) (items pool notice m)) (sym (ap logic q ∙ tally k x (reverse (take a (items pool notice m)))))
-        ∙ ap (λ (d : ℕ). logic known ∷ drop d (items pool notice m)) (sym (add-one a)))
-        refl
+    pub many-law : {known : Truth} {j : ℕ} (r : Slot) → Tallied pool notice stack depth k (depth - (a + 1)) known j → depth ≤ j → itemIn pool notice r ≡ logic known
+        → Going s pool notice n budget (set stack (depth - (a + 1)) r) (next + 1) (depth - (a + 1) + 1) (left - 1)
+    many-law {known} {j} r t end f =
+        let h = many-fits in
+        let st = items pool notice stack depth in
+        let x = itemAt pool notice stack (depth - (a + 1)) in
+        let none : depth - j ≡ 0 = omega arith in
+        let all : depth - (depth - (a + 1) + 1) ≡ a = omega arith in
+        let w : known ≡ tallyOf k x (startOf k x) (reverse (take a st)) = rw (none, all) at (t .whole) in
+        answered v (a + 1) (depth - (a + 1)) (depth - (a + 1) + 1) r refl refl (omega arith)
+        (rw (add-one a, ← is, slot v a (omega arith)) (ap (λ (y : Item). y ∷ drop (suc a) st) (sym (f ∙ ap logic w ∙ tally k x (reverse (take a st)))))) refl
 
-    pub skip-law : {k : Skip} → opOf (entryAt s (m .next) .op) ≡ Op.Skip k
-        → Going s pool notice n (goOn m (cond (skips k (truthIn (heldAt pool notice m (m .depth - 1)))) (entryAt s (m .next) .a + 1) 1))
-    skip-law {k} e =
-        let r = room (Op.Skip k) e in
-        let x = heldAt pool notice m (m .depth - 1) in
-        again (goOn m (cond (skips k (truthIn x)) (entryAt s (m .next) .a + 1) 1))
-        (rw e (state-eq (ap (λ (y : Item). m .next + cond (skips k (truthIn y)) (entryAt s (m .next) .a + 1) 1) (sym (slot 0 (omega (arith, r))))) refl))
-        (l .long)
+  module _ {k : Skip} (v : Visiting s pool notice n budget stack next depth left (Op.Skip k)) where
+    pub skip-fits : (1 ≤ depth) × (depth ≤ 32)
+    skip-fits = (room v .0, low (v .going))
 
-    pub no-unknown : opOf (entryAt s (m .next) .op) ≡ Op.Unknown → ⊥
-    no-unknown e = never-unknown notice (l .checked) sound here e
+    pub skip-room : {a : ℕ} → a ≡ entryAt s next .a → next + a + 1 ≤ 512
+    skip-room is = omega (arith, checked-skip s (v .going .checked) next (here v) (ap skipOp (v .op)) .0, few (v .going), v .going .count)
 
--- where a run starts
-pub begin : {s pool : List ℕ} (notice : List ℕ) (n : ℕ) → checkOf s ≡ true → n ≡ countOf s → pool ≡ poolOf s → Going s pool notice n fresh
-unfolding afterFrom
-begin {s} notice n c e p = record { checked = c; count = e; strings = p; long = length-replicate 32 blank; follows = visited c refl }
+    pub skip-law : {a far : ℕ} → a ≡ entryAt s next .a → far ≡ cond (skips k (truthIn (itemAt pool notice stack (depth - 1)))) (a + 1) 1
+        → Going s pool notice n budget stack (next + far) depth (left - 1)
+    skip-law {a} {far} is f = again v stack (next + far) depth (rw (slot v 0 (skip-fits .0), ← is, f)) refl (v .going .long)
 
--- the loop's invariant: the machine follows the rule, and makes no more visits than the budget
-abbrev pub Within : List ℕ → List ℕ → List ℕ → ℕ → ℕ → Machine → Type 0
-Within s pool notice n budget m = Going s pool notice n m × (m .steps ≤ budget)
-
--- one visit more, where the budget is not spent
-pub within : {s pool notice : List ℕ} {n budget steps : ℕ} {r : Machine} → steps ≤ budget → (steps ≡ budget → ⊥) → Going s pool notice n r → r .steps ≡ steps + 1 → Within s pool notice n budget r
-within {budget = budget} {steps = steps} low more l e = let p : steps ≡ budget → ⊥ = more in (l, omega arith)
+  pub no-unknown : Visiting s pool notice n budget stack next depth left Op.Unknown → ⊥
+  no-unknown v = never-unknown notice (v .going .checked) (sound (v .going)) (here v) (v .op)

@@ -3,12 +3,12 @@ ghost use mathlib.Core.Path.{_≡_};
 ghost use mathlib.Core.Bool.{true, cond};
 ghost use mathlib.Core.List.{List};
 ghost use Prim.Native.Nat.{ℕ, _+_, _≤_};
-ghost use Rattle.notice.specs.Layout.{checkOf as noticeCheck};
+ghost use Rattle.notice.specs.Layout.{checkOf as noticeCheck, Indexed};
 ghost use Rattle.notice.specs.declared.Layout.the-variants.{WellFormed};
 ghost use Rattle.table.specs.Table.{decode};
 ghost use Rattle.table.specs.Check.{checkOf};
 ghost use Rattle.value.specs.Value.{truthIn};
-ghost use Rattle.value.specs.Held.{itemOf};
+ghost use Rattle.value.specs.Held.{itemIn};
 ghost use Rattle.interpreter.specs.Run.{skips, runOf};
 ghost use Rattle.interpreter.specs.Machine.{Visited};
 ghost use Rattle.interpreter.specs.Running.{refused as refusedWith, answerOf, runningOf};
@@ -41,8 +41,8 @@ fn skips_on(skip: Skip, top: Truth) -> bool
 }
 
 // ".. go a + 1 entries on, all else one"
-fn stride(skip: Skip, a: u16, top: Held) -> usize
-    ensures { λ r. ⌜ ((p : List ℕ) → (q : List ℕ) → r ≡ cond (skips skip (truthIn (itemOf p q top))) (a + 1) 1) × (r ≤ a + 1) ⌝ }
+fn stride(skip: Skip, a: u16, top: Slot) -> usize
+    ensures { λ r. ⌜ ((p : List ℕ) → (q : List ℕ) → r ≡ cond (skips skip (truthIn (itemIn p q top))) (a + 1) 1) × (r ≤ a + 1) ⌝ }
 {
     if skips_on(skip, value::truth_in(top)) {
         (a as usize) + 1
@@ -51,13 +51,18 @@ fn stride(skip: Skip, a: u16, top: Held) -> usize
     }
 }
 
-// The inner run: at most `budget` visits, or as many as there are. It asks for a table that passes the check, so that a caller checks a table once and runs it often, and for a notice found well-formed, so that the search for a field may stop (document 02, request 11).
+// The inner run: at most `budget` visits, or as many as there are. It asks for a table that passes the check, a notice found well-formed and the starts of its fields, so that a caller checks each once and runs often.
 // "After each visit the runner's own next entry and whole stack are those of this rule": `Visited`. Two things are left free. The slots above the depth hold whatever earlier visits left in them; the array has 32 slots, and the depth is
 // at most 32. Where a string lies is not told: its slot names some stretch of the pool or of the notice, with a mark or without, that gives the string's bytes.
-// The stack is updated in place, and the numbers stand beside it, so that they stay in registers. Each group of operators stores its own answer and goes on: where the groups meet, a slot would be put together from its parts.
+// The stack is updated in place, and the numbers stand beside it, so that they stay in registers. Each group of operators stores its own answer: where the groups meet, a slot would be put together from its parts.
 // Of two operands the second is read first: the slot that is written is then the one that was read last, and the compiler copies nothing between the two.
-pub fn run_checked<'a>(table: &'a [u8], notice: &'a [u8], budget: usize) -> Machine
-    requires { ⌜ (checkOf (now table) ≡ true) × (noticeCheck (now notice) ≡ WellFormed) ⌝ }
+pub fn run_indexed<'a>(
+    table: &'a [u8],
+    notice: &'a [u8],
+    starts: &[u16; 64],
+    budget: usize,
+) -> Machine
+    requires { ⌜ (checkOf (now table) ≡ true) × (noticeCheck (now notice) ≡ WellFormed) × Indexed (now notice) (now starts) ⌝ }
     ensures { λ r. ⌜ Visited (now (table .entry)) (now (notice .entry)) budget r ⌝ }
 {
     let n = table::count(table);
@@ -67,158 +72,106 @@ pub fn run_checked<'a>(table: &'a [u8], notice: &'a [u8], budget: usize) -> Mach
     }; 32];
     let mut next = 0;
     let mut depth = 0;
-    let mut steps = 0;
-    while next < n {
-        if steps == budget {
-            return Machine {
-                next,
-                depth,
-                steps,
-                stack,
-            };
-        }
+    let mut left = budget;
+    while (next < n) & (0 < left) {
         let at = next;
-        steps = steps + 1;
+        left = left - 1;
         next = at + 1;
         let op = opcode::op_of(table::op_at(table, at));
         match op {
             Op::Load(k) => match k {
                 Load::Int32 => {
-                    let b = table::b_at(table, at);
-                    let h = value::load_int32(b);
-                    stack[depth] = Slot { held: h };
+                    stack[depth] = value::load_int32(table::b_at(table, at));
                     depth = depth + 1;
-                    continue;
                 }
                 Load::Int64 => {
-                    let b = table::b_at(table, at);
-                    let h = value::load_int64(b);
-                    stack[depth] = Slot { held: h };
+                    stack[depth] = value::load_int64(table::b_at(table, at));
                     depth = depth + 1;
-                    continue;
                 }
                 Load::Real64 => {
-                    let b = table::b_at(table, at);
-                    let h = value::load_real64(b);
-                    stack[depth] = Slot { held: h };
+                    stack[depth] = value::load_real64(table::b_at(table, at));
                     depth = depth + 1;
-                    continue;
                 }
                 Load::Text => {
-                    let a = table::a_at(table, at);
-                    let b = table::b_at(table, at);
-                    let h = value::load_text(a, b);
-                    stack[depth] = Slot { held: h };
+                    stack[depth] = value::load_text(table::a_at(table, at), table::b_at(table, at));
                     depth = depth + 1;
-                    continue;
                 }
                 Load::Name => {
-                    let a = table::a_at(table, at);
-                    let b = table::b_at(table, at);
-                    let h = value::load_name(pool, notice, a, b);
-                    stack[depth] = Slot { held: h };
+                    stack[depth] = value::load_name(
+                        pool,
+                        notice,
+                        starts,
+                        table::a_at(table, at),
+                        table::b_at(table, at),
+                    );
                     depth = depth + 1;
-                    continue;
                 }
             },
             Op::Unary(k) => match k {
                 Unary::Not => {
                     let i = depth - 1;
-                    let s = stack[i];
-                    let x = s.held;
-                    let h = value::not(x);
-                    stack[i] = Slot { held: h };
-                    continue;
+                    let x = stack[i];
+                    stack[i] = value::not(x);
                 }
                 Unary::Change(o) => {
                     let i = depth - 1;
-                    let s = stack[i];
-                    let x = s.held;
-                    let h = value::change(pool, notice, o, x);
-                    stack[i] = Slot { held: h };
-                    continue;
+                    let x = stack[i];
+                    stack[i] = value::change(pool, notice, o, x);
                 }
                 Unary::Test(o) => {
                     let i = depth - 1;
-                    let s = stack[i];
-                    let x = s.held;
-                    let h = value::test(o, x);
-                    stack[i] = Slot { held: h };
-                    continue;
+                    let x = stack[i];
+                    stack[i] = value::test(o, x);
                 }
             },
             Op::Binary(k) => match k {
                 Binary::Combine(o) => {
                     let i = depth - 2;
-                    let j = depth - 1;
-                    let t = stack[j];
-                    let s = stack[i];
-                    let x = s.held;
-                    let y = t.held;
-                    let h = value::combine(o, x, y);
-                    stack[i] = Slot { held: h };
-                    depth = j;
-                    continue;
+                    depth = depth - 1;
+                    let y = stack[depth];
+                    let x = stack[i];
+                    stack[i] = value::combine(o, x, y);
                 }
                 Binary::Compare(o) => {
                     let i = depth - 2;
-                    let j = depth - 1;
-                    let t = stack[j];
-                    let s = stack[i];
-                    let x = s.held;
-                    let y = t.held;
-                    let h = value::compare(pool, notice, o, x, y);
-                    stack[i] = Slot { held: h };
-                    depth = j;
-                    continue;
+                    depth = depth - 1;
+                    let y = stack[depth];
+                    let x = stack[i];
+                    stack[i] = value::compare(pool, notice, o, x, y);
                 }
                 Binary::Connect(o) => {
                     let i = depth - 2;
-                    let j = depth - 1;
-                    let t = stack[j];
-                    let s = stack[i];
-                    let x = s.held;
-                    let y = t.held;
-                    let h = value::connect(o, x, y);
-                    stack[i] = Slot { held: h };
-                    depth = j;
-                    continue;
+                    depth = depth - 1;
+                    let y = stack[depth];
+                    let x = stack[i];
+                    stack[i] = value::connect(o, x, y);
                 }
             },
             Op::Many(k) => {
-                let a = table::a_at(table, at) as usize;
-                let i = depth - (a + 1);
-                let s = stack[i];
-                let x = s.held;
+                let i = depth - (table::a_at(table, at) as usize + 1);
+                let x = stack[i];
                 let mut known = value::start(k, x);
                 let mut j = i + 1;
                 while j < depth {
-                    let t = stack[j];
-                    let y = t.held;
+                    let y = stack[j];
                     known = value::more(pool, notice, k, x, known, y);
                     j = j + 1;
                 }
-                stack[i] = Slot {
-                    held: Held::Logic(known),
-                };
+                stack[i] = value::decided(known);
                 depth = i + 1;
-                continue;
             }
             Op::Skip(k) => {
                 let i = depth - 1;
-                let s = stack[i];
-                let x = s.held;
-                let far = stride(k, table::a_at(table, at), x);
-                next = at + far;
-                continue;
+                let x = stack[i];
+                next = at + stride(k, table::a_at(table, at), x);
             }
-            Op::Unknown => continue,
+            Op::Unknown => {}
         }
     }
     Machine {
         next,
         depth,
-        steps,
+        steps: budget - left,
         stack,
     }
 }
@@ -242,16 +195,25 @@ fn refused(number: u8, place: usize) -> Ran
     }
 }
 
-// The whole run of a table that passes the check on a notice found well-formed, for a caller who checks a table once and runs it often: "At N it ends and the one slot is the verdict."
-pub fn run_whole<'a>(table: &'a [u8], notice: &'a [u8]) -> Ran
+// The same for a caller who has no starts: it makes them.
+pub fn run_checked<'a>(table: &'a [u8], notice: &'a [u8], budget: usize) -> Machine
     requires { ⌜ (checkOf (now table) ≡ true) × (noticeCheck (now notice) ≡ WellFormed) ⌝ }
+    ensures { λ r. ⌜ Visited (now (table .entry)) (now (notice .entry)) budget r ⌝ }
+{
+    let mut starts: [u16; 64] = [0; 64];
+    notice::index(notice, &mut starts);
+    run_indexed(table, notice, &starts, budget)
+}
+
+// The whole run, with what `run_indexed` asks: "At N it ends and the one slot is the verdict."
+pub fn run_whole<'a>(table: &'a [u8], notice: &'a [u8], starts: &[u16; 64]) -> Ran
+    requires { ⌜ (checkOf (now table) ≡ true) × (noticeCheck (now notice) ≡ WellFormed) × Indexed (now notice) (now starts) ⌝ }
     ensures { λ r. ⌜ r ≡ answerOf (runOf (decode (now (table .entry))) (now (notice .entry))) ⌝ }
 {
     let n = table::count(table);
-    let m = run_checked(table, notice, n);
+    let m = run_indexed(table, notice, starts, n);
     let slot = m.stack[0];
-    let held = slot.held;
-    let verdict = value::truth_in(held);
+    let verdict = value::truth_in(slot);
     Ran {
         number: 0,
         place: 0,
@@ -266,9 +228,10 @@ pub fn run_kept<'a>(table: &'a [u8], notice: &'a [u8]) -> Ran
     requires { ⌜ checkOf (now table) ≡ true ⌝ }
     ensures { λ r. ⌜ r ≡ runningOf (now (table .entry)) (now (notice .entry)) ⌝ }
 {
-    let layout = notice::check(&notice[0..]);
+    let mut starts: [u16; 64] = [0; 64];
+    let layout = notice::index(&notice[0..], &mut starts);
     match layout {
-        Layout::WellFormed => run_whole(table, notice),
+        Layout::WellFormed => run_whole(table, notice, &starts),
         Layout::Fault(place) => refused(11, place),
     }
 }

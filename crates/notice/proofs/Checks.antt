@@ -4,14 +4,14 @@ use mathlib.Core.Bool.{true, false}
 use mathlib.Core.List.{List, []}
 use Prim.Native.Nat.{ℕ, suc, _+_, _-_, _≤_, _<_}
 use native.Mathlib.Omega.{arith}
-use lib.Dec.{leb}
+use lib.Dec.{leb, eqb}
 use lib.ListN.{length}
-use borrow.Author.Tests.{le-leb, lt-leb, leb-true, eq-eqb, ne-eqb}
+use borrow.Author.Tests.{le-leb, lt-leb, leb-true, eq-eqb, ne-eqb, eqb-true}
 use Rattle.word.specs.Word.{wordAt}
 use Rattle.octets.specs.Octets.{beforeOf}
 use Rattle.octets.proofs.Theorems.{and-parts}
 use Rattle.notice.specs.declared.Layout.the-variants.{WellFormed, Fault}
-use Rattle.notice.specs.Layout.{nameAt, nextAt, countOf, headerRight, rightAt, standsAt, checkFrom, checkOf}
+use Rattle.notice.specs.Layout.{nameAt, nextAt, lengthRight, countOf, headerRight, rightAt, standsAt, checkFrom, checkOf}
 
 module _ (s : List ℕ) where
   pub short : length s < 8 → false ≡ headerRight s
@@ -68,8 +68,27 @@ module _ (s : List ℕ) (at : ℕ) (last : List ℕ) where
           let m = more-suc (n - 1) (rw (r, ← q, e)) in
           (ap (λ (l : List ℕ). checkFrom (n - 1) l s (nextAt s at)) q ∙ m) ∙ ap (λ (k : ℕ). checkFrom k last s at) (sym z)
 
-pub header-long : (s : List ℕ) → headerRight s ≡ true → 8 ≤ length s
-header-long s e = leb-true 8 (length s) (and-parts _ _ (and-parts _ _ e .0) .0)
+-- the header in numbers
+pub record Header (s : List ℕ) : Type 0 where
+  pub long : 8 ≤ length s
+  pub short : length s ≤ 16384
+  pub size : 4 + wordAt 4 s 0 ≡ length s
+  pub kind : wordAt 2 s 4 ≡ 1
+  pub few : countOf s ≤ 64
+
+pub header-numbers : (s : List ℕ) → headerRight s ≡ true → Header s
+header-numbers s e =
+    let a = and-parts (lengthRight s) _ e in
+    let b = and-parts (leb 8 (length s)) (leb (length s) 16384) (a .0) in
+    let c = and-parts (eqb (4 + wordAt 4 s 0) (length s)) _ (a .1) in
+    let d = and-parts (eqb (wordAt 2 s 4) 1) (leb (countOf s) 64) (c .1) in
+    record {
+      long = leb-true 8 (length s) (b .0);
+      short = leb-true (length s) 16384 (b .1);
+      size = eqb-true (4 + wordAt 4 s 0) (length s) (c .0);
+      kind = eqb-true (wordAt 2 s 4) 1 (d .0);
+      few = leb-true (countOf s) 64 (d .1);
+    }
 
 pub by-fields : (s : List ℕ) → headerRight s ≡ true → checkFrom (countOf s) [] s 8 ≡ checkOf s
 by-fields s e = rw e

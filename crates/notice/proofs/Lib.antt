@@ -6,6 +6,7 @@ pub mod Checks
 pub mod Walks
 pub mod Fields
 pub mod Renders
+pub mod Stood
 pub mod Stores
 pub mod Inserts
 pub mod Writes
@@ -15,4 +16,5 @@ pub mod Faults
 pub mod Trips
 pub mod Theorems
 pub mod Readings
+pub mod Halves
 pub mod RoundTrip

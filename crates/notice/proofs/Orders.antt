@@ -253,7 +253,7 @@ before-last f (g ∷ gs) e =
     let n = before-not-after (g .name) (f .name) (p .0) in
     rw n (ap (λ (l : List Field). g ∷ l) (before-last f gs (p .1)))
 
-before-both : (acc : List Field) (name next : List ℕ) → allBefore acc name ≡ true → beforeOf name next ≡ true → allBefore acc next ≡ true
+pub before-both : (acc : List Field) (name next : List ℕ) → allBefore acc name ≡ true → beforeOf name next ≡ true → allBefore acc next ≡ true
 before-both [] name next e n = refl
 before-both (g ∷ gs) name next e n =
     let p = and-parts (beforeOf (g .name) name) (allBefore gs name) e in

@@ -4,9 +4,9 @@ use mathlib.Core.Bool.{Bool, true, false, cond, _&&_}
 use mathlib.Core.List.{List, [], _∷_, _++_, map, append-assoc, append-nil}
 use Prim.Native.Nat.{ℕ, zero, suc, _+_, _-_, _≤_, _<_, _^_}
 use native.Mathlib.Omega.{arith}
-use lib.Dec.{leb, eqb}
+use lib.Dec.{eqb}
 use lib.ListN.{length, drop, length-append, length-drop, drop-of-length-le}
-use borrow.Author.Tests.{le-leb, eq-eqb, leb-true, eqb-true}
+use borrow.Author.Tests.{le-leb, eq-eqb, eqb-true}
 use Rattle.common.specs.Choice.{pick}
 use Rattle.word.specs.Word.{wordAt, wordBytes, Bytes}
 use Rattle.word.proofs.Laws.{length-wordBytes}
@@ -20,7 +20,7 @@ use Rattle.notice.specs.Render.{fieldBytes, fieldsBytes, headerBytes, re
 use Rattle.notice.specs.Layout.{nextAt, nameAt, fieldAt, liesAt, rightAt, standsAt, lengthRight, countOf, headerRight, checkFrom, checkOf, startsFrom, startsOf, fieldsOf}
 use Rattle.notice.proofs.Places.{right-lies}
 use Rattle.notice.proofs.Walks.{starts-end, starts-more}
-use Rattle.notice.proofs.Checks.{more-suc}
+use Rattle.notice.proofs.Checks.{Header, header-numbers, more-suc}
 use Rattle.notice.proofs.Fields.{right-small, split-drop, field-read, next-read, lies-read, field-written, length-field}
 
 -- a faulty notice is not well-formed
@@ -220,27 +220,8 @@ module _ (s : List ℕ) (bytes : Bytes s) (well : checkOf s ≡ WellFormed) wher
       go true p e = (p, e)
       go false p e = fault-well e
 
-  -- the header in numbers
-  pub record Header : Type 0 where
-    pub long : 8 ≤ length s
-    pub short : length s ≤ 16384
-    pub size : 4 + wordAt 4 s 0 ≡ length s
-    pub kind : wordAt 2 s 4 ≡ 1
-    pub few : countOf s ≤ 64
-
-  pub well-header : Header
-  well-header =
-      let a = and-parts (lengthRight s) _ (header-well .0) in
-      let b = and-parts (leb 8 (length s)) (leb (length s) 16384) (a .0) in
-      let c = and-parts (eqb (4 + wordAt 4 s 0) (length s)) _ (a .1) in
-      let d = and-parts (eqb (wordAt 2 s 4) 1) (leb (countOf s) 64) (c .1) in
-      record {
-        long = leb-true 8 (length s) (b .0);
-        short = leb-true (length s) 16384 (b .1);
-        size = eqb-true (4 + wordAt 4 s 0) (length s) (c .0);
-        kind = eqb-true (wordAt 2 s 4) 1 (d .0);
-        few = leb-true (countOf s) 64 (d .1);
-      }
+  pub well-header : Header s
+  well-header = header-numbers s (header-well .0)
 
   pub well-starts : startsOf s ≡ startsFrom (countOf s) s 8
   well-starts =

@@ -24,7 +24,7 @@ use Rattle.notice.specs.Lookup.{foundAt, lookupIn}
 use Rattle.notice.specs.Search.{further, indexOf, belowOf, lookedOf, Stops, indexNumber}
 use Rattle.notice.proofs.Places.{right-lies, right-name, length-name}
 use Rattle.notice.proofs.Walks.{starts-end, starts-more}
-use Rattle.notice.proofs.Renders.{fieldsFrom, Checked, check-sound, header-well, well-starts, well-checked, well-count, first-stands}
+use Rattle.notice.proofs.Renders.{fieldsFrom, check-sound, header-well, well-starts, well-checked, well-count, first-stands}
 use Rattle.notice.proofs.Orders.{same-symmetric, before-not-same, before-not-after, allBefore}
 
 -- ---- two names
@@ -85,7 +85,7 @@ module _ (s name : List ℕ) where
   abbrev pub AllBelow : List ℕ → Type 0
   AllBelow ats = allBefore (map (fieldAt s) ats) name ≡ true
 
-  below-end : (ats : List ℕ) (at : ℕ) → AllBelow ats → beforeOf (nameAt s at) name ≡ true → AllBelow (ats ++ (at ∷ []))
+  pub below-end : (ats : List ℕ) (at : ℕ) → AllBelow ats → beforeOf (nameAt s at) name ≡ true → AllBelow (ats ++ (at ∷ []))
   below-end [] at e h = ap (λ (b : Bool). b && true) h
   below-end (a ∷ ats) at e h =
       let p = and-parts (beforeOf (nameAt s a) name) (allBefore (map (fieldAt s) ats) name) e in
@@ -124,33 +124,67 @@ module _ (s name : List ℕ) where
       let p = and-parts (beforeFirst (nameAt s at) (map (fieldAt s) ats)) (rising (map (fieldAt s) ats)) r in
       rw (above-not-same name (nameAt s at) a) (none-found ats (first-above name (nameAt s at) (map (fieldAt s) ats) (before-not-after name (nameAt s at) a) (p .0)) (p .1))
 
--- ---- the walk of `search`
+-- ---- where the search stops
 
--- n fields are left from `at` on, which stand after the name `last`, and the names of all before them are below
-pub record Passed (s name : List ℕ) (n at : ℕ) : Type 0 where
+-- n fields are left, which start at these places, and the names of all before them are below
+pub record Parted (s name : List ℕ) (n : ℕ) (rest : List ℕ) : Type 0 where
   pub starts : List ℕ
-  pub all : startsOf s ≡ starts ++ startsFrom n s at
+  pub all : startsOf s ≡ starts ++ rest
   pub below : AllBelow s name starts
   pub count : length starts + n ≡ countOf s
+
+module _ (s name : List ℕ) (n : ℕ) (rest : List ℕ) (p : Parted s name n rest) (rises : rising (map (fieldAt s) rest) ≡ true) where
+  -- the first name that is left is above, or none is left
+  pub parted-none : (at : ℕ) → beforeFirst name (map (fieldAt s) rest) ≡ true → Stops s name (record { at = at; left = n; found = false })
+  parted-none at a =
+      let fs = p .all in
+      record {
+        left = rw fs (omega (arith, p .count, below-passed s name rest (p .starts) (p .below), none-below name (map (fieldAt s) rest) a rises));
+        index = rw fs (none-passed s name rest (p .starts) (p .below) (none-same name (map (fieldAt s) rest) a rises));
+        lookup = rw fs (lookup-passed s name rest (p .starts) (p .below) ∙ none-found s name rest a rises);
+        right = λ e. false-true e;
+      }
+
+  -- .. or it is the one sought
+  module _ (at : ℕ) (ats : List ℕ) (more : rest ≡ at ∷ ats) (right : rightAt s at ≡ true) (e : nameAt s at ≡ name) where
+    pub parted-same : Stops s name (record { at = at; left = n; found = true })
+    parted-same =
+        let fs = p .all in
+        let t : sameOf (nameAt s at) name ≡ true = same (nameAt s at) name .1 e in
+        let m : beforeOf (nameAt s at) name ≡ false = ap (λ (t : List ℕ). beforeOf t name) e ∙ before-irreflexive name in
+        let none-left : belowOf name (map (fieldAt s) rest) ≡ 0 = rw more (not-below name (fieldAt s at) (map (fieldAt s) ats) m (rw more at rises)) in
+        let here : indexOf name (map (fieldAt s) rest) ≡ some 0 = rw (more, t) in
+        let b : belowOf name (fieldsOf s) ≡ length (p .starts) = rw fs (omega (arith, below-passed s name rest (p .starts) (p .below))) in
+        let i : indexOf name (fieldsOf s) ≡ some (length (p .starts)) = rw fs (first-passed s name rest (p .starts) (p .below) here) in
+        let l : lookupIn s name rest ≡ foundAt s at = rw (more, t) in
+        record {
+          left = omega (arith, p .count);
+          index = i ∙ ap some (sym b);
+          lookup = rw fs (lookup-passed s name rest (p .starts) (p .below) ∙ l);
+          right = λ _. right;
+        }
+
+-- ---- the walk of `search`
+
+-- n fields are left from `at` on, which stand after the name `last`
+pub record Passed (s name : List ℕ) (n at : ℕ) : Type 0 where
+  pub parted : Parted s name n (startsFrom n s at)
   pub last : List ℕ
   pub rest : checkFrom n last s at ≡ WellFormed
 
 pub none-yet : (s name : List ℕ) → Bytes s → checkOf s ≡ WellFormed → Passed s name (countOf s) 8
-none-yet s name bytes well = record { starts = []; all = well-starts s bytes well; below = refl; count = omega arith; last = []; rest = header-well s bytes well .1 }
+none-yet s name bytes well = record {
+  parted = record { starts = []; all = well-starts s bytes well; below = refl; count = omega arith };
+  last = [];
+  rest = header-well s bytes well .1;
+}
 
 module _ (s name : List ℕ) (bytes : Bytes s) (n at : ℕ) (p : Passed s name n at) where
-  checked : Checked n (p .last) s at
-  checked = check-sound n (p .last) s at bytes (p .rest)
+  rises : rising (fieldsFrom n s at) ≡ true
+  rises = check-sound n (p .last) s at bytes (p .rest) .rises
 
   stops-none : beforeFirst name (fieldsFrom n s at) ≡ true → Stops s name (record { at = at; left = n; found = false })
-  stops-none a =
-      let fs = p .all in
-      record {
-        left = rw fs (omega (arith, p .count, below-passed s name (startsFrom n s at) (p .starts) (p .below), none-below name (fieldsFrom n s at) a (checked .rises)));
-        index = rw fs (none-passed s name (startsFrom n s at) (p .starts) (p .below) (none-same name (fieldsFrom n s at) a (checked .rises)));
-        lookup = rw fs (lookup-passed s name (startsFrom n s at) (p .starts) (p .below) ∙ none-found s name (startsFrom n s at) a (checked .rises));
-        right = λ e. false-true e;
-      }
+  stops-none = parted-none s name n (startsFrom n s at) (p .parted) rises at
 
   pub stops-end : n ≡ 0 → Stops s name (record { at = at; left = n; found = false })
   stops-end z = stops-none (rw (z, starts-end s at))
@@ -167,34 +201,24 @@ module _ (s name : List ℕ) (bytes : Bytes s) (n at : ℕ) (p : Passed s name n
     more = starts-more s at n h (and-parts (liesAt s at) (fieldRight (fieldAt s at)) next-right .0)
 
     pub pass : beforeOf (nameAt s at) name ≡ true → Passed s name (n - 1) (nextAt s at)
-    pass e = record {
-      starts = p .starts ++ (at ∷ []);
-      all = p .all ∙ (ap (λ (ats : List ℕ). p .starts ++ ats) more ∙ sym (append-snoc (p .starts) at (startsFrom (n - 1) s (nextAt s at))));
-      below = below-end s name (p .starts) at (p .below) e;
-      count = omega (arith, p .count, length-append (p .starts) (at ∷ []));
-      last = nameAt s at;
-      rest = stands .1;
-    }
+    pass e =
+        let q = p .parted in
+        record {
+          parted = record {
+            starts = q .starts ++ (at ∷ []);
+            all = q .all ∙ (ap (λ (ats : List ℕ). q .starts ++ ats) more ∙ sym (append-snoc (q .starts) at (startsFrom (n - 1) s (nextAt s at))));
+            below = below-end s name (q .starts) at (q .below) e;
+            count = omega (arith, q .count, length-append (q .starts) (at ∷ []));
+          };
+          last = nameAt s at;
+          rest = stands .1;
+        }
 
     pub stops-above : beforeOf name (nameAt s at) ≡ true → Stops s name (record { at = at; left = n; found = false })
     stops-above e = stops-none (rw more e)
 
     pub stops-same : nameAt s at ≡ name → Stops s name (record { at = at; left = n; found = true })
-    stops-same e =
-        let fs = p .all in
-        let t : sameOf (nameAt s at) name ≡ true = same (nameAt s at) name .1 e in
-        let m : beforeOf (nameAt s at) name ≡ false = ap (λ (t : List ℕ). beforeOf t name) e ∙ before-irreflexive name in
-        let none-left : belowOf name (fieldsFrom n s at) ≡ 0 = rw more (not-below name (fieldAt s at) (fieldsFrom (n - 1) s (nextAt s at)) m (rw more at (checked .rises))) in
-        let here : indexOf name (fieldsFrom n s at) ≡ some 0 = rw (more, t) in
-        let b : belowOf name (fieldsOf s) ≡ length (p .starts) = rw fs (omega (arith, below-passed s name (startsFrom n s at) (p .starts) (p .below))) in
-        let i : indexOf name (fieldsOf s) ≡ some (length (p .starts)) = rw fs (first-passed s name (startsFrom n s at) (p .starts) (p .below) here) in
-        let l : lookupIn s name (startsFrom n s at) ≡ foundAt s at = rw (more, t) in
-        record {
-          left = omega (arith, p .count);
-          index = i ∙ ap some (sym b);
-          lookup = rw fs (lookup-passed s name (startsFrom n s at) (p .starts) (p .below) ∙ l);
-          right = λ _. next-right;
-        }
+    stops-same = parted-same s name n (startsFrom n s at) (p .parted) rises at (startsFrom (n - 1) s (nextAt s at)) more next-right
 
 -- no name is below the empty one
 pub stops-empty : (s name : List ℕ) → Bytes s → checkOf s ≡ WellFormed → length name ≡ 0 → Stops s name (record { at = 8; left = countOf s; found = false })

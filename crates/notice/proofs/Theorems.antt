@@ -32,7 +32,7 @@ use Rattle.notice.proofs.Renders.{render-passes, render-fields, well-re
 use Rattle.notice.proofs.Keys.{bytes-take}
 use Rattle.notice.proofs.Orders.{before-not-same, insert-splits, insertAll, fresh, perm-fresh, perm-inserted, perm-right, perm-length, perm-size, allBeforeFirst, rising-fresh, rising-inserted}
 use Rattle.notice.proofs.Searches.{first-above, none-same, not-below}
-use Rattle.notice.proofs.Checks.{header-long}
+use Rattle.notice.proofs.Checks.{header-numbers}
 use Rattle.notice.proofs.Faults.{faulted}
 use Rattle.notice.proofs.Trips.{Fitting, added-fields, added-length, over, writes-all}
 use Rattle.notice.proofs.Writes.{added}
@@ -53,7 +53,7 @@ fault-place s place bytes e = go (headerRight s) refl e
         × (((length fs < countOf s) × (standsAt (lastName [] fs) s place ≡ false)) ⊎ ((length fs ≡ countOf s) × (place < length s))))
     go false p x = inl (p, ap placeOf (sym x))
     go true p x =
-        let f = faulted (countOf s) [] s 8 place bytes (header-long s p) x in
+        let f = faulted (countOf s) [] s 8 place bytes (header-numbers s p .long) x in
         inr (f .fs, p, f .right, f .rises, f .bytes, f .place-is, f .why)
 
 pub fields-read : FieldsRead

@@ -1,6 +1,7 @@
 -- The layout of a notice, byte by byte: where a field's parts lie, the first fault and its place, and the fields. Document 01, "Notice" and "Refusals by number".
 -- Everything here is total: a byte past the end counts as 0.
 use Prim.Native.Nat.{ℕ, zero, suc, _+_, _-_}
+use mathlib.Core.Path.{_≡_}
 use mathlib.Core.Bool.{Bool, true, false, cond, _&&_}
 use mathlib.Core.List.{List, [], _∷_, map}
 use lib.Dec.{eqb, leb}
@@ -98,3 +99,15 @@ startsOf s = pick (lengthRight s) (λ _. startsFrom (countOf s) s 8) (λ _. [])
 -- the fields, as far as they lie within the notice
 abbrev pub fieldsOf : List ℕ → List Field
 fieldsOf s = map (fieldAt s) (startsOf s)
+
+-- the starts of n fields from `at` on, as far as each is right and its name is after the last one
+unfoldable pub stoodFrom : ℕ → List ℕ → List ℕ → ℕ → List ℕ
+stoodFrom zero last s at = []
+stoodFrom (suc n) last s at = pick (standsAt last s at) (λ _. at ∷ stoodFrom n (nameAt s at) s (nextAt s at)) (λ _. [])
+
+abbrev pub stoodOf : List ℕ → List ℕ
+stoodOf s = pick (headerRight s) (λ _. stoodFrom (countOf s) [] s 8) (λ _. [])
+
+-- an array has the starts of a notice's fields in its first places
+abbrev pub Indexed : List ℕ → List ℕ → Type 0
+Indexed s starts = take (countOf s) starts ≡ startsOf s

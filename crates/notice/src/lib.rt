@@ -4,7 +4,8 @@ ghost use mathlib.Core.Bool.{true};
 ghost use mathlib.Core.List.{[]};
 ghost use Prim.Native.Nat.{_≤_};
 ghost use lib.ListN.{length};
-ghost use Rattle.notice.specs.Layout.{headerRight, countOf, checkFrom, checkOf, rightAt};
+ghost use lib.Seq.{sets};
+ghost use Rattle.notice.specs.Layout.{headerRight, countOf, checkFrom, checkOf, rightAt, stoodFrom, stoodOf, Indexed};
 ghost use Rattle.notice.specs.declared.Layout.the-variants.{WellFormed};
 ghost use Rattle.notice.specs.Lookup.{foundAt, lookupOf};
 ghost use Rattle.notice.specs.Search.{findOf};
@@ -29,6 +30,7 @@ pub use reading::name_of;
 pub use reading::part;
 pub use reading::read;
 pub use reading::value_of;
+use search::halved;
 use search::search;
 use search::sought;
 pub use writing::write;
@@ -98,23 +100,26 @@ fn header_right(notice: &[u8]) -> bool
     word::read_u16(notice, 6) <= 64
 }
 
-// The fields in order, each name after the last one, and nothing after them.
-fn check_fields(notice: &[u8]) -> Layout
-    requires { ⌜ 8 ≤ length (now notice) ⌝ }
+// The fields in order, each name after the last one, and nothing after them. It leaves the start of each field that stands.
+fn check_fields(notice: &[u8], starts: &mut [u16; 64]) -> Layout
+    requires { ⌜ headerRight (now notice) ≡ true ⌝ }
     ensures { λ r. ⌜ r ≡ checkFrom (countOf (now (notice .entry))) [] (now (notice .entry)) 8 ⌝ }
+    ensures { λ _. ⌜ now (starts .exit) ≡ sets (now (starts .entry)) 0 (stoodFrom (countOf (now (notice .entry))) [] (now (notice .entry)) 8) ⌝ }
 {
-    let mut left = word::read_u16(notice, 6);
+    let n = word::read_u16(notice, 6) as usize;
+    let mut i = 0;
     let mut at = 8;
     let mut last = 0;
     let mut last_key: u64 = 0;
-    while 0 < left {
+    while i < n {
         if stands(notice, at) {
             let key = key_of(notice, at + 5, name_size(notice, at));
             if rises(notice, last, last_key, at, key) {
                 last = at;
                 last_key = key;
+                starts[i] = at as u16;
                 at = at + 2 + field_size(notice, at);
-                left -= 1;
+                i += 1;
             } else {
                 return Layout::Fault(at);
             }
@@ -129,14 +134,23 @@ fn check_fields(notice: &[u8]) -> Layout
     }
 }
 
-// Whether a slice is a notice, and the place of the first fault if it is none.
+// Whether a slice is a notice, and the place of the first fault if it is none; with the starts of its fields, up to the first fault.
+pub fn index(notice: &[u8], starts: &mut [u16; 64]) -> Layout
+    ensures { λ r. ⌜ r ≡ checkOf (now (notice .entry)) ⌝ }
+    ensures { λ _. ⌜ now (starts .exit) ≡ sets (now (starts .entry)) 0 (stoodOf (now (notice .entry))) ⌝ }
+{
+    if header_right(notice) {
+        return check_fields(notice, starts);
+    }
+    Layout::Fault(0)
+}
+
+// The same for a caller who needs no starts.
 pub fn check(notice: &[u8]) -> Layout
     ensures { λ r. ⌜ r ≡ checkOf (now (notice .entry)) ⌝ }
 {
-    if header_right(notice) {
-        return check_fields(notice);
-    }
-    Layout::Fault(0)
+    let mut starts: [u16; 64] = [0; 64];
+    index(notice, &mut starts)
 }
 
 // Where a field's kind and value lie.
@@ -159,6 +173,18 @@ pub fn lookup(notice: &[u8], name: &[u8]) -> Found
     ensures { λ r. ⌜ r ≡ lookupOf (now (notice .entry)) (now (name .entry)) ⌝ }
 {
     let stop = search(notice, name);
+    if stop.found {
+        return found_at(notice, stop.at);
+    }
+    Found::Nothing
+}
+
+// The same for a caller who has the starts of its fields, by halving.
+pub fn lookup_in(notice: &[u8], starts: &[u16; 64], name: &[u8]) -> Found
+    requires { ⌜ (checkOf (now notice) ≡ WellFormed) × Indexed (now notice) (now starts) ⌝ }
+    ensures { λ r. ⌜ r ≡ lookupOf (now (notice .entry)) (now (name .entry)) ⌝ }
+{
+    let stop = halved(notice, starts, name);
     if stop.found {
         return found_at(notice, stop.at);
     }

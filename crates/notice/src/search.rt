@@ -3,7 +3,7 @@ ghost use mathlib.Core.Path.{_≡_};
 ghost use mathlib.Core.Bool.{true};
 ghost use mathlib.Core.List.{_∷_};
 ghost use lib.ListN.{drop};
-ghost use Rattle.notice.specs.Layout.{nameAt, rightAt, checkOf};
+ghost use Rattle.notice.specs.Layout.{nameAt, rightAt, checkOf, Indexed};
 ghost use Rattle.notice.specs.declared.Layout.the-variants.{WellFormed};
 ghost use Rattle.notice.specs.Search.{StandsTo, Stops, soughtOf};
 use crate::Sought;
@@ -94,6 +94,45 @@ pub(crate) fn search(notice: &[u8], name: &[u8]) -> Stop
     Stop {
         at,
         left,
+        found: false,
+    }
+}
+
+// The same by halving, for a caller who has the fields' starts: the names before `low` are below the one sought, those from `high` on above it.
+pub(crate) fn halved(notice: &[u8], starts: &[u16; 64], name: &[u8]) -> Stop
+    requires { ⌜ (checkOf (now notice) ≡ WellFormed) × Indexed (now notice) (now starts) ⌝ }
+    ensures { λ r. ⌜ Stops (now (notice .entry)) (now (name .entry)) r ⌝ }
+{
+    let n = word::read_u16(notice, 6);
+    if name.len() == 0 {
+        return Stop {
+            at: 8,
+            left: n,
+            found: false,
+        };
+    }
+    let first = name[0];
+    let mut low: usize = 0;
+    let mut high = n as usize;
+    let mut at = 8;
+    while low < high {
+        let mid = (low + high) / 2;
+        at = starts[mid] as usize;
+        match stands_to(notice, at, name, first) {
+            Standing::Below => low = mid + 1,
+            Standing::Same => {
+                return Stop {
+                    at,
+                    left: n - mid as u16,
+                    found: true,
+                };
+            }
+            Standing::Above => high = mid,
+        }
+    }
+    Stop {
+        at,
+        left: n - low as u16,
         found: false,
     }
 }

@@ -1,9 +1,9 @@
 // Reads, looks up, writes and finds on the cases of standard input. A case is a part of one byte and its operands: 1, a notice, k (8 bytes);
 // 2, a buffer, the named length (8 bytes), a name, a kind (2 bytes), a value; or 3, a notice, a name. Reading prints number, place, kind, name and value,
 // and where it is not refused the kind and the value that lookup finds by the name; writing prints number, place, length and the buffer; finding prints
-// number, place, index and the names looked at.
+// number, place, index and the names looked at, after `other` if halving finds something else than lookup.
 ghost use mathlib.Core.Path.{_≡_};
-ghost use Rattle.notice.specs.Layout.{checkOf};
+ghost use Rattle.notice.specs.Layout.{checkOf, Indexed};
 ghost use Rattle.notice.specs.Read.{readNumber};
 ghost use Rattle.notice.specs.declared.Layout.the-variants.{WellFormed};
 use libc::STDOUT_FILENO;
@@ -83,7 +83,36 @@ fn write_case(buffer: &mut [u8], len: usize, name: &[u8], kind: u16, value: &[u8
     put(b"\n");
 }
 
+// What was found, as one number.
+fn packed(found: Found) -> u64 {
+    match found {
+        Found::At { kind, start, len } => {
+            ((kind as u64) << 32) | ((start as u64) << 16) | (len as u64)
+        }
+        Found::Nothing => 1 << 48,
+    }
+}
+
+// Nothing is printed where halving finds what lookup finds.
+fn put_halved(s: &[u8], starts: &[u16; 64], name: &[u8])
+    requires { ⌜ (checkOf (now s) ≡ WellFormed) × Indexed (now s) (now starts) ⌝ }
+{
+    if packed(notice::lookup_in(s, starts, name)) != packed(notice::lookup(s, name)) {
+        put(b"other ");
+    }
+}
+
+fn put_indexed(s: &[u8], name: &[u8]) {
+    let mut starts: [u16; 64] = [0; 64];
+    let layout = notice::index(s, &mut starts);
+    match layout {
+        Layout::WellFormed => put_halved(s, &starts, name),
+        Layout::Fault(_) => {}
+    }
+}
+
 fn find_case(s: &[u8], name: &[u8]) {
+    put_indexed(s, name);
     let w = notice::find(s, name);
     put_number(w.number as u64);
     put_number(w.place as u64);

@@ -3,7 +3,7 @@ ghost use mathlib.Core.Path.{_≡_};
 ghost use mathlib.Core.Bool.{true};
 ghost use Prim.Native.Nat.{_+_, _*_, _≤_};
 ghost use Rattle.truth.specs.Truth.{rank as rankOf};
-ghost use Rattle.notice.specs.Layout.{checkOf as noticeCheck};
+ghost use Rattle.notice.specs.Layout.{checkOf as noticeCheck, Indexed};
 ghost use Rattle.notice.specs.declared.Layout.the-variants.{WellFormed};
 ghost use Rattle.table.specs.Table.{decode};
 ghost use Rattle.table.specs.Check.{checkOf as tableCheck};
@@ -23,25 +23,25 @@ fn rank(t: Truth) -> u64
     }
 }
 
-// What one run adds to the sum. It asks for a table that passes the check and a notice found well-formed.
-fn weight<'a>(table: &'a [u8], notice: &'a [u8]) -> u64
-    requires { ⌜ (tableCheck (now table) ≡ true) × (noticeCheck (now notice) ≡ WellFormed) ⌝ }
+// What one run adds to the sum. It asks for a table that passes the check, a notice found well-formed and the starts of its fields.
+fn weight<'a>(table: &'a [u8], notice: &'a [u8], starts: &[u16; 64]) -> u64
+    requires { ⌜ (tableCheck (now table) ≡ true) × (noticeCheck (now notice) ≡ WellFormed) × Indexed (now notice) (now starts) ⌝ }
     ensures { λ r. ⌜ (r ≡ weightOf (runOf (decode (now (table .entry))) (now (notice .entry)))) × (r ≤ 2050) ⌝ }
 {
-    let a = interpreter::run_whole(table, notice);
+    let a = interpreter::run_whole(table, notice, starts);
     let verdict = a.verdict;
     4 * (a.steps as u64) + rank(verdict)
 }
 
-// The sum over so many runs. It asks for a table that passes the check and a notice found well-formed.
-fn sum<'a>(table: &'a [u8], notice: &'a [u8], times: u32) -> u64
-    requires { ⌜ (tableCheck (now table) ≡ true) × (noticeCheck (now notice) ≡ WellFormed) ⌝ }
+// The sum over so many runs. It asks for a table that passes the check, a notice found well-formed and the starts of its fields.
+fn sum<'a>(table: &'a [u8], notice: &'a [u8], starts: &[u16; 64], times: u32) -> u64
+    requires { ⌜ (tableCheck (now table) ≡ true) × (noticeCheck (now notice) ≡ WellFormed) × Indexed (now notice) (now starts) ⌝ }
     ensures { λ r. ⌜ r ≡ times * weightOf (runOf (decode (now (table .entry))) (now (notice .entry))) ⌝ }
 {
     let mut total: u64 = 0;
     let mut i = 0;
     while i < times {
-        total += weight(table, notice);
+        total += weight(table, notice, starts);
         i += 1;
     }
     total
@@ -55,9 +55,10 @@ pub extern "C" fn repeat_run<'a>(table: &'a [u8], notice: &'a [u8], times: u32) 
     if !table::check(table) {
         return 0;
     }
-    let layout = notice::check(notice);
+    let mut starts: [u16; 64] = [0; 64];
+    let layout = notice::index(notice, &mut starts);
     match layout {
-        Layout::WellFormed => sum(table, notice, times),
+        Layout::WellFormed => sum(table, notice, &starts, times),
         Layout::Fault(_) => 0,
     }
 }

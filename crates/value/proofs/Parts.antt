@@ -1,13 +1,13 @@
 -- Parts of slices and folding: what the code's branches give. Assumes nothing.
-use mathlib.Core.Path.{_≡_, refl, sym, ap, _∙_}
+use mathlib.Core.Path.{_≡_, sym, ap, _∙_}
 use mathlib.Core.Bool.{Bool, true, false}
 use mathlib.Core.List.{List}
-use Prim.Native.Nat.{ℕ, zero, suc, _+_, _-_, _*_, _^_, _≤_, _<_}
-use native.Mathlib.Nat.{add-sub-cancel-left, pow-le-pow-right, zero-add, suc-add, min-le-left, lt-of-le-of-lt}
+use Prim.Native.Nat.{ℕ, _+_, _-_, _^_, _≤_, _<_}
+use native.Mathlib.Nat.{add-sub-cancel-left, min-le-left, lt-of-le-of-lt}
 use native.Mathlib.Omega.{arith}
 use mir.Syntax.{w32}
 use mir.Val.{hbits}
-use lib.ListN.{length, take, drop, getD, length-drop, length-take, drop-of-length-le, List·getD-eq-default}
+use lib.ListN.{length, take, drop, length-drop, length-take, drop-of-length-le}
 use lib.Seq.{take-all, take-nil, drop-length}
 use Rattle.octets.specs.Octets.{folded}
 use Rattle.octets.proofs.Theorems.{folded-twice, not-folded}
@@ -15,7 +15,6 @@ use Rattle.utf8.specs.declared.Counted.{Counted}
 use Rattle.utf8.specs.Utf8.{Counts}
 use Rattle.utf8.specs.Scan.{countOf}
 use Rattle.utf8.proofs.Theorems.{counted-is}
-use Rattle.word.specs.Word.{wordAt}
 use Rattle.value.specs.Value.{sizeBy}
 
 -- a part that starts past the end is empty, one that ends past the end is the rest, and any other is as long as it says
@@ -44,23 +43,3 @@ below-half n h = omega arith
 -- the size of a text, from the right count of its bytes
 pub sized : (m : Bool) {s : List ℕ} (t : List ℕ) (r : Counted) → s ≡ t → Counts s r → sizeBy (countOf (folded m t)) ≡ sizeBy r
 sized m t r e h = ap sizeBy (sym (counted-is m t r (rw e at h)))
-
--- a word of which bytes are not there
-past-end : (k : ℕ) (s : List ℕ) (at : ℕ) → length s ≤ at → wordAt k s at ≡ 0
-unfolding wordAt
-past-end zero s at h = refl
-past-end (suc k) s at h = rw (List·getD-eq-default s 0 h, past-end k s (suc at) (omega arith))
-
-cut : (n k : ℕ) (s : List ℕ) (at : ℕ) → length s ≤ at + n → wordAt (n + k) s at ≡ wordAt n s at
-unfolding wordAt
-cut zero k s at h = rw zero-add (past-end k s at (omega arith))
-cut (suc n) k s at h = rw suc-add (ap (λ (v : ℕ). getD s at 0 + 256 * v) (cut n k s (suc at) (omega arith)))
-
-pub short-word : (k : ℕ) (s : List ℕ) → length s < k → wordAt (length s) s 0 ≡ wordAt k s 0
-short-word k s h = sym (ap (λ (n : ℕ). wordAt n s 0) e ∙ cut (length s) (k - length s) s 0 (omega arith))
-  where
-    e : k ≡ length s + (k - length s)
-    e = omega arith
-
-pub wider : {v n k : ℕ} → v < 256 ^ n → n < k → v < 256 ^ k
-wider {v} {n} {k} h l = let p : 256 ^ n ≤ 256 ^ k = pow-le-pow-right {n = 256} (omega arith) (omega arith) in omega arith

@@ -8,6 +8,7 @@ use Rattle.value.specs.declared.Origin.{Origin}
 use Rattle.value.specs.declared.Piece.{Piece}
 use Rattle.value.specs.declared.Typed.{Typed}
 use Rattle.value.specs.declared.Held.{Held}
+use Rattle.value.specs.declared.Slot.{Slot}
 use Rattle.value.specs.Value.{Value, bottom, int32, int64, real, text, opaque, Item, logic, value}
 
 abbrev pub sourceOf : List ℕ → List ℕ → Origin → List ℕ
@@ -33,6 +34,10 @@ typedOf pool notice (Typed.Opaque p) = opaque (partOf pool notice p)
 abbrev pub itemOf : List ℕ → List ℕ → Held → Item
 itemOf pool notice (Held.Logic t) = logic t
 itemOf pool notice (Held.Value v) = value (typedOf pool notice v)
+
+-- what a slot holds
+abbrev pub itemIn : List ℕ → List ℕ → Slot → Item
+itemIn pool notice s = itemOf pool notice (s .held)
 
 -- The pieces that the code makes: of a load from the pool, of a field of the notice, and of a folded string.
 abbrev pub pooled : ℕ → ℕ → Piece

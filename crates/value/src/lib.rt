@@ -1,16 +1,16 @@
 // Values as a table's run holds them, and what each operator and function gives. Document 01, "Meaning", "Table".
 // No function here asks anything of its operands: what a piece names beyond its source is not there, and an operand of the other kind counts as bottom.
-// Of the notice only `load_name` asks something: that it was found well-formed, so that the search for a field may stop. Document 02, request 11.
+// Of the notice only `load_name` asks something: that it was found well-formed and that the starts of its fields are at hand, so that a name is found by halving.
 ghost use mathlib.Core.Path.{_≡_};
 ghost use mathlib.Core.List.{List};
 ghost use Prim.Native.Nat.{ℕ};
-ghost use Rattle.notice.specs.Layout.{checkOf as noticeCheck};
+ghost use Rattle.notice.specs.Layout.{checkOf as noticeCheck, Indexed};
 ghost use Rattle.notice.specs.declared.Layout.the-variants.{WellFormed};
 ghost use Rattle.opcode.specs.declared.Load.{Load};
 ghost use Rattle.opcode.specs.declared.Unary.{Unary};
 ghost use Rattle.opcode.specs.declared.Binary.{Binary};
-ghost use Rattle.value.specs.Value.{truthIn, valueIn, connectOf, unaryOf, binaryOf, startOf, joinOf, besideOf, moreOf, loadOf};
-ghost use Rattle.value.specs.Held.{typedOf, itemOf, pooled};
+ghost use Rattle.value.specs.Value.{logic, value, truthIn, valueIn, connectOf, unaryOf, binaryOf, startOf, joinOf, besideOf, moreOf, loadOf};
+ghost use Rattle.value.specs.Held.{typedOf, itemIn, pooled};
 
 mod fields;
 mod texts;
@@ -58,19 +58,38 @@ pub struct Slot {
     pub held: Held,
 }
 
-// What is held as an operand of either kind; the other kind counts as bottom.
-pub fn truth_in(h: Held) -> Truth
-    ensures { λ r. ⌜ ((p : List ℕ) → (q : List ℕ) → r ≡ truthIn (itemOf p q h)) ⌝ }
+// A slot that holds a truth value, and one that holds a value.
+pub fn decided(t: Truth) -> Slot
+    ensures { λ r. ⌜ ((p : List ℕ) → (q : List ℕ) → itemIn p q r ≡ logic t) ⌝ }
 {
+    Slot {
+        held: Held::Logic(t),
+    }
+}
+
+fn valued(v: Typed) -> Slot
+    ensures { λ r. ⌜ ((p : List ℕ) → (q : List ℕ) → itemIn p q r ≡ value (typedOf p q v)) ⌝ }
+{
+    Slot {
+        held: Held::Value(v),
+    }
+}
+
+// What a slot holds as an operand of either kind; the other kind counts as bottom.
+pub fn truth_in(s: Slot) -> Truth
+    ensures { λ r. ⌜ ((p : List ℕ) → (q : List ℕ) → r ≡ truthIn (itemIn p q s)) ⌝ }
+{
+    let h = s.held;
     match h {
         Held::Logic(t) => t,
         Held::Value(_) => Truth::Bottom,
     }
 }
 
-fn value_in(h: Held) -> Typed
-    ensures { λ r. ⌜ ((p : List ℕ) → (q : List ℕ) → typedOf p q r ≡ valueIn (itemOf p q h)) ⌝ }
+fn value_in(s: Slot) -> Typed
+    ensures { λ r. ⌜ ((p : List ℕ) → (q : List ℕ) → typedOf p q r ≡ valueIn (itemIn p q s)) ⌝ }
 {
+    let h = s.held;
     match h {
         Held::Logic(_) => Typed::Bottom,
         Held::Value(v) => v,
@@ -88,52 +107,52 @@ fn joined(op: Connective, s: Truth, t: Truth) -> Truth
     }
 }
 
-// The operators of one operand and of two, a function for each group (`Unary`, `Binary`): a run then stores each group's answer by itself.
+// The operators of one operand and of two, from slots to a slot, a function for each group (`Unary`, `Binary`): a run then stores each group's answer by itself.
 // Op 40.
-pub fn not(h: Held) -> Held
-    ensures { λ r. ⌜ ((p : List ℕ) → (q : List ℕ) → itemOf p q r ≡ unaryOf Unary.Not (itemOf p q h)) ⌝ }
+pub fn not(s: Slot) -> Slot
+    ensures { λ r. ⌜ ((p : List ℕ) → (q : List ℕ) → itemIn p q r ≡ unaryOf Unary.Not (itemIn p q s)) ⌝ }
 {
-    Held::Logic(truth::not(truth_in(h)))
+    decided(truth::not(truth_in(s)))
 }
 
 // Ops 6..8.
-pub fn change<'a>(pool: &'a [u8], notice: &'a [u8], op: Change, h: Held) -> Held
-    ensures { λ r. ⌜ itemOf (now (pool .entry)) (now (notice .entry)) r ≡ unaryOf (Unary.Change op) (itemOf (now (pool .entry)) (now (notice .entry)) h) ⌝ }
+pub fn change<'a>(pool: &'a [u8], notice: &'a [u8], op: Change, s: Slot) -> Slot
+    ensures { λ r. ⌜ itemIn (now (pool .entry)) (now (notice .entry)) r ≡ unaryOf (Unary.Change op) (itemIn (now (pool .entry)) (now (notice .entry)) s) ⌝ }
 {
-    Held::Value(values::change(pool, notice, op, value_in(h)))
+    valued(values::change(pool, notice, op, value_in(s)))
 }
 
 // Ops 48..54.
-pub fn test(op: Test, h: Held) -> Held
-    ensures { λ r. ⌜ ((p : List ℕ) → (q : List ℕ) → itemOf p q r ≡ unaryOf (Unary.Test op) (itemOf p q h)) ⌝ }
+pub fn test(op: Test, s: Slot) -> Slot
+    ensures { λ r. ⌜ ((p : List ℕ) → (q : List ℕ) → itemIn p q r ≡ unaryOf (Unary.Test op) (itemIn p q s)) ⌝ }
 {
-    Held::Logic(values::test(op, value_in(h)))
+    decided(values::test(op, value_in(s)))
 }
 
 // Ops 16..26.
-pub fn combine(op: Combine, h: Held, g: Held) -> Held
-    ensures { λ r. ⌜ ((p : List ℕ) → (q : List ℕ) → itemOf p q r ≡ binaryOf (Binary.Combine op) (itemOf p q h) (itemOf p q g)) ⌝ }
+pub fn combine(op: Combine, s: Slot, t: Slot) -> Slot
+    ensures { λ r. ⌜ ((p : List ℕ) → (q : List ℕ) → itemIn p q r ≡ binaryOf (Binary.Combine op) (itemIn p q s) (itemIn p q t)) ⌝ }
 {
-    Held::Value(values::combine(op, value_in(h), value_in(g)))
+    valued(values::combine(op, value_in(s), value_in(t)))
 }
 
 // Ops 32..37.
-pub fn compare<'a>(pool: &'a [u8], notice: &'a [u8], op: Compare, h: Held, g: Held) -> Held
-    ensures { λ r. ⌜ itemOf (now (pool .entry)) (now (notice .entry)) r ≡ binaryOf (Binary.Compare op) (itemOf (now (pool .entry)) (now (notice .entry)) h) (itemOf (now (pool .entry)) (now (notice .entry)) g) ⌝ }
+pub fn compare<'a>(pool: &'a [u8], notice: &'a [u8], op: Compare, s: Slot, t: Slot) -> Slot
+    ensures { λ r. ⌜ itemIn (now (pool .entry)) (now (notice .entry)) r ≡ binaryOf (Binary.Compare op) (itemIn (now (pool .entry)) (now (notice .entry)) s) (itemIn (now (pool .entry)) (now (notice .entry)) t) ⌝ }
 {
-    Held::Logic(values::compare(pool, notice, op, value_in(h), value_in(g)))
+    decided(values::compare(pool, notice, op, value_in(s), value_in(t)))
 }
 
 // Ops 41..43.
-pub fn connect(op: Connective, h: Held, g: Held) -> Held
-    ensures { λ r. ⌜ ((p : List ℕ) → (q : List ℕ) → itemOf p q r ≡ binaryOf (Binary.Connect op) (itemOf p q h) (itemOf p q g)) ⌝ }
+pub fn connect(op: Connective, s: Slot, t: Slot) -> Slot
+    ensures { λ r. ⌜ ((p : List ℕ) → (q : List ℕ) → itemIn p q r ≡ binaryOf (Binary.Connect op) (itemIn p q s) (itemIn p q t)) ⌝ }
 {
-    Held::Logic(joined(op, truth_in(h), truth_in(g)))
+    decided(joined(op, truth_in(s), truth_in(t)))
 }
 
 // Ops 56..60, one later operand after the other: what is known before any of them ..
-pub fn start(op: Many, first: Held) -> Truth
-    ensures { λ r. ⌜ ((p : List ℕ) → (q : List ℕ) → r ≡ startOf op (itemOf p q first)) ⌝ }
+pub fn start(op: Many, first: Slot) -> Truth
+    ensures { λ r. ⌜ ((p : List ℕ) → (q : List ℕ) → r ≡ startOf op (itemIn p q first)) ⌝ }
 {
     match op {
         Many::Fit(_) => values::start_fit(value_in(first)),
@@ -146,11 +165,11 @@ pub fn more<'a>(
     pool: &'a [u8],
     notice: &'a [u8],
     op: Many,
-    first: Held,
+    first: Slot,
     known: Truth,
-    later: Held,
+    later: Slot,
 ) -> Truth
-    ensures { λ r. ⌜ r ≡ moreOf op (itemOf (now (pool .entry)) (now (notice .entry)) first) known (itemOf (now (pool .entry)) (now (notice .entry)) later) ⌝ }
+    ensures { λ r. ⌜ r ≡ moreOf op (itemIn (now (pool .entry)) (now (notice .entry)) first) known (itemIn (now (pool .entry)) (now (notice .entry)) later) ⌝ }
 {
     join(
         op,
@@ -179,36 +198,36 @@ fn join(op: Many, s: Truth, t: Truth) -> Truth
 }
 
 // Ops 1..5, a function for each, for the same reason. "1 int32, 2 int64, 3 real64 (b: two's complement or bits, ..)"
-pub fn load_int32(b: u64) -> Held
-    ensures { λ r. ⌜ ((p : List ℕ) → (q : List ℕ) → (a : ℕ) → itemOf p q r ≡ loadOf p q Load.Int32 a b) ⌝ }
+pub fn load_int32(b: u64) -> Slot
+    ensures { λ r. ⌜ ((p : List ℕ) → (q : List ℕ) → (a : ℕ) → itemIn p q r ≡ loadOf p q Load.Int32 a b) ⌝ }
 {
-    Held::Value(Typed::Int32(word::i32_of_bits((b % 0x1_0000_0000) as u32)))
+    valued(Typed::Int32(word::i32_of_bits((b % 0x1_0000_0000) as u32)))
 }
 
-pub fn load_int64(b: u64) -> Held
-    ensures { λ r. ⌜ ((p : List ℕ) → (q : List ℕ) → (a : ℕ) → itemOf p q r ≡ loadOf p q Load.Int64 a b) ⌝ }
+pub fn load_int64(b: u64) -> Slot
+    ensures { λ r. ⌜ ((p : List ℕ) → (q : List ℕ) → (a : ℕ) → itemIn p q r ≡ loadOf p q Load.Int64 a b) ⌝ }
 {
-    Held::Value(Typed::Int64(word::i64_of_bits(b)))
+    valued(Typed::Int64(word::i64_of_bits(b)))
 }
 
-pub fn load_real64(b: u64) -> Held
-    ensures { λ r. ⌜ ((p : List ℕ) → (q : List ℕ) → (a : ℕ) → itemOf p q r ≡ loadOf p q Load.Real64 a b) ⌝ }
+pub fn load_real64(b: u64) -> Slot
+    ensures { λ r. ⌜ ((p : List ℕ) → (q : List ℕ) → (a : ℕ) → itemIn p q r ≡ loadOf p q Load.Real64 a b) ⌝ }
 {
-    Held::Value(Typed::Real(number::real_of_bits(b)))
+    valued(Typed::Real(number::real_of_bits(b)))
 }
 
 // "4 string, 5 name (a length, b pool offset ..)"
-pub fn load_text(a: u16, b: u64) -> Held
-    ensures { λ r. ⌜ ((p : List ℕ) → (q : List ℕ) → itemOf p q r ≡ loadOf p q Load.Text a b) ⌝ }
+pub fn load_text(a: u16, b: u64) -> Slot
+    ensures { λ r. ⌜ ((p : List ℕ) → (q : List ℕ) → itemIn p q r ≡ loadOf p q Load.Text a b) ⌝ }
 {
-    Held::Value(Typed::Text(in_pool(a, b)))
+    valued(Typed::Text(in_pool(a, b)))
 }
 
-pub fn load_name<'a>(pool: &'a [u8], notice: &'a [u8], a: u16, b: u64) -> Held
-    requires { ⌜ noticeCheck (now notice) ≡ WellFormed ⌝ }
-    ensures { λ r. ⌜ itemOf (now (pool .entry)) (now (notice .entry)) r ≡ loadOf (now (pool .entry)) (now (notice .entry)) Load.Name a b ⌝ }
+pub fn load_name<'a>(pool: &'a [u8], notice: &'a [u8], starts: &[u16; 64], a: u16, b: u64) -> Slot
+    requires { ⌜ (noticeCheck (now notice) ≡ WellFormed) × Indexed (now notice) (now starts) ⌝ }
+    ensures { λ r. ⌜ itemIn (now (pool .entry)) (now (notice .entry)) r ≡ loadOf (now (pool .entry)) (now (notice .entry)) Load.Name a b ⌝ }
 {
-    Held::Value(fields::named(pool, notice, in_pool(a, b)))
+    valued(fields::named(pool, notice, starts, in_pool(a, b)))
 }
 
 // "a length, b pool offset"

@@ -12,6 +12,7 @@ use opcode::Unary;
 use truth::Truth;
 use value::Held;
 use value::Piece;
+use value::Slot;
 use value::Typed;
 
 fn put(s: &[u8]) {
@@ -75,7 +76,8 @@ fn put_truth(t: Truth) {
     }
 }
 
-fn put_held<'a>(pool: &'a [u8], notice: &'a [u8], h: Held) {
+fn put_slot<'a>(pool: &'a [u8], notice: &'a [u8], s: Slot) {
+    let h = s.held;
     match h {
         Held::Logic(t) => put_truth(t),
         Held::Value(v) => put_value(pool, notice, v),
@@ -91,23 +93,26 @@ fn truth_of(rank: u16) -> Truth {
     }
 }
 
-fn folded<'a>(pool: &'a [u8], notice: &'a [u8], number: u16, h: Held) -> Held {
+fn folded<'a>(pool: &'a [u8], notice: &'a [u8], number: u16, s: Slot) -> Slot {
     if number < 256 {
-        return h;
+        return s;
     }
-    value::change(pool, notice, Change::FoldCase, h)
+    value::change(pool, notice, Change::FoldCase, s)
 }
 
 // In a notice that is not well-formed every name is missing.
-fn load_name<'a>(pool: &'a [u8], notice: &'a [u8], a: u16, b: u64) -> Held {
-    let layout = notice::check(notice);
+fn load_name<'a>(pool: &'a [u8], notice: &'a [u8], a: u16, b: u64) -> Slot {
+    let mut starts: [u16; 64] = [0; 64];
+    let layout = notice::index(notice, &mut starts);
     match layout {
-        Layout::WellFormed => value::load_name(pool, notice, a, b),
-        Layout::Fault(_) => Held::Value(Typed::Bottom),
+        Layout::WellFormed => value::load_name(pool, notice, &starts, a, b),
+        Layout::Fault(_) => Slot {
+            held: Held::Value(Typed::Bottom),
+        },
     }
 }
 
-fn load<'a>(pool: &'a [u8], notice: &'a [u8], op: Load, a: u16, b: u64) -> Held {
+fn load<'a>(pool: &'a [u8], notice: &'a [u8], op: Load, a: u16, b: u64) -> Slot {
     match op {
         Load::Int32 => value::load_int32(b),
         Load::Int64 => value::load_int64(b),
@@ -118,21 +123,21 @@ fn load<'a>(pool: &'a [u8], notice: &'a [u8], op: Load, a: u16, b: u64) -> Held 
 }
 
 // The operand of entry i; bottom where there is none.
-fn operand<'a>(pool: &'a [u8], notice: &'a [u8], entries: &'a [u8], i: usize) -> Held {
+fn operand<'a>(pool: &'a [u8], notice: &'a [u8], entries: &'a [u8], i: usize) -> Slot {
     if entries.len() / 12 <= i {
-        return Held::Logic(Truth::Bottom);
+        return value::decided(Truth::Bottom);
     }
     let number = word::read_u16(entries, i * 12);
     let a = word::read_u16(entries, i * 12 + 2);
     let b = word::read_u64(entries, i * 12 + 4);
     match opcode::op_of(number % 256) {
         Op::Load(l) => folded(pool, notice, number, load(pool, notice, l, a, b)),
-        _ => Held::Logic(truth_of(a)),
+        _ => value::decided(truth_of(a)),
     }
 }
 
 // The later operands, one after the other.
-fn many<'a>(pool: &'a [u8], notice: &'a [u8], op: Many, entries: &'a [u8], count: usize) -> Held {
+fn many<'a>(pool: &'a [u8], notice: &'a [u8], op: Many, entries: &'a [u8], count: usize) -> Slot {
     let first = operand(pool, notice, entries, 0);
     let mut known = value::start(op, first);
     let mut i = 1;
@@ -147,26 +152,26 @@ fn many<'a>(pool: &'a [u8], notice: &'a [u8], op: Many, entries: &'a [u8], count
         );
         i += 1;
     }
-    Held::Logic(known)
+    value::decided(known)
 }
 
-fn one<'a>(pool: &'a [u8], notice: &'a [u8], op: Unary, h: Held) -> Held {
+fn one<'a>(pool: &'a [u8], notice: &'a [u8], op: Unary, s: Slot) -> Slot {
     match op {
-        Unary::Not => value::not(h),
-        Unary::Change(o) => value::change(pool, notice, o, h),
-        Unary::Test(o) => value::test(o, h),
+        Unary::Not => value::not(s),
+        Unary::Change(o) => value::change(pool, notice, o, s),
+        Unary::Test(o) => value::test(o, s),
     }
 }
 
-fn two<'a>(pool: &'a [u8], notice: &'a [u8], op: Binary, h: Held, g: Held) -> Held {
+fn two<'a>(pool: &'a [u8], notice: &'a [u8], op: Binary, s: Slot, t: Slot) -> Slot {
     match op {
-        Binary::Combine(o) => value::combine(o, h, g),
-        Binary::Compare(o) => value::compare(pool, notice, o, h, g),
-        Binary::Connect(o) => value::connect(o, h, g),
+        Binary::Combine(o) => value::combine(o, s, t),
+        Binary::Compare(o) => value::compare(pool, notice, o, s, t),
+        Binary::Connect(o) => value::connect(o, s, t),
     }
 }
 
-fn operate<'a>(pool: &'a [u8], notice: &'a [u8], op: Op, entries: &'a [u8], count: usize) -> Held {
+fn operate<'a>(pool: &'a [u8], notice: &'a [u8], op: Op, entries: &'a [u8], count: usize) -> Slot {
     let first = operand(pool, notice, entries, 0);
     match op {
         Op::Unary(o) => one(pool, notice, o, first),
@@ -186,7 +191,7 @@ fn next_case<'a>(pool: &'a [u8], notice: &'a [u8]) -> bool {
     }
     let count = n / 12 - 1;
     let op = opcode::op_of(word::read_u16(&entries, count * 12));
-    put_held(pool, notice, operate(pool, notice, op, &entries, count));
+    put_slot(pool, notice, operate(pool, notice, op, &entries, count));
     true
 }
 

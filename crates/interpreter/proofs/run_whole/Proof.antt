@@ -10,8 +10,8 @@ use Rattle.interpreter.proofs.run_whole.Tie as tie
 count-requires : tie.Need-count-requires
 count-requires c κs = laid (c .before .before .args .table .now) (checked-layout _ (c .before .before .pre .0)) .head
 
-run-checked-requires : tie.Need-run-checked-requires
-run-checked-requires c κs = search needs
+run-indexed-requires : tie.Need-run-indexed-requires
+run-indexed-requires c κs = search needs
 
 element-copy-out-slot : tie.Need-element-copy-out-slot
 element-copy-out-slot c = search needs
@@ -21,11 +21,12 @@ truth-in-requires c κs = search needs
 
 returns : tie.Need-returns
 returns c =
-    let a = c .before .before .before .before .before .before .args in
-    answer-is (a .table .now) (a .notice .now) (c .before .before .run-checked .result) (c .before .before .before .count .result) (c .before .before .before .before .before .before .pre .0) (c .before .before .before .count .ensures .0) (c .before .before .run-checked .ensures .state)
-    (c .truth-in .result) (c .truth-in .ensures (poolOf (a .table .now)) (a .notice .now))
+    let s : tie.Start = search in
+    let n : tie.After-count = search in
+    answer-is (s .args .table .now) (s .args .notice .now) (c .before .before .run-indexed .result) (n .count .result) (s .pre .0) (n .count .ensures .0) (c .before .before .run-indexed .ensures .state)
+    (c .truth-in .result) (c .truth-in .ensures (poolOf (s .args .table .now)) (s .args .notice .now))
 
 pub run-whole-spec : {M : Type 1} → statement M
 run-whole-spec =
     tie.close
-    (tie.spec count-requires run-checked-requires element-copy-out-slot truth-in-requires returns)
+    (tie.spec count-requires run-indexed-requires element-copy-out-slot truth-in-requires returns)

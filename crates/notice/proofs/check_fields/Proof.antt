@@ -1,25 +1,25 @@
-use mathlib.Core.Bool.{true, false}
-use mathlib.Core.Path.{_≡_, refl, sym, ap, _∙_}
-use Prim.Native.Nat.{ℕ, _+_, _-_, _≤_}
-use mathlib.Core.List.{List, []}
+use mathlib.Core.Bool.{true}
+use mathlib.Core.Path.{_≡_, sym, ap, _∙_}
+use Prim.Native.Nat.{ℕ, _+_, _-_}
 use native.Mathlib.Omega.{arith}
-use lib.ListN.{length, take, drop}
-use Rattle.octets.specs.Octets.{beforeOf}
-use Rattle.notice.specs.Key.{keyOf, lastNameAt, Last}
-use Rattle.notice.specs.Layout.{nameAt, countOf, rightAt, checkFrom}
+use lib.ListN.{take, drop}
+use Rattle.notice.specs.Key.{keyOf}
+use Rattle.notice.specs.Layout.{nameAt, rightAt}
 use Rattle.notice.proofs.Places.{Lies, right-lies, right-name}
-use Rattle.notice.proofs.Keys.{last-name, now-last, none-last}
-use Rattle.notice.proofs.Checks.{no-more, spare, wrong-field, wrong-order, right-field}
+use Rattle.notice.proofs.Checks.{Header, header-numbers}
+use Rattle.notice.proofs.Stood.{Goes, goes-first, goes-on, leaves-wrong, leaves-order, leaves-well, leaves-spare}
 use borrow.Author.Needs.{needs}
 use Rattle.notice.proofs.check_fields.Statement.{statement}
 use Rattle.notice.proofs.check_fields.Tie as tie
 
 abbrev Inv-loop : tie.InvT-loop
-Inv-loop notice left₀ at₀ last₀ last-key₀ left at last last-key =
-    (8 ≤ at) × (at ≤ length notice) × Last notice last last-key × (checkFrom left (lastNameAt notice last) notice at ≡ checkFrom (countOf notice) [] notice 8)
+Inv-loop notice starts₀ n i₀ at₀ last₀ last-key₀ starts i at last last-key = Goes notice starts₀ starts i at last last-key
 
 abbrev μ-loop : tie.MeasureT-loop
-μ-loop notice left₀ at₀ last₀ last-key₀ left at last last-key = left
+μ-loop notice starts₀ n i₀ at₀ last₀ last-key₀ starts i at last last-key = n - i
+
+header : (c : tie.Start Inv-loop μ-loop) → Header (c .args .notice .now)
+header c = header-numbers (c .args .notice .now) (c .pre)
 
 right : (c : tie.Then1 Inv-loop μ-loop) → rightAt (c .before .before .before .before .before .before .args .notice .now) (c .before .before .before .loop .at) ≡ true
 right c = sym (c .before .stands .ensures) ∙ c .if1 .taken
@@ -32,11 +32,13 @@ key-is c =
     c .key-of .ensures ∙ ap (λ (k : ℕ). keyOf (take k (drop (c .before .before .before .before .before .loop .at + 5) (c .before .before .before .before .before .before .before .before .args .notice .now)))) (c .before .name-size .ensures .0)
 
 read-u16-requires : tie.Need-read-u16-requires Inv-loop μ-loop
-read-u16-requires c κs = search needs
+read-u16-requires c κs = let h = header (c .before) in omega arith
+
+cast-n : tie.Need-cast-n Inv-loop μ-loop
+cast-n c = search needs
 
 loop-holds : tie.Need-loop-holds Inv-loop μ-loop
-loop-holds c =
-    (omega arith, omega arith, none-last (c .before .before .args .notice .now), ap (λ (n : ℕ). checkFrom n [] (c .before .before .args .notice .now) 8) (c .read-u16 .ensures))
+loop-holds c = goes-first (c .before .before .args .notice .now) (c .before .before .args .starts .now) (c .before .before .pre)
 
 stands-requires : tie.Need-stands-requires Inv-loop μ-loop
 stands-requires c κs = search needs
@@ -45,9 +47,7 @@ add-key-of : tie.Need-add-key-of Inv-loop μ-loop
 add-key-of c = search needs
 
 name-size-requires : tie.Need-name-size-requires Inv-loop μ-loop
-name-size-requires c κs =
-    let l = lying c in
-    omega arith
+name-size-requires c κs = let l = lying c in omega arith
 
 key-of-requires : tie.Need-key-of-requires Inv-loop μ-loop
 key-of-requires c κs =
@@ -56,66 +56,71 @@ key-of-requires c κs =
     (omega arith, omega arith, omega arith)
 
 rises-requires : tie.Need-rises-requires Inv-loop μ-loop
-rises-requires c κs = (c .before .before .before .before .before .loop .inv .2, right (c .before .before), key-is c)
+rises-requires c κs = (c .before .before .before .before .before .loop .inv .last-is, right (c .before .before), key-is c)
+
+cast-starts : tie.Need-cast-starts Inv-loop μ-loop
+cast-starts c =
+    let h = header (c .before .before .before .before .before .before .before .before .before .before) in
+    omega arith
+
+mul-starts : tie.Need-mul-starts Inv-loop μ-loop
+mul-starts c =
+    let h = header (c .before .before .before .before .before .before .before .before .before .before) in
+    omega arith
+
+element-write-starts : tie.Need-element-write-starts Inv-loop μ-loop
+element-write-starts c =
+    let h = header (c .before .before .before .before .before .before .before .before .before .before) in
+    omega arith
 
 add-at : tie.Need-add-at Inv-loop μ-loop
 add-at c = search needs
 
 field-size-requires : tie.Need-field-size-requires Inv-loop μ-loop
-field-size-requires c κs =
-    let l = lying (c .before .before .before .before) in
-    omega arith
+field-size-requires c κs = let l = lying (c .before .before .before .before) in omega arith
 
 add-at-2 : tie.Need-add-at-2 Inv-loop μ-loop
 add-at-2 c = search needs
 
-sub-left : tie.Need-sub-left Inv-loop μ-loop
-sub-left c = search needs
+add-i : tie.Need-add-i Inv-loop μ-loop
+add-i c = search needs
 
 loop-less : tie.Need-loop-less Inv-loop μ-loop
 loop-less c = search needs
 
 loop-again : tie.Need-loop-again Inv-loop μ-loop
 loop-again c =
-    let s = c .before .before .before .before .before .before .before .before .before .before .before .args .notice .now in
+    let a = c .before .before .before .before .before .before .before .before .before .before .before .args in
     let i = c .before .before .before .before .before .before .before .before .loop in
-    let l = lying (c .before .before .before .before .before) in
-    let f : i .at ≡ 0 → ⊥ = λ e. omega arith in
-    let b : beforeOf (lastNameAt s (i .last)) (nameAt s (i .at)) ≡ true = sym (c .before .before .rises .ensures) ∙ c .before .if2 .taken in
-    let m = right-field s (i .at) (lastNameAt s (i .last)) (i .left) (omega arith) (nameAt s (i .at)) refl (right (c .before .before .before .before .before)) b in (
-      omega arith,
-      omega arith,
-      now-last s (i .at) (c .before .before .before .key-of .result) f (right (c .before .before .before .before .before)) (key-is (c .before .before .before)),
-      ap (λ (t : List ℕ). checkFrom (i .left - 1) t s (i .at + 2 + c .field-size .result)) (last-name s (i .at) f)
-          ∙ (ap (λ (k : ℕ). checkFrom (i .left - 1) (nameAt s (i .at)) s (i .at + 2 + k)) (c .field-size .ensures .0) ∙ (m ∙ i .inv .3)),
-    )
+    rw (c .field-size .ensures .0)
+    (goes-on (a .notice .now) (a .starts .now) (i .starts) (i .i) (i .at) (i .last) (i .last-key) (i .inv) (omega arith)
+    (right (c .before .before .before .before .before)) (sym (c .before .before .rises .ensures) ∙ c .before .if2 .taken) (c .before .before .before .key-of .result) (key-is (c .before .before .before)))
 
 returns : tie.Need-returns Inv-loop μ-loop
 returns c =
-    let s = c .before .before .before .before .before .before .before .before .before .before .args .notice .now in
+    let a = c .before .before .before .before .before .before .before .before .before .before .args in
     let i = c .before .before .before .before .before .before .before .loop in
-    let b : beforeOf (lastNameAt s (i .last)) (nameAt s (i .at)) ≡ false = sym (c .before .rises .ensures) ∙ c .if2 .left in
-    wrong-order s (i .at) (lastNameAt s (i .last)) (i .left) (omega arith) (nameAt s (i .at)) refl (right (c .before .before .before .before)) b ∙ i .inv .3
+    leaves-order (a .notice .now) (a .starts .now) (i .starts) (i .i) (i .at) (i .last) (i .last-key) (i .inv) (omega arith)
+    (right (c .before .before .before .before)) (sym (c .before .rises .ensures) ∙ c .if2 .left)
 
 returns-2 : tie.Need-returns-2 Inv-loop μ-loop
 returns-2 c =
-    let s = c .before .before .before .before .before .before .args .notice .now in
+    let a = c .before .before .before .before .before .before .args in
     let i = c .before .before .before .loop in
-    wrong-field s (i .at) (lastNameAt s (i .last)) (i .left) (omega arith) (sym (c .before .stands .ensures) ∙ c .if1 .left) ∙ i .inv .3
+    leaves-wrong (a .notice .now) (a .starts .now) (i .starts) (i .i) (i .at) (i .last) (i .last-key) (i .inv) (omega arith)
+    (sym (c .before .stands .ensures) ∙ c .if1 .left)
 
 returns-3 : tie.Need-returns-3 Inv-loop μ-loop
 returns-3 c =
-    let s = c .before .before .before .before .before .args .notice .now in
+    let a = c .before .before .before .before .before .args in
     let i = c .before .before .loop in
-    let z : i .left ≡ 0 = omega arith in
-    no-more s (i .at) (lastNameAt s (i .last)) (c .if3 .taken) ∙ (rw z at (i .inv .3))
+    leaves-well (a .notice .now) (a .starts .now) (i .starts) (i .i) (i .at) (i .last) (i .last-key) (i .inv) (omega arith) (c .if3 .taken)
 
 returns-4 : tie.Need-returns-4 Inv-loop μ-loop
 returns-4 c =
-    let s = c .before .before .before .before .before .args .notice .now in
+    let a = c .before .before .before .before .before .args in
     let i = c .before .before .loop in
-    let z : i .left ≡ 0 = omega arith in
-    spare s (i .at) (lastNameAt s (i .last)) (c .if3 .left) ∙ (rw z at (i .inv .3))
+    leaves-spare (a .notice .now) (a .starts .now) (i .starts) (i .i) (i .at) (i .last) (i .last-key) (i .inv) (omega arith) (c .if3 .left)
 
 pub check-fields-spec : {M : Type 1} → statement M
 check-fields-spec =
@@ -124,16 +129,20 @@ check-fields-spec =
     Inv-loop
     μ-loop
     read-u16-requires
+    cast-n
     loop-holds
     stands-requires
     add-key-of
     name-size-requires
     key-of-requires
     rises-requires
+    cast-starts
+    mul-starts
+    element-write-starts
     add-at
     field-size-requires
     add-at-2
-    sub-left
+    add-i
     loop-less
     loop-again
     returns

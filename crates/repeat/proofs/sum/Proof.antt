@@ -11,10 +11,10 @@ use Rattle.repeat.proofs.sum.Statement.{statement}
 use Rattle.repeat.proofs.sum.Tie as tie
 
 abbrev Inv-loop : tie.InvT-loop
-Inv-loop table notice times total₀ i₀ total i = (i ≤ times) × (total ≡ i * weightOf (runOf (decode table) notice)) × (total ≤ 2050 * i)
+Inv-loop table notice starts times total₀ i₀ total i = (i ≤ times) × (total ≡ i * weightOf (runOf (decode table) notice)) × (total ≤ 2050 * i)
 
 abbrev μ-loop : tie.MeasureT-loop
-μ-loop table notice times total₀ i₀ total i = times - i
+μ-loop table notice starts times total₀ i₀ total i = times - i
 
 loop-holds : tie.Need-loop-holds Inv-loop μ-loop
 loop-holds c = search needs

@@ -13,10 +13,15 @@ value-in-requires-2 c κs = search needs
 compare-requires : tie.Need-compare-requires
 compare-requires c κs = search needs
 
+decided-requires : tie.Need-decided-requires
+decided-requires c κs = search needs
+
 returns : tie.Need-returns
 returns c =
-    let a = c .before .before .before .before .before .args in let p = a .pool .now in let q = a .notice .now in
-    ap logic (c .compare .ensures ∙ ap₂ (compareOf (a .op)) (c .before .before .value-in .ensures p q) (c .before .value-in2 .ensures p q))
+    let a = c .before .before .before .before .before .before .args in let p = a .pool .now in let q = a .notice .now in
+    c .decided .ensures p q ∙ ap logic (c .before .compare .ensures ∙ ap₂ (compareOf (a .op)) (c .before .before .before .value-in .ensures p q) (c .before .before .value-in2 .ensures p q))
 
 pub compare-spec : {M : Type 1} → statement M
-compare-spec = tie.close (tie.spec value-in-requires value-in-requires-2 compare-requires returns)
+compare-spec =
+    tie.close
+    (tie.spec value-in-requires value-in-requires-2 compare-requires decided-requires returns)

@@ -11,8 +11,11 @@ truth-in-requires c κs = search needs
 not-requires : tie.Need-not-requires
 not-requires c κs = search needs
 
+decided-requires : tie.Need-decided-requires
+decided-requires c κs = search needs
+
 returns : tie.Need-returns
-returns c = λ p q. ap logic (c .not .ensures ∙ ap notOf (c .before .truth-in .ensures p q))
+returns c = λ p q. c .decided .ensures p q ∙ ap logic (c .before .not .ensures ∙ ap notOf (c .before .before .truth-in .ensures p q))
 
 pub not-spec : {M : Type 1} → statement M
-not-spec = tie.close (tie.spec truth-in-requires not-requires returns)
+not-spec = tie.close (tie.spec truth-in-requires not-requires decided-requires returns)

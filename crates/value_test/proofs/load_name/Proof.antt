@@ -1,16 +1,24 @@
-use mathlib.Core.Path.{sym, _∙_}
+use mathlib.Core.Path.{_≡_, refl, sym, ap, _∙_}
+use lib.ListN.{take}
+use Rattle.notice.specs.declared.Layout.the-variants.{WellFormed}
+use Rattle.notice.specs.Layout.{checkOf, countOf}
+use Rattle.notice.proofs.Stood.{stood-indexed}
 use borrow.Author.Needs.{needs}
 use Rattle.value_test.proofs.load_name.Statement.{statement}
 use Rattle.value_test.proofs.load_name.Tie as tie
 
-check-requires : tie.Need-check-requires
-check-requires c κs = search needs
+index-requires : tie.Need-index-requires
+index-requires c κs = search needs
 
 enum-told : tie.Need-enum-told
 enum-told c = search needs
 
 load-name-requires : tie.Need-load-name-requires
-load-name-requires c κs = sym (c .before .before .check .ensures) ∙ c .enum-told .given .1
+load-name-requires c κs =
+    let i = c .before .before .before in
+    let s = i .before .before .before .before .args .notice .now in
+    let well : checkOf s ≡ WellFormed = sym (i .index .ensures .0) ∙ c .before .enum-told .given .1 in
+    (well, ap (take (countOf s)) (i .index .ensures .1) ∙ stood-indexed s well _ refl)
 
 enum-told-2 : tie.Need-enum-told-2
 enum-told-2 c = search needs
@@ -23,4 +31,4 @@ returns-2 c = search needs
 
 pub load-name-spec : {M : Type 1} → statement M
 load-name-spec =
-    tie.close (tie.spec check-requires enum-told load-name-requires enum-told-2 returns returns-2)
+    tie.close (tie.spec index-requires enum-told load-name-requires enum-told-2 returns returns-2)

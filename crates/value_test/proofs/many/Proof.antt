@@ -33,6 +33,9 @@ loop-less c = search needs
 loop-again : tie.Need-loop-again Inv-loop μ-loop
 loop-again c = tt
 
+decided-requires : tie.Need-decided-requires Inv-loop μ-loop
+decided-requires c κs = search needs
+
 returns : tie.Need-returns Inv-loop μ-loop
 returns c = search needs
 
@@ -50,4 +53,5 @@ many-spec =
     add-i
     loop-less
     loop-again
+    decided-requires
     returns)
