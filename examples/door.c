@@ -19,6 +19,7 @@ static void receive(const char *text, const uint8_t *table, size_t table_len)
     static struct notice n;
     size_t place, steps;
     uint8_t verdict;
+    uint16_t undecided;
     uint8_t number = virentolex_ubf_read((const uint8_t *)text, strlen(text),
                                          n.bytes, sizeof n.bytes, &place, &n.length);
     printf("%s: number %d", text, number);
@@ -26,7 +27,7 @@ static void receive(const char *text, const uint8_t *table, size_t table_len)
         printf("\n");
         return;
     }
-    virentolex_run(table, table_len, n.bytes, n.length, &place, &verdict, &steps);
+    virentolex_run(table, table_len, n.bytes, n.length, &place, &verdict, &steps, &undecided);
     printf(", a notice of %zu bytes, %s\n", n.length,
            verdict == VIRENTOLEX_TRUE ? "delivered" : "not delivered");
     write_back(&n);

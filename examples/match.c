@@ -22,7 +22,9 @@ static void match(const uint8_t *table, size_t table_len, const struct notice *n
     static const char *const names[] = {"false", "true", "bottom"};
     size_t place, steps;
     uint8_t verdict;
-    uint8_t number = virentolex_run(table, table_len, n->bytes, n->length, &place, &verdict, &steps);
+    uint16_t undecided;
+    uint8_t number = virentolex_run(table, table_len, n->bytes, n->length,
+                                    &place, &verdict, &steps, &undecided);
     show(n);
     if (number != 0)
         printf(": refused %d at %zu", number, place);

@@ -8,8 +8,9 @@ static void approve(uint8_t *decision, size_t decision_len, const struct notice 
 {
     size_t place;
     uint8_t count, reached;
+    uint16_t undecided;
     uint8_t number = virentolex_quorum_show(decision, decision_len, n->bytes, n->length,
-                                            &place, &count, &reached);
+                                            &place, &count, &reached, &undecided);
     show(n);
     printf(": number %d, count %d, %s\n", number, count, reached ? "reached" : "not reached");
 }
@@ -22,10 +23,11 @@ int main(void)
     static const char *const staff[] = {"417", NULL, "417", "502"};
     size_t length, place;
     uint8_t count, reached;
+    uint16_t undecided;
     if (translate("Approve == \"payout\"", table, sizeof table, &length))
         return 1;
     uint8_t number = virentolex_quorum_open(decision, sizeof decision, table, length, 2,
-                                            &place, &count, &reached);
+                                            &place, &count, &reached, &undecided);
     printf("a decision of %zu bytes for 2 people: number %d\n",
            VIRENTOLEX_DECISION_HEAD + length, number);
     for (int i = 0; i < 4; i++) {

@@ -12,12 +12,13 @@ int main(void)
     static struct notice n;
     size_t length, place, steps;
     uint8_t verdict;
+    uint16_t undecided;
     if (translate("wildcard (Cab, \"T-4?\", \"V*\")", table, sizeof table, &length))
         return 1;
     for (int i = 0; i < 4; i++) {
         begin(&n);
         if (add(&n, fields[i][0], fields[i][1]) ||
-            virentolex_run(table, length, n.bytes, n.length, &place, &verdict, &steps))
+            virentolex_run(table, length, n.bytes, n.length, &place, &verdict, &steps, &undecided))
             return 1;
         show(&n);
         printf(": %s\n", verdict == VIRENTOLEX_TRUE ? "delivered" : "not delivered");

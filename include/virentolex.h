@@ -16,7 +16,7 @@
  *                   8 stack over 32                  9 buffer shorter than the table
  *    tables        12 layout or check fails, an ill-formed pattern too
  *    notices       11 layout fails
- *    reading       17 no field k
+ *    reading       17 no field k, or no entry k
  *    writing       13 name breaks the rules         16 kind unknown, or size wrong for it
  *                  14 name already there            15 65th field, over 16,384 bytes, or no room
  *    deciding      12 no decision                   21 needed number outside 1 to 8
@@ -73,6 +73,9 @@ extern "C" {
 /* The index for a name that no field has. */
 #define VIRENTOLEX_NO_FIELD 64
 
+/* The entry's number where no visited entry left bottom on the stack, and where nothing was run. */
+#define VIRENTOLEX_NO_ENTRY 65535
+
 /* The bytes of a decision before its table, and the most bytes of a whole one. */
 #define VIRENTOLEX_DECISION_HEAD 528
 #define VIRENTOLEX_DECISION_MAX 10778
@@ -109,9 +112,12 @@ uint8_t virentolex_check_notice(const uint8_t *notice, size_t notice_len, size_t
  * Runs a table on a notice. Both are checked first, so any bytes may be passed.
  *
  * Answers 0, or 12 if the table fails its check, else 11 if the notice fails its layout.
- * *place    after 11 as virentolex_check_notice says; else 0.
- * *verdict  VIRENTOLEX_FALSE, VIRENTOLEX_TRUE or VIRENTOLEX_BOTTOM; bottom if refused.
- * *steps    the entries that the run visited; 0 if refused.
+ * *place      after 11 as virentolex_check_notice says; else 0.
+ * *verdict    VIRENTOLEX_FALSE, VIRENTOLEX_TRUE or VIRENTOLEX_BOTTOM; bottom if refused.
+ * *steps      the entries that the run visited; 0 if refused.
+ * *undecided  the number of the first visited entry that left bottom on the stack, the first entry being
+ *             0; VIRENTOLEX_NO_ENTRY if none did, and if refused. With verdict bottom there is one, with
+ *             true and false there may be. virentolex_entry tells what the entry is.
  *
  * Numbers, by document 02's request 6: an integer and a real are compared by exact value. In arithmetic
  * with a real an integer is rounded to the nearest double, ties to even, and so is an integer result of
@@ -119,7 +125,22 @@ uint8_t virentolex_check_notice(const uint8_t *notice, size_t notice_len, size_t
  */
 uint8_t virentolex_run(const uint8_t *table, size_t table_len,
                        const uint8_t *notice, size_t notice_len,
-                       size_t *place, uint8_t *verdict, size_t *steps);
+                       size_t *place, uint8_t *verdict, size_t *steps, uint16_t *undecided);
+
+/*
+ * Tells what entry k of a table is, the first being 0, so that the number which a run carries can be
+ * named to those who ask why it was undecided. A name (op 5) leaves bottom exactly if the notice has no
+ * such field. No operand of the first undecided entry is bottom; so if it is no name, it is an operator
+ * that does not take the kind, or the value, of an operand.
+ *
+ * Answers 0, or 12 if the table fails its check, else 17 if it has no entry k.
+ * *op, *a, *b    the entry's three numbers, which document 01 explains; 0 if refused.
+ * *start, *end   of a string (op 4) and of a name (op 5) the offsets of its bytes in the table: those
+ *                from *start up to *end, and *start <= *end <= table_len. Else both are 0.
+ */
+uint8_t virentolex_entry(const uint8_t *table, size_t table_len, size_t k,
+                         uint16_t *op, uint16_t *a, uint64_t *b,
+                         size_t *start, size_t *end);
 
 /*
  * Reads field k of a notice, the first being 0.
@@ -174,12 +195,14 @@ uint8_t virentolex_write(uint8_t *buffer, size_t buffer_len, size_t length,
  * Answers 0, or the first that applies of: 12 if the table fails its check; 21 if needed is not 1
  * to 8; 9 if decision_len < VIRENTOLEX_DECISION_HEAD + table_len.
  * *place, *count, *reached   0, refused or not.
+ * *undecided                 VIRENTOLEX_NO_ENTRY, refused or not: nothing is run.
  * decision   after 0 its first VIRENTOLEX_DECISION_HEAD + table_len bytes are the decision, and the
  *            bytes after it are as they were. After a refusal every byte is as it was.
  */
 uint8_t virentolex_quorum_open(uint8_t *decision, size_t decision_len,
                                const uint8_t *table, size_t table_len, size_t needed,
-                               size_t *place, uint8_t *count, uint8_t *reached);
+                               size_t *place, uint8_t *count, uint8_t *reached,
+                               uint16_t *undecided);
 
 /*
  * Shows a notice to a decision: runs its table on the notice and, if the verdict is true, counts the
@@ -190,19 +213,22 @@ uint8_t virentolex_quorum_open(uint8_t *decision, size_t decision_len,
  * passes its check, whose needed number is 1 to 8, and which has at most 8 values, all different, of
  * 1 to 64 bytes; 11 if the notice fails its layout; then, if the verdict is true, 19 if the field
  * Staff is absent, no string or not of 1 to 64 bytes, and 20 for a ninth person.
- * *place     after 11 as virentolex_check_notice says; else 0.
- * *count     the people counted in this decision, after this notice: 0 to 8. A refusal leaves it as it
- *            stood; after 12 it is 0.
- * *reached   1 if *count is at least the needed number; else 0. After 12 it is 0.
- * decision   after a refusal every byte is as it was; else only bytes of its first
- *            VIRENTOLEX_DECISION_HEAD may have changed.
+ * *place      after 11 as virentolex_check_notice says; else 0.
+ * *count      the people counted in this decision, after this notice: 0 to 8. A refusal leaves it as it
+ *             stood; after 12 it is 0.
+ * *reached    1 if *count is at least the needed number; else 0. After 12 it is 0.
+ * *undecided  as virentolex_run says of the decision's table and the notice, after 19 and 20 too; after
+ *             12 and 11 VIRENTOLEX_NO_ENTRY.
+ * decision    after a refusal every byte is as it was; else only bytes of its first
+ *             VIRENTOLEX_DECISION_HEAD may have changed.
  *
  * As long as nobody else changes these bytes, *count is the number of different Staff values among all
  * notices shown since the opening that were neither refused nor short of true.
  */
 uint8_t virentolex_quorum_show(uint8_t *decision, size_t decision_len,
                                const uint8_t *notice, size_t notice_len,
-                               size_t *place, uint8_t *count, uint8_t *reached);
+                               size_t *place, uint8_t *count, uint8_t *reached,
+                               uint16_t *undecided);
 
 /*
  * Reads a UBF(A) text, of any length, into a notice, whose fields stand in the order of their names.

@@ -1,10 +1,12 @@
-"""A run of a table on a notice, both well-formed, by document 01's rule of each entry and the values of value_vectors.py, which run vectors are held to."""
+"""A run of a table on a notice, both well-formed, by document 01's rule of each entry and the values of value_vectors.py, and its first undecided entry, by document 02's request 7. Run vectors are held to it."""
 import struct
 
 import number_vectors as numbers
 import value_vectors as values
 
 KINDS = {1: "<i", 2: "<q", 3: "<d"}
+# "or 65535 if none did"
+NO_ENTRY = 65535
 
 
 def fields(notice):
@@ -20,12 +22,12 @@ def fields(notice):
 
 
 def run(table, notice):
-    """The verdict and the steps."""
+    """The verdict, the steps and the first undecided entry."""
     count, pool = struct.unpack_from("<H", table, 6)[0], table[10 + 12 * struct.unpack_from("<H", table, 6)[0]:]
-    named, stack, at, steps = fields(notice), [], 0, 0
+    named, stack, at, steps, undecided = fields(notice), [], 0, 0, NO_ENTRY
     while at < count:
         op, a, b = struct.unpack_from("<HHQ", table, 10 + 12 * at)
-        at, steps = at + 1, steps + 1
+        visited, at, steps = at, at + 1, steps + 1
         if op in (44, 45):
             at += a if stack[-1] == (values.FALSE if op == 44 else values.TRUE) else 0
         elif op <= 3:
@@ -37,7 +39,10 @@ def run(table, notice):
         else:
             n = a + 1 if op >= 56 else 2 if 16 <= op <= 37 or 41 <= op <= 43 else 1
             stack[-n:] = [values.give(op, stack[-n:])]
-    return stack[0], steps
+        # "the number of the first visited entry that left bottom on the stack, counted from 0"
+        if undecided == NO_ENTRY and any(x is None or x == values.BOTTOM for x in stack):
+            undecided = visited
+    return stack[0], steps, undecided
 
 
 def plain(s):
@@ -45,7 +50,9 @@ def plain(s):
 
 
 def answer_of(table, notice, answer):
-    """A run vector's number, place, verdict and steps: as given where the run is refused, else by `run`."""
-    if not answer.startswith("0 0 "):
-        return answer
-    return "0 0 %s %d" % run(table, notice)
+    """The whole answer of a run, of which a vector gives number, place, verdict, steps and, from request 7 on, the entry: as given where the run is refused, with "A refused run .. give[s] 65535", else by `run`. None if the vector differs."""
+    if answer.startswith("0 0 "):
+        whole = "0 0 %s %d %d" % run(table, notice)
+    else:
+        whole = " ".join(answer.split()[:4] + [str(NO_ENTRY)])
+    return whole if answer in (whole, whole.rsplit(" ", 1)[0]) else None

@@ -228,4 +228,5 @@ def main(folder=Path(__file__).resolve().with_name("vectors")):
     (here / "stdout").write_text("".join(f"{n} {p}" + "".join(printed(*t) for t in tokens) + "\n" for n, p, tokens in cases.values()))
 
 
-main(*sys.argv[1:])
+if __name__ == "__main__":
+    main(*sys.argv[1:])

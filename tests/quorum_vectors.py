@@ -1,11 +1,13 @@
 #!/usr/bin/env python3
-"""quorum_vectors.py [VECTORS]: writes crates/quorum_test/stdin and stdout from VECTORS/03-quorum.txt and 03-states.txt, and cases of the decision's layout.
+"""quorum_vectors.py [VECTORS]: writes crates/quorum_test/stdin and stdout from VECTORS/03-quorum.txt, 03-states.txt and 07-quorum.txt, and cases of the decision's layout and of the undecided entry.
 
 A vector's answer is its own. Those of the other cases, and the bytes that are expected after a notice, follow from document 02's request 3 and from the layout (docs/FORMATS.md):
-a value is added where the count rises, and no other byte changes."""
+a value is added where the count rises, and no other byte changes. The undecided entry of request 7, which the vectors from before it do not have, is that of evaluate.py, to which the others are held."""
 import struct
 import sys
 from pathlib import Path
+
+import evaluate
 
 HEAD, PLACE, FILL = 528, 65, 0xA5
 NONE = "12 0 0 0"
@@ -17,6 +19,21 @@ def do(what, number=0, data=b"", answer=None):
     cases.append(what + struct.pack("<Q", number) + data)
     if answer is not None:
         lines.append(answer)
+
+
+def with_entry(table, notice, answer):
+    """The answer to a notice that is shown, with the run's undecided entry at its end: "with 19 and 20 too. A refused run, and a counter's call without a run, give 65535." """
+    ran = answer.split()[0] in ("0", "19", "20")
+    entry = evaluate.run(table, notice)[2] if ran else evaluate.NO_ENTRY
+    words = answer.split()
+    assert words[4:] in ([], [str(entry)]), (table.hex(), notice.hex(), answer, entry)
+    return " ".join(words[:4] + [str(entry)])
+
+
+def opened(answer):
+    """The answer to an opening, which runs nothing."""
+    assert answer.split()[4:] in ([], [str(evaluate.NO_ENTRY)]), answer
+    return " ".join(answer.split()[:4] + [str(evaluate.NO_ENTRY)])
 
 
 def fresh(room):
@@ -55,9 +72,9 @@ def history(line):
     notices = notices if len(answers) > 1 else []
     assert len(answers) == 1 + len(notices), line[:200]
     fresh(HEAD + len(unhex(table)) + 3)
-    do(b"o", int(needed), unhex(table), answers[0])
+    do(b"o", int(needed), unhex(table), opened(answers[0]))
     for notice, answer in zip(notices, answers[1:]):
-        do(b"s", 0, unhex(notice), answer)
+        do(b"s", 0, unhex(notice), with_entry(unhex(table), unhex(notice), answer))
 
 
 def made_by_hand(line):
@@ -67,7 +84,7 @@ def made_by_hand(line):
     held = state(unhex(table), int(needed), values) + bytes([FILL]) * 2
     fresh(len(held))
     do(b"b", 0, held)
-    do(b"s", 0, unhex(notice), " ".join(answer))
+    do(b"s", 0, unhex(notice), with_entry(unhex(table), unhex(notice), " ".join(answer)))
     after = bytearray(held)
     if answer[0] == "0" and int(answer[2]) > len(values):
         staff, at = staff_of(unhex(notice)), 8 + PLACE * len(values)
@@ -84,31 +101,69 @@ def layout():
     for room, needed, table, answer in ((size, 3, t, "0 0 0 0"), (size - 1, 3, t, "9 0 0 0"), (0, 3, t, "9 0 0 0"), (527, 3, t, "9 0 0 0"), (size, 257, t, "21 0 0 0"),
                                         (size, 2 ** 64 - 1, t, "21 0 0 0"), (0, 0, t, "21 0 0 0"), (0, 0, t[:-1], NONE)):
         fresh(room)
-        do(b"o", needed, table, answer)
+        do(b"o", needed, table, opened(answer))
         done = answer[0] == "0"
         do(b"d", 0, b"", (state(t, needed, []) if done else bytes([FILL]) * room).hex() or "-")
-        do(b"s", 0, n, "0 0 1 0" if done else NONE)
+        do(b"s", 0, n, with_entry(t, n, "0 0 1 0" if done else NONE))
     # one byte of a decision wrong, and bytes that may be anything
     held = state(t, 1, [b"Bob"])
     for at, byte, answer in ((0, 0, NONE), (0, held[0] + 1, NONE), (4, 2, NONE), (5, 1, NONE), (6, 0, NONE), (6, 9, NONE), (7, 9, NONE), (8, 0, NONE), (8, 65, NONE),
                              (HEAD, 0, NONE), (73, 7, "0 0 2 1"), (527, 7, "0 0 2 1"), (6, 2, "0 0 2 1"), (6, 8, "0 0 2 0")):
         fresh(len(held))
         do(b"b", 0, held[:at] + bytes([byte]) + held[at + 1:])
-        do(b"s", 0, n, answer)
-        do(b"s", 0, n, answer)
+        do(b"s", 0, n, with_entry(t, n, answer))
+        do(b"s", 0, n, with_entry(t, n, answer))
     # a buffer that ends before the decision does
     fresh(len(held) - 1)
     do(b"b", 0, held)
-    do(b"s", 0, n, NONE)
+    do(b"s", 0, n, with_entry(t, n, NONE))
+
+
+def notice_of(**fields):
+    """A notice of string fields, or of int32 ones."""
+    parts = b""
+    for name, value in sorted(fields.items()):
+        kind, data = (1, struct.pack("<i", value)) if isinstance(value, int) else (4, value)
+        parts += struct.pack("<HHB", 3 + len(name) + len(data), kind, len(name)) + name.encode() + data
+    return struct.pack("<IHH", 4 + len(parts), 1, len(fields)) + parts
+
+
+def undecided():
+    """Document 02, request 7: "The quorum counter passes it on, with 19 and 20 too." The table is that of `Level > 3 || require (Console)`."""
+    entries = [(5, 5, 0), (1, 0, 3), (36, 0, 0), (45, 3, 0), (5, 7, 5), (54, 0, 0), (43, 0, 0)]
+    body = struct.pack("<HHH", 2, len(entries), 12) + b"".join(struct.pack("<HHQ", *e) for e in entries) + b"LevelConsole"
+    table = struct.pack("<I", len(body)) + body
+    fresh(HEAD + len(table))
+    do(b"o", 2, table, "0 0 0 0 65535")
+    shown = lambda answer, **fields: do(b"s", 0, notice_of(**fields), with_entry(table, notice_of(**fields), answer))
+    # decided: true by the left side, the right one being passed over
+    shown("0 0 1 0 65535", Level=4, Staff=b"0")
+    # Level is absent (entry 0), or of a kind that `>` does not take (entry 2): with 0, with 19
+    shown("0 0 2 1 0", Console=b"yard", Staff=b"1")
+    shown("0 0 3 1 2", Console=b"yard", Level=b"4", Staff=b"2")
+    shown("19 0 3 1 0", Console=b"yard")
+    shown("19 0 3 1 2", Console=b"yard", Level=b"4")
+    shown("19 0 3 1 65535", Console=b"yard", Level=4)
+    # bottom, the first entry being the name on the left; only the name on the right is absent
+    shown("0 0 3 1 0", Staff=b"3")
+    shown("0 0 3 1 4", Level=3, Staff=b"3")
+    for i in range(3, 8):
+        shown("0 0 %d 1 0" % (i + 1), Console=b"yard", Staff=b"%d" % i)
+    # 20, and one of the eight; "A refused run .. give[s] 65535"
+    shown("20 0 8 1 0", Console=b"yard", Staff=b"8")
+    shown("20 0 8 1 65535", Level=4, Staff=b"8")
+    shown("0 0 8 1 0", Console=b"yard", Staff=b"7")
+    do(b"s", 0, notice_of(Console=b"yard")[:-1], "11 0 8 1 65535")
 
 
 def main(vectors=Path(__file__).resolve().with_name("vectors")):
     here = Path(__file__).resolve().parent.parent / "crates" / "quorum_test"
-    for line in rows(vectors, "03-quorum.txt"):
+    for line in rows(vectors, "03-quorum.txt") + rows(vectors, "07-quorum.txt"):
         history(line)
     for line in rows(vectors, "03-states.txt"):
         made_by_hand(line)
     layout()
+    undecided()
     (here / "stdin").write_bytes(b"".join(struct.pack("<I", len(s)) + s for s in cases))
     (here / "stdout").write_text("".join(a + "\n" for a in lines))
 

@@ -1,7 +1,8 @@
 #!/usr/bin/env python3
-"""run_vectors.py [VECTORS]: writes crates/interpreter_test/stdin and stdout from VECTORS/run.txt, 01-run.txt, 02-run.txt and 06-run.txt, document 01's own runs, and runs at the limits that the documents name.
+"""run_vectors.py [VECTORS]: writes crates/interpreter_test/stdin and stdout from VECTORS/run.txt, 01-run.txt, 02-run.txt, 06-run.txt and 07-run.txt, document 01's own runs, and runs at the limits that the documents name.
 
-A vector's answer is its own, and is held to evaluate.py. Those of the other cases follow from the documents' sentences, which are named beside them."""
+A vector's answer is its own, and is held to evaluate.py. Those of the other cases follow from the documents' sentences, which are named beside them. Where an answer does not name the undecided entry, as in the vectors from before
+request 7, it is that of evaluate.py."""
 import struct
 import sys
 from pathlib import Path
@@ -20,9 +21,9 @@ def table(entries, pool=b"Op"):
 
 def cases():
     op42 = [NAME, NUMBER, EQUAL]
-    # "P `Op == 42`: true on Op42, 3 steps."; "N 0 bottom 3 0" on E
-    yield table(op42), OP42, "0 0 true 3"
-    yield table(op42), E, "0 0 bottom 3"
+    # "P `Op == 42`: true on Op42, 3 steps."; "N 0 bottom 3 0" on E; document 02, request 7: the lines "end in .. 65535 and 0"
+    yield table(op42), OP42, "0 0 true 3 65535"
+    yield table(op42), E, "0 0 bottom 3 0"
     # "P `Op == 1 && 1 == 2` on E: false, 8 steps. P `1 == 2 && Op == 42` on E: false, 4 steps."
     one, two = (1, 0, 1), (1, 0, 2)
     yield table([NAME, one, EQUAL, (44, 4, 0), one, two, EQUAL, (41, 0, 0)]), E, "0 0 false 8"
@@ -31,8 +32,8 @@ def cases():
     zero = (1, 0, 0)
     yield table([one, zero, (23, 0, 0), zero, EQUAL, (45, 4, 0), one, one, EQUAL, (43, 0, 0)]), E, "0 0 true 10"
     # "Running: 12 before 11."; "0 for the header (size over 16,384 ..)"
-    yield table(op42)[:-1], OP42[:-1], "12 0 bottom 0"
-    yield table(op42), OP42[:-1], "11 0 bottom 0"
+    yield table(op42)[:-1], OP42[:-1], "12 0 bottom 0 65535"
+    yield table(op42), OP42[:-1], "11 0 bottom 0 65535"
     yield table(op42), OP42[:8] + b"\x08" + OP42[9:], "11 8 bottom 0"
     yield table(op42), OP42 + bytes(16385 - len(OP42)), "11 0 bottom 0"
     yield b"", b"", "12 0 bottom 0"
@@ -96,18 +97,68 @@ def meters():
     yield table([meter, real(2.0**53), real(2.0**53 + 2), (59, 2, 0)], b"Meter"), odometer, "0 0 false 4"
 
 
+def undecided():
+    # document 02, request 7: "the number of the first visited entry that left bottom on the stack, counted from 0, or 65535 if none did"
+    one, two, text, gone, add = (1, 0, 1), (1, 0, 2), (4, 2, 0), (5, 1, 2), (25, 0, 0)
+    runs = lambda entries, answer, notice=OP42: (table(entries, b"Opg"), notice, "0 0 " + answer)
+    # none: with true and with false
+    yield runs([NAME, NUMBER, EQUAL], "true 3 65535")
+    yield runs([NAME, one, EQUAL], "false 3 65535")
+    # a missing name; an operator whose operands are there: of another kind, a zero divisor, a count of 32, 63 and 64
+    yield runs([NUMBER, gone, EQUAL], "bottom 3 1")
+    for op in (32, 33, 34, 35, 36, 37):
+        yield runs([NAME, text, (op, 0, 0)], "bottom 3 2")
+    for op in (16, 17, 18, 19, 20, 21, 22, 23, 24, 25, 26):
+        yield runs([NAME, text, (op, 0, 0), one, EQUAL], "bottom 5 2")
+    for op, right, verdict in ((23, (1, 0, 0), "bottom 5 2"), (24, (2, 0, 0), "bottom 5 2"), (23, (3, 0, 0), "bottom 5 2"), (16, (1, 0, 32), "bottom 5 2"), (17, (1, 0, 2**64 - 1), "bottom 5 2"), (16, (1, 0, 31), "false 5 65535")):
+        yield runs([NAME, right, (op, 0, 0), one, EQUAL], verdict)
+    for left, right, answer in (((2, 0, 1), (1, 0, 63), "false 5 65535"), ((2, 0, 1), (1, 0, 64), "bottom 5 2")):
+        yield runs([left, right, (18, 0, 0), one, EQUAL], answer)
+    for op in (6, 7):
+        yield runs([NAME, (op, 0, 0), text, EQUAL], "bottom 4 1")
+    yield runs([text, (8, 0, 0), text, EQUAL], "bottom 4 1")
+    for op in (56, 57, 58, 60):
+        yield runs([NAME, text, (op, 1, 0)], "bottom 3 2")
+    yield runs([text, one, (56, 1, 0)], "bottom 3 2")
+    yield runs([NAME, text, two, (59, 2, 0)], "bottom 4 3")
+    # `equals` is joined by `||`: true beside a bottom, and no entry is undecided
+    yield runs([NAME, text, NUMBER, (59, 2, 0)], "true 4 65535")
+    # ops 48..54 of a missing name: the name is the first
+    for op in range(48, 55):
+        yield runs([gone, (op, 0, 0)], "bottom 2 0")
+    # "the first": of two names, of a name and the operators after it, and not the last
+    yield runs([one, gone, add, gone, EQUAL], "bottom 5 1")
+    yield runs([NAME, NUMBER, EQUAL, gone, one, EQUAL, (42, 0, 0), NOT, NOT], "bottom 9 3")
+    # "visited": what a skip passes over is not, and the number is the entry's, not the visit's
+    skipped = [NAME, one, EQUAL, (44, 4, 0), gone, one, EQUAL, (41, 0, 0)]
+    yield runs(skipped, "false 4 65535")
+    yield runs(skipped + [gone, one, EQUAL, (42, 0, 0)], "bottom 8 8")
+    yield runs([NAME, NUMBER, EQUAL, (45, 4, 0), gone, one, EQUAL, (43, 0, 0)], "true 4 65535")
+    # one that is taken is visited; bottom passes over nothing
+    yield runs([NAME, NUMBER, EQUAL, (44, 4, 0), gone, one, EQUAL, (41, 0, 0)], "bottom 8 4")
+    yield runs([gone, one, EQUAL, (44, 4, 0), gone, one, EQUAL, (41, 0, 0)], "bottom 8 0")
+    # with verdict true and false too, also where bottom has left the stack and comes again
+    yield runs([gone, one, EQUAL, (45, 4, 0), NAME, NUMBER, EQUAL, (43, 0, 0)], "true 8 0")
+    yield runs([gone, one, EQUAL, (44, 4, 0), NAME, one, EQUAL, (41, 0, 0)], "false 8 0")
+    yield runs([gone, one, EQUAL, (44, 4, 0), NAME, one, EQUAL, (41, 0, 0), NAME, text, EQUAL, (42, 0, 0)], "bottom 12 0")
+    # the last entry, also of 512
+    for last in (255, 256, 511):
+        yield runs([one] + [(8, 0, 0)] * (last - 2) + [text, EQUAL], "bottom %d %d" % (last + 1, last))
+
+
 def main(vectors=Path(__file__).resolve().with_name("vectors")):
     here = Path(__file__).resolve().parent.parent / "crates" / "interpreter_test"
-    rows = [*cases(), *wildcards(), *sizes(), *meters()]
-    for name in ("run.txt", "01-run.txt", "02-run.txt", "06-run.txt"):
+    rows = [*cases(), *wildcards(), *sizes(), *meters(), *undecided()]
+    for name in ("run.txt", "01-run.txt", "02-run.txt", "06-run.txt", "07-run.txt"):
         for line in (Path(vectors) / name).read_text().splitlines():
             t, notice, *answer = line.split()
             rows.append((evaluate.plain(t), evaluate.plain(notice), " ".join(answer)))
-    for t, notice, answer in rows:
-        if evaluate.answer_of(t, notice, answer) != answer:
+    answers = [evaluate.answer_of(*row) for row in rows]
+    for (t, notice, answer), whole in zip(rows, answers):
+        if whole is None:
             sys.exit("run_vectors.py: %s on %s: %s" % (t.hex(), notice.hex(), answer))
     (here / "stdin").write_bytes(b"".join(struct.pack("<I", len(s)) + s for row in rows for s in row[:2]))
-    (here / "stdout").write_text("".join(row[2] + "\n" for row in rows))
+    (here / "stdout").write_text("".join(answer + "\n" for answer in answers))
 
 
 main(*sys.argv[1:])

@@ -1,5 +1,5 @@
 #!/usr/bin/env python3
-"""table_vectors.py [VECTORS]: writes crates/table_test/stdin and stdout from the tables of VECTORS/run.txt, 01-run.txt and 01-check.txt, document 01's 48-byte table, and tables at the limits that the documents name.
+"""table_vectors.py [VECTORS]: writes crates/table_test/stdin and stdout from the tables of VECTORS/run.txt, 01-run.txt and 01-check.txt, document 01's 48-byte table, and tables at the limits that the documents name; then entries of some of them by their numbers.
 
 A vector says whether its table is refused by 12. What a table holds is read by struct."""
 import struct
@@ -139,6 +139,32 @@ def reading(t):
     return "0 " + fields + (t[10 + 12 * n:].hex() or "-")
 
 
+def asked():
+    """Tables, whether they pass, and an entry's number: document 02's request 7, which field was lacking."""
+    op42 = table([(5, 2, 0), (1, 0, 42), (32, 0, 0)], b"Op")
+    fits = table([(5, 4, 3), (4, 2, 1), (4, 0, 7), (60, 2, 0)], b"xT*User")
+    most = table([(5, 64, 4032), (4, 4096, 0), (32, 0, 0)] + [(40, 0, 0)] * 509, b"n" * 4096)
+    wide = table([(1, 0, 2**64 - 1), (3, 0, 2**64 - 1), (32, 0, 0)])
+    for t, ks in ((op42, (0, 1, 2, 3, 4, 2**32, 2**64 - 1)), (fits, range(5)), (most, (0, 1, 511, 512)), (wide, range(4))):
+        yield from ((t, True, k) for k in ks)
+    for t in (b"", op42[:-1]):
+        yield from ((t, False, k) for k in (0, 3, 2**64 - 1))
+
+
+def parts(t, right, k):
+    """Number, op, a, b, start and end: 12 for a table that fails, then 17 at the count and past it."""
+    n = struct.unpack_from("<H", t, 6)[0] if right else 0
+    if k >= n:
+        return "%d 0 0 0 0 0 " % (17 if right else 12)
+    op, a, b = struct.unpack_from("<HHQ", t, 10 + 12 * k)
+    start = 10 + 12 * n + b if op in (4, 5) else 0
+    return "0 %d %d %d %d %d " % (op, a, b, start, start + a if op in (4, 5) else 0)
+
+
+def framed(part):
+    return struct.pack("<I", len(part)) + part
+
+
 def main(vectors=Path(__file__).resolve().with_name("vectors")):
     here = Path(__file__).resolve().parent.parent / "crates" / "table_test"
     cases = [*limits(), *wildcards()]
@@ -147,8 +173,11 @@ def main(vectors=Path(__file__).resolve().with_name("vectors")):
             words = line.split()
             cases.append((bytes.fromhex(words[0]) if words[0] != "-" else b"", words[at] != "12"))
     cases = list(dict.fromkeys(cases))
-    (here / "stdin").write_bytes(b"".join(struct.pack("<I", len(t)) + t for t, _ in cases))
-    (here / "stdout").write_text("".join((reading(t) if right else "12") + "\n" for t, right in cases))
+    entries = [*asked()]
+    stdin = [framed(t) + framed(b"") for t, _ in cases] + [framed(t) + framed(struct.pack("<Q", k)) for t, _, k in entries]
+    stdout = [reading(t) if right else "12" for t, right in cases] + [parts(*e) for e in entries]
+    (here / "stdin").write_bytes(b"".join(stdin))
+    (here / "stdout").write_text("".join(line + "\n" for line in stdout))
 
 
 main(*sys.argv[1:])

@@ -790,11 +790,23 @@ fn shift(
 
 // ---- the run
 
-/// Verdict and steps. The program was checked when it was decoded; the notice has been checked or is known to be right.
+/// The undecided entry where there is none.
+const NO_ENTRY: u16 = 65535;
+
+/// What is answered where nothing is run: verdict, steps and undecided entry.
+pub const NOT_RUN: (u8, usize, u16) = (BOTTOM, 0, NO_ENTRY);
+
+#[inline(always)]
+fn is_bottom(s: Slot) -> bool {
+    matches!(s, Slot::Missing | Slot::Truth(BOTTOM))
+}
+
+/// Verdict, steps and the first entry that left bottom on the stack (document 02, request 7), which only a name, or an operator on values that are there, can be.
+/// The program was checked when it was decoded; the notice has been checked or is known to be right.
 ///
 /// # Safety
 /// The notice is well formed.
-pub unsafe fn run(p: &Program, notice: &[u8]) -> (u8, usize) {
+pub unsafe fn run(p: &Program, notice: &[u8]) -> (u8, usize, u16) {
     let pool = p.pool;
     let code = p.code;
     let mut stack = [MaybeUninit::<Slot>::uninit(); 33];
@@ -803,8 +815,16 @@ pub unsafe fn run(p: &Program, notice: &[u8]) -> (u8, usize) {
     let mut top = base;
     let mut at = 0;
     let mut steps = 0;
+    let mut undecided = NO_ENTRY;
     while at < code.len() {
         steps += 1;
+        macro_rules! note {
+            ($v:expr) => {
+                if is_bottom($v) && undecided == NO_ENTRY {
+                    undecided = at as u16;
+                }
+            };
+        }
         macro_rules! push {
             ($v:expr) => {{
                 let v = $v;
@@ -815,7 +835,15 @@ pub unsafe fn run(p: &Program, notice: &[u8]) -> (u8, usize) {
         macro_rules! unary {
             ($x:ident, $v:expr) => {{
                 let $x = top.sub(1).read();
-                top.sub(1).write($v);
+                let v = $v;
+                note!(v);
+                top.sub(1).write(v);
+            }};
+        }
+        macro_rules! test {
+            ($x:ident, $v:expr) => {{
+                let $x = top.sub(1).read();
+                top.sub(1).write(Slot::Truth($v));
             }};
         }
         macro_rules! binary {
@@ -824,6 +852,7 @@ pub unsafe fn run(p: &Program, notice: &[u8]) -> (u8, usize) {
                 let $x = top.sub(2).read();
                 top = top.sub(1);
                 let v = $v;
+                note!(v);
                 top.sub(1).write(v);
             }};
         }
@@ -841,8 +870,9 @@ pub unsafe fn run(p: &Program, notice: &[u8]) -> (u8, usize) {
                 top = top.sub(n);
                 let $first = top.sub(1).read();
                 let $later = std::slice::from_raw_parts(top, n);
-                let v = $v;
-                top.sub(1).write(Slot::Truth(v));
+                let v = Slot::Truth($v);
+                note!(v);
+                top.sub(1).write(v);
             }};
         }
         match code.get_unchecked(at).assume_init() {
@@ -855,10 +885,12 @@ pub unsafe fn run(p: &Program, notice: &[u8]) -> (u8, usize) {
                 in_pool: true,
                 folded: false
             })),
-            Ins::Name(start, len) => push!(lookup(
-                notice,
-                pool.get_unchecked(start as usize..start as usize + len as usize)
-            )),
+            Ins::Name(start, len) => push!({
+                let name = pool.get_unchecked(start as usize..start as usize + len as usize);
+                let v = lookup(notice, name);
+                note!(v);
+                v
+            }),
             Ins::Fold => unary!(
                 x,
                 match x {
@@ -999,31 +1031,31 @@ pub unsafe fn run(p: &Program, notice: &[u8]) -> (u8, usize) {
                     continue;
                 }
             }
-            Ins::IsKind(k) => unary!(
+            Ins::IsKind(k) => test!(
                 x,
-                Slot::Truth(match x {
+                match x {
                     Slot::Missing => BOTTOM,
                     Slot::Int32(_) => of_bool(k == 1),
                     Slot::Int64(_) => of_bool(k == 2),
                     Slot::Real(_) => of_bool(k == 3),
                     Slot::Text(_) => of_bool(k == 4),
                     _ => of_bool(k == 5),
-                })
+                }
             ),
-            Ins::Nan => unary!(
+            Ins::Nan => test!(
                 x,
-                Slot::Truth(match x {
+                match x {
                     Slot::Missing => BOTTOM,
                     Slot::Real(r) => of_bool(r.is_nan()),
                     _ => FALSE,
-                })
+                }
             ),
-            Ins::Require => unary!(
+            Ins::Require => test!(
                 x,
-                Slot::Truth(match x {
+                match x {
                     Slot::Missing => BOTTOM,
                     _ => TRUE,
-                })
+                }
             ),
             Ins::Begins(n) => many!(n, x, later, fit(pool, notice, 0, x, later)),
             Ins::Contains(n) => many!(n, x, later, fit(pool, notice, 1, x, later)),
@@ -1042,7 +1074,7 @@ pub unsafe fn run(p: &Program, notice: &[u8]) -> (u8, usize) {
         }
         at += 1;
     }
-    (truth(base.read()), steps)
+    (truth(base.read()), steps, undecided)
 }
 
 #[inline(always)]
@@ -1077,15 +1109,15 @@ fn number_of(verdict: u8) -> u8 {
     [0, 2, 1][verdict as usize]
 }
 
-/// The guarded run over bytes: number, place, the verdict's number, steps.
-pub fn guarded(table: &[u8], notice: &[u8]) -> (u8, usize, u8, usize) {
+/// The guarded run over bytes: number, place, the verdict's number, steps, the undecided entry.
+pub fn guarded(table: &[u8], notice: &[u8]) -> (u8, usize, u8, usize, u16) {
     let mut code = no_code();
     let Some(p) = decode(table, &mut code) else {
-        return (12, 0, number_of(BOTTOM), 0);
+        return (12, 0, number_of(BOTTOM), 0, NO_ENTRY);
     };
     if let Some(place) = check_notice(notice) {
-        return (11, place, number_of(BOTTOM), 0);
+        return (11, place, number_of(BOTTOM), 0, NO_ENTRY);
     }
-    let (verdict, steps) = unsafe { run(&p, notice) };
-    (0, 0, number_of(verdict), steps)
+    let (verdict, steps, undecided) = unsafe { run(&p, notice) };
+    (0, 0, number_of(verdict), steps, undecided)
 }

@@ -21,15 +21,12 @@ fn put_number(out: &mut Vec<u8>, n: usize) {
 }
 
 fn put_notice(out: &mut Vec<u8>, program: Option<&expert::Program>, notice: &[u8]) {
-    let (number, verdict, steps, place) = match program {
-        None => (12, expert::BOTTOM, 0, 0),
+    let (number, (verdict, steps, undecided), place) = match program {
+        None => (12, expert::NOT_RUN, 0),
         Some(p) => match expert::check_notice(notice) {
-            Some(place) => (11, expert::BOTTOM, 0, place),
-            None => {
-                // SAFETY: the notice has just been checked
-                let (verdict, steps) = unsafe { expert::run(p, notice) };
-                (0, verdict, steps, 0)
-            }
+            Some(place) => (11, expert::NOT_RUN, place),
+            // SAFETY: the notice has just been checked
+            None => (0, unsafe { expert::run(p, notice) }, 0),
         },
     };
     out.push(b'N');
@@ -37,6 +34,7 @@ fn put_notice(out: &mut Vec<u8>, program: Option<&expert::Program>, notice: &[u8
     out.extend_from_slice([&b" false"[..], b" bottom", b" true"][verdict as usize]);
     put_number(out, steps);
     put_number(out, place);
+    put_number(out, undecided as usize);
     out.push(b'\n');
 }
 

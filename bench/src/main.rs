@@ -92,7 +92,7 @@ fn inner(pace: Pace) {
             let mut code = expert::no_code();
             let p = expert::decode(&table, &mut code).unwrap();
             // SAFETY: the notice is one of ours, and `agree` has checked it
-            let (verdict, steps) = unsafe { expert::run(&p, &notice) };
+            let (verdict, steps, _) = unsafe { expert::run(&p, &notice) };
             assert_eq!(
                 ours::repeat(&table, &notice, 1),
                 4 * steps as u64 + verdict as u64

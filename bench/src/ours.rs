@@ -24,6 +24,7 @@ mod c {
             place: *mut usize,
             verdict: *mut u8,
             steps: *mut usize,
+            undecided: *mut u16,
         ) -> u8;
         pub fn virentolex_read(
             notice: *const u8,
@@ -56,6 +57,7 @@ mod c {
             place: *mut usize,
             count: *mut u8,
             reached: *mut u8,
+            undecided: *mut u16,
         ) -> u8;
         pub fn virentolex_quorum_show(
             decision: *mut u8,
@@ -65,6 +67,7 @@ mod c {
             place: *mut usize,
             count: *mut u8,
             reached: *mut u8,
+            undecided: *mut u16,
         ) -> u8;
         pub fn virentolex_ubf_read(
             text: *const u8,
@@ -124,9 +127,9 @@ pub fn check_notice(notice: &[u8]) -> Option<usize> {
     }
 }
 
-/// The guarded run over bytes: number, place, the verdict's number, steps.
-pub fn guarded(table: &[u8], notice: &[u8]) -> (u8, usize, u8, usize) {
-    let (mut place, mut verdict, mut steps) = (0, 0, 0);
+/// The guarded run over bytes: number, place, the verdict's number, steps, the undecided entry.
+pub fn guarded(table: &[u8], notice: &[u8]) -> (u8, usize, u8, usize, u16) {
+    let (mut place, mut verdict, mut steps, mut undecided) = (0, 0, 0, 0);
     // SAFETY: as above
     let number = unsafe {
         c::virentolex_run(
@@ -137,9 +140,10 @@ pub fn guarded(table: &[u8], notice: &[u8]) -> (u8, usize, u8, usize) {
             &mut place,
             &mut verdict,
             &mut steps,
+            &mut undecided,
         )
     };
-    (number, place, verdict, steps)
+    (number, place, verdict, steps, undecided)
 }
 
 /// Number, and where the value of field k begins and ends.
@@ -188,9 +192,9 @@ pub fn write(
     (number, place, new_length)
 }
 
-/// Number, place, count and whether it has reached the needed number.
-pub fn quorum_open(decision: &mut [u8], table: &[u8], needed: usize) -> (u8, usize, u8, bool) {
-    let (mut place, mut count, mut reached) = (0, 0, 0);
+/// Number, place, count, whether it has reached the needed number, the undecided entry.
+pub fn quorum_open(decision: &mut [u8], table: &[u8], needed: usize) -> (u8, usize, u8, bool, u16) {
+    let (mut place, mut count, mut reached, mut undecided) = (0, 0, 0, 0);
     // SAFETY: as above
     let number = unsafe {
         c::virentolex_quorum_open(
@@ -202,14 +206,15 @@ pub fn quorum_open(decision: &mut [u8], table: &[u8], needed: usize) -> (u8, usi
             &mut place,
             &mut count,
             &mut reached,
+            &mut undecided,
         )
     };
-    (number, place, count, reached == 1)
+    (number, place, count, reached == 1, undecided)
 }
 
 /// The same, of a notice.
-pub fn quorum_show(decision: &mut [u8], notice: &[u8]) -> (u8, usize, u8, bool) {
-    let (mut place, mut count, mut reached) = (0, 0, 0);
+pub fn quorum_show(decision: &mut [u8], notice: &[u8]) -> (u8, usize, u8, bool, u16) {
+    let (mut place, mut count, mut reached, mut undecided) = (0, 0, 0, 0);
     // SAFETY: as above
     let number = unsafe {
         c::virentolex_quorum_show(
@@ -220,9 +225,10 @@ pub fn quorum_show(decision: &mut [u8], notice: &[u8]) -> (u8, usize, u8, bool) 
             &mut place,
             &mut count,
             &mut reached,
+            &mut undecided,
         )
     };
-    (number, place, count, reached == 1)
+    (number, place, count, reached == 1, undecided)
 }
 
 /// Number, place and the notice's length.

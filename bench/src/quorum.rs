@@ -56,9 +56,10 @@ pub fn shows(pace: Pace) {
                 let mut d = decision(&table, kept);
                 let before = d.clone();
                 let count = kept.len() as u8;
+                let undecided = ours::guarded(&table, &notice).4;
                 assert_eq!(
                     ours::quorum_show(&mut d, &notice),
-                    (0, 0, count, count >= 8)
+                    (0, 0, count, count >= 8, undecided)
                 );
                 assert_eq!(d, before);
                 let (a, b, r) = compare(

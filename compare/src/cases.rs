@@ -5,6 +5,7 @@ use crate::about::About;
 use crate::corners::Watch;
 use crate::random::Random;
 use crate::tally::Tally;
+use crate::undecided_edges::Trace;
 use crate::{edges, inputs, notices, operations, program, spellings, tables, texts, words};
 use reference::compile::Entry;
 use reference::value::Slot;
@@ -73,11 +74,39 @@ fn truth(verdict: virentolex::Verdict) -> Truth {
     }
 }
 
+/// The number of the entry in the papers: "or 65535 if none did".
+pub fn entry_number(undecided: Option<usize>) -> usize {
+    undecided.unwrap_or(reference::run::NO_ENTRY)
+}
+
 /// The kinds in turn, by the case's number.
-const KINDS: [&str; 25] = [
-    "text", "table", "notice", "write", "text", "operator", "text", "notice", "text", "table",
-    "text", "write", "text", "table", "notice", "text", "write", "text", "table", "quorum",
-    "wildcard", "size", "ubf", "meter", "find",
+const KINDS: [&str; 26] = [
+    "text",
+    "table",
+    "notice",
+    "write",
+    "text",
+    "operator",
+    "text",
+    "notice",
+    "text",
+    "table",
+    "text",
+    "write",
+    "text",
+    "table",
+    "notice",
+    "text",
+    "write",
+    "text",
+    "table",
+    "quorum",
+    "wildcard",
+    "size",
+    "ubf",
+    "meter",
+    "find",
+    "undecided",
 ];
 /// So many operators are tried in one case of theirs.
 const OPERATORS: usize = 20;
@@ -106,13 +135,14 @@ impl Case<'_> {
             "ubf" => self.ubf(),
             "meter" => self.meter(),
             "find" => self.find(),
+            "undecided" => self.undecided(),
             "operator" => (0..OPERATORS).try_for_each(|_| self.operator()),
             _ => self.program(),
         }
     }
 
     /// The notice's fields, or none now and then, for a text or a table about it.
-    fn about(&mut self, notice: &[u8]) -> About {
+    pub fn about(&mut self, notice: &[u8]) -> About {
         match self.random.below(3) {
             0 => About::nothing(),
             _ => About::of(notice),
@@ -184,27 +214,34 @@ impl Case<'_> {
     /// One run; the steps answered.
     pub fn running(&mut self, table: &[u8], notice: &[u8]) -> Result<usize, String> {
         let mut watch = Watch::of(table, notice);
-        let mut show = |entry: &Entry, stack: &[Slot]| watch.see(entry, stack);
+        let mut trace = Trace::default();
+        let mut show = |at: usize, entry: &Entry, stack: &[Slot]| {
+            watch.see(entry, stack);
+            trace.see(at, entry, stack);
+        };
         let library = virentolex::run(table, notice);
         let reference = reference::run::run_shown(table, notice, &mut show);
         self.tally.count("run", reference.number);
         same(
-            "run: number, place, verdict, steps",
+            "run: number, place, verdict, steps, undecided entry",
             &[("table", table), ("notice", notice)],
             (
                 library.number,
                 library.place,
                 truth(library.verdict),
                 library.steps,
+                entry_number(library.undecided),
             ),
             (
                 reference.number,
                 reference.place,
                 reference.verdict,
                 reference.steps,
+                reference.undecided,
             ),
         )?;
         if reference.number == 0 {
+            self.count("undecided", trace.met(table, notice, &reference));
             self.tally
                 .count("verdict", format!("{:?}", reference.verdict));
             self.count_ops(table);
@@ -459,7 +496,8 @@ impl Case<'_> {
             let what = match words[..] {
                 ["S", "0", ..] => "S 0".to_string(),
                 ["S", ..] => "S refused".to_string(),
-                ["N", "0", verdict, ..] => format!("N {verdict}"),
+                ["N", "0", verdict, _, _, "65535"] => format!("N {verdict}"),
+                ["N", "0", verdict, ..] => format!("N {verdict}, an entry"),
                 ["N", number, ..] => format!("N {number}"),
                 _ => words[0].to_string(),
             };
@@ -490,8 +528,19 @@ mod tests {
         assert_eq!(
             kinds,
             [
-                "find", "meter", "notice", "operator", "program", "quorum", "size", "table",
-                "text", "ubf", "wildcard", "write"
+                "find",
+                "meter",
+                "notice",
+                "operator",
+                "program",
+                "quorum",
+                "size",
+                "table",
+                "text",
+                "ubf",
+                "undecided",
+                "wildcard",
+                "write"
             ]
         );
     }

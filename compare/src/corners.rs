@@ -326,7 +326,9 @@ mod tests {
     fn met(text: &str, fields: &[Field]) -> Vec<String> {
         let (table, notice) = (table_of(text.as_bytes()).unwrap(), rendered(fields));
         let mut watch = Watch::of(&table, &notice);
-        let answer = run_shown(&table, &notice, &mut |entry, stack| watch.see(entry, stack));
+        let answer = run_shown(&table, &notice, &mut |_, entry, stack| {
+            watch.see(entry, stack)
+        });
         assert_eq!(answer.number, 0);
         watch.met.into_iter().collect()
     }

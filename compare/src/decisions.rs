@@ -37,7 +37,7 @@ pub fn people(random: &mut Random) -> Vec<Vec<u8>> {
 }
 
 /// Texts that hold of many of the notices below, and not of all.
-const TEXTS: [&str; 9] = [
+const TEXTS: [&str; 12] = [
     "1 == 1",
     "Op == 42",
     "Op == 42",
@@ -47,6 +47,9 @@ const TEXTS: [&str; 9] = [
     "string (Staff) || opaque (Staff)",
     "size (Staff) <= 64",
     "! (Op == 41 || fold-case (Staff) == 'ann')",
+    "gone == 1 || Op == 42",
+    "Op > 'x' || Op != 41",
+    "gone == 1 && Op == 41",
 ];
 
 /// A table: most often that of a text above, else one about a notice, or any, damaged ones too.

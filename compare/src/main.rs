@@ -33,6 +33,8 @@ mod texts;
 mod ubf;
 mod ubf_edges;
 mod ubf_texts;
+mod undecided;
+mod undecided_edges;
 mod wildcard;
 mod wildcard_corners;
 mod words;

@@ -1,7 +1,7 @@
 //! The kind of case `quorum`: decisions opened, notices shown one after the other, and states made by
 //! hand; each answer, every byte of the buffer and its guards, and the count from the history.
 
-use crate::cases::{patterned, same, Case, Hex, Outcome, GUARD};
+use crate::cases::{entry_number, patterned, same, Case, Hex, Outcome, GUARD};
 use crate::{decisions, quorum_edges};
 use reference::quorum::{self, Decision, Shown};
 
@@ -47,6 +47,7 @@ fn shown(library: virentolex::Shown) -> Shown {
         place: library.place,
         count: library.count.into(),
         reached: library.reached,
+        undecided: entry_number(library.undecided),
     }
 }
 

@@ -4,10 +4,11 @@
 use crate::edges::met;
 use reference::notice::fields;
 use reference::quorum::{Decision, HEAD, MOST_PEOPLE, PLACE, PLACES, STAFF};
+use reference::run::NO_ENTRY;
 use reference::Truth;
 
 /// What must occur in a run of many cases.
-pub const EDGES: [&str; 57] = [
+pub const EDGES: [&str; 65] = [
     "opening with 12 and 21",
     "opening with 12 and 9",
     "opening with 21 and 9",
@@ -24,6 +25,14 @@ pub const EDGES: [&str; 57] = [
     "verdict True",
     "verdict False",
     "verdict Bottom",
+    "undecided, verdict True",
+    "undecided, verdict False",
+    "undecided, verdict Bottom",
+    "undecided and counted",
+    "undecided with 19",
+    "decided with 19",
+    "undecided with 20",
+    "decided with 20",
     "counted with 1 byte",
     "counted with 64 bytes",
     "counted the 8th",
@@ -113,15 +122,17 @@ pub fn of_notice(decision: &Decision, notice: &[u8]) -> Vec<String> {
             (reached, "no notice, reached"),
         ]);
     }
+    let undecided = ran.undecided != NO_ENTRY;
     let mut found = vec![format!("verdict {:?}", ran.verdict)];
+    found.extend(undecided.then(|| format!("undecided, verdict {:?}", ran.verdict)));
     if ran.verdict == Truth::True {
-        found.extend(of_true(decision, notice));
+        found.extend(of_true(decision, notice, undecided));
     }
     found
 }
 
-/// The edges of a notice of which the decision's table is true.
-fn of_true(decision: &Decision, notice: &[u8]) -> Vec<String> {
+/// The edges of a notice of which the decision's table is true, with an undecided entry or none.
+fn of_true(decision: &Decision, notice: &[u8], undecided: bool) -> Vec<String> {
     let fields = fields(notice).unwrap_or_default();
     let staff = fields
         .iter()
@@ -134,10 +145,16 @@ fn of_true(decision: &Decision, notice: &[u8]) -> Vec<String> {
     let right = kind == 4 && (1..=64).contains(&value.len());
     let again = decision.values.iter().any(|counted| counted == value);
     let counted = right && !again && !full;
+    let ninth = right && !again && full;
     let mut found = met([
         (right && again, "again"),
         (right && again && full, "again with 8 counted"),
-        (right && !again && full, "a ninth"),
+        (ninth, "a ninth"),
+        (undecided && counted, "undecided and counted"),
+        (undecided && !right, "undecided with 19"),
+        (!undecided && !right, "decided with 19"),
+        (undecided && ninth, "undecided with 20"),
+        (!undecided && ninth, "decided with 20"),
         (staff.is_none(), "Staff missing"),
         (staff.is_some() && kind != 4, "Staff of another kind"),
         (kind == 4 && value.is_empty(), "Staff of 0"),
@@ -334,10 +351,20 @@ mod tests {
         );
         assert_eq!(edges(&[b"417"], b"417"), ["again"]);
         assert_eq!(edges(&[], b"a"), ["counted with 1 byte"]);
-        assert_eq!(edges(&[], b""), ["Staff of 0"]);
+        assert_eq!(edges(&[], b""), ["decided with 19", "Staff of 0"]);
         let eight: [&[u8]; 8] = [b"a", b"b", b"c", b"d", b"e", b"f", b"g", b"h"];
         assert_eq!(edges(&eight, b"h"), ["again", "again with 8 counted"]);
-        assert_eq!(edges(&eight, b"i"), ["a ninth"]);
+        assert_eq!(edges(&eight, b"i"), ["a ninth", "decided with 20"]);
+        let mut undecided = decision(&[]);
+        undecided.table = table_of(b"gone == 1 || 1 == 1").unwrap();
+        assert_eq!(
+            of_notice(&undecided, &notice_of(b"ab")),
+            [
+                "verdict True",
+                "undecided, verdict True",
+                "undecided and counted"
+            ]
+        );
         assert_eq!(of_notice(&decision(&[]), b""), ["no notice, none counted"]);
         assert!(of_notice(&decision(&[b""]), b"").is_empty());
     }

@@ -1,7 +1,9 @@
 //! What occurred: how many cases of each kind, and each answer, op, verdict, limit and corner.
 
 use crate::edges::EDGES;
-use crate::{corners, find_edges, quorum_edges, size, spellings, ubf_edges, wildcard};
+use crate::{
+    corners, find_edges, quorum_edges, size, spellings, ubf_edges, undecided_edges, wildcard,
+};
 use reference::op::OPS;
 use std::collections::BTreeMap;
 
@@ -15,10 +17,11 @@ const MOST_NAMED: usize = 64;
 const RAREST: usize = 8;
 
 /// What must occur in a run of many cases.
-const NUMBERS: [(&str, &[u8]); 11] = [
+const NUMBERS: [(&str, &[u8]); 12] = [
     ("translate", &[0, 1, 2, 3, 4, 5, 6, 7, 8, 9, 10, 18]),
     ("check", &[0, 12]),
     ("run", &[0, 11, 12]),
+    ("entry", &[0, 12, 17]),
     ("check_notice", &[0, 11]),
     ("read", &[0, 11, 17]),
     ("find", &[0, 11]),
@@ -28,12 +31,23 @@ const NUMBERS: [(&str, &[u8]); 11] = [
     ("ubf read", &[0, 13, 14, 15, 16, 22, 23]),
     ("ubf write", &[0, 11, 15, 23]),
 ];
-const WORDS: [(&str, &[&str]); 11] = [
+const WORDS: [(&str, &[&str]); 12] = [
     (
         "case",
         &[
-            "text", "table", "operator", "notice", "write", "program", "quorum", "wildcard",
-            "size", "ubf", "meter", "find",
+            "text",
+            "table",
+            "operator",
+            "notice",
+            "write",
+            "program",
+            "quorum",
+            "wildcard",
+            "size",
+            "ubf",
+            "meter",
+            "find",
+            "undecided",
         ],
     ),
     ("verdict", &["True", "False", "Bottom"]),
@@ -46,8 +60,10 @@ const WORDS: [(&str, &[&str]); 11] = [
             "S 0",
             "S refused",
             "N true",
+            "N true, an entry",
             "N false",
-            "N bottom",
+            "N false, an entry",
+            "N bottom, an entry",
             "N 11",
             "N 12",
             "X",
@@ -55,6 +71,7 @@ const WORDS: [(&str, &[&str]); 11] = [
         ],
     ),
     ("edge", &EDGES),
+    ("entry told", &undecided_edges::TOLD),
     ("quorum", &quorum_edges::EDGES),
     ("wildcard", &wildcard::CAUSES),
     ("ubf", &ubf_edges::EDGES),
@@ -79,12 +96,17 @@ impl Tally {
         let spellings = spellings::names().into_iter().map(|one| ("spelling", one));
         let sizes = size::names().into_iter().map(|one| ("size", one));
         let searches = find_edges::names().into_iter().map(|one| ("search", one));
+        let undecided = undecided_edges::names();
+        let undecided = undecided.into_iter().map(|one| ("undecided", one));
+        let told = OPS.iter().map(|op| ("entry of op", op.code().to_string()));
         let all = numbers
             .chain(words)
             .chain(ops)
             .chain(corners)
             .chain(sizes)
             .chain(searches)
+            .chain(undecided)
+            .chain(told)
             .chain(spellings);
         all.filter(|key| !self.counts.contains_key(key))
             .map(|(of, one)| format!("{of} {one}"))

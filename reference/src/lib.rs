@@ -25,7 +25,7 @@ pub use compile::{translate, Translation};
 pub use meaning::meaning;
 pub use notice::{check_notice, find, read, write, Finding, Reading, Writing};
 pub use run::{run, Running};
-pub use table::check;
+pub use table::{check, describe, Described};
 pub use value::Truth;
 pub use verdict::verdict;
 

@@ -4,7 +4,7 @@
 //! docs/FORMATS.md, "Decision". What the count must be is worked out from the history alone, beside it.
 
 use crate::notice::{fields, value_of};
-use crate::run::run;
+use crate::run::{run, Running, NO_ENTRY};
 use crate::table::check;
 use crate::value::{Truth, Value};
 use crate::word;
@@ -23,23 +23,26 @@ pub const PLACES: usize = 8;
 pub const PLACE: usize = 1 + MOST_VALUE;
 
 /// "The answer is the count and whether it has reached the needed number."; "a refusal answers its
-/// number, the run's place and the rest as it stood"
+/// number, the run's place and the rest as it stood". Request 7, of the run's undecided entry: "The quorum
+/// counter passes it on, with 19 and 20 too."
 #[derive(Clone, Copy, PartialEq, Eq, Debug)]
 pub struct Shown {
     pub number: u8,
     pub place: usize,
     pub count: usize,
     pub reached: bool,
+    pub undecided: usize,
 }
 
 impl Shown {
-    /// "(at opening and with 12: 0, not reached)"
+    /// "(at opening and with 12: 0, not reached)"; request 7: "a counter's call without a run, give[s] 65535"
     fn of_none(number: u8) -> Shown {
         Shown {
             number,
             place: 0,
             count: 0,
             reached: false,
+            undecided: NO_ENTRY,
         }
     }
 }
@@ -86,29 +89,27 @@ impl Decision {
         if !self.is_right() {
             return Shown::of_none(12);
         }
-        match self.person(notice) {
-            Err((number, place)) => self.answer(number, place),
+        let run = run(&self.table, notice);
+        let (number, place) = match self.person(&run, notice) {
+            Err(refusal) => refusal,
             Ok(person) => {
                 self.values.extend(person);
-                self.answer(0, 0)
+                (0, 0)
             }
-        }
-    }
-
-    /// "The answer is the count and whether it has reached the needed number."
-    fn answer(&self, number: u8, place: usize) -> Shown {
+        };
+        // "The answer is the count and whether it has reached the needed number."
         Shown {
             number,
             place,
             count: self.values.len(),
             reached: self.values.len() >= self.needed,
+            undecided: run.undecided,
         }
     }
 
     /// The person that a notice adds: "Each notice shown to it is run; if the verdict is true, the string
     /// field Staff is taken and counted unless those bytes were counted before in this decision."
-    fn person(&self, notice: &[u8]) -> Result<Option<Vec<u8>>, (u8, usize)> {
-        let run = run(&self.table, notice);
+    fn person(&self, run: &Running, notice: &[u8]) -> Result<Option<Vec<u8>>, (u8, usize)> {
         if run.number != 0 {
             return Err((run.number, run.place));
         }
@@ -228,12 +229,14 @@ mod tests {
     use crate::compile::table_of;
     use crate::notice::{field_bytes, notice_bytes};
 
+    /// An answer with no undecided entry.
     fn shown(number: u8, place: usize, count: usize, reached: bool) -> Shown {
         Shown {
             number,
             place,
             count,
             reached,
+            undecided: 65535,
         }
     }
 
@@ -323,6 +326,25 @@ mod tests {
             history.push(told(&decision.table, &notice, answer.number));
             assert_eq!(answer.count, count_of(&history));
         }
+    }
+
+    /// Request 7: "passes it on, with 19 and 20 too. A refused run, and a counter's call without a run, give
+    /// 65535."
+    #[test]
+    fn the_undecided_entry_is_passed_on() {
+        let mut decision = Decision::open(&table_of(b"a == 1 || Op > 41").unwrap(), 1).unwrap();
+        let mut answer = |notice: &[u8]| {
+            let answer = decision.show(notice);
+            (answer.number, answer.undecided)
+        };
+        assert_eq!(answer(&notice(None)), (19, 0));
+        for at in 0..8 {
+            assert_eq!(answer(&notice(Some((4, &[at])))), (0, 0));
+        }
+        assert_eq!(answer(&notice(Some((4, b"x")))), (20, 0));
+        assert_eq!(answer(b""), (11, 65535));
+        decision.needed = 0;
+        assert_eq!(decision.show(&notice(None)), shown(12, 0, 0, false));
     }
 
     #[test]

@@ -1,4 +1,5 @@
-//! "The run": a table on a notice, with its skips and steps.
+//! "The run": a table on a notice, with its skips and steps; and document 02, request 7: "Why was it
+//! undecided?"
 
 use crate::compile::Entry;
 use crate::notice::{fields, value_of, Field};
@@ -6,27 +7,37 @@ use crate::op::Op;
 use crate::table::{checked, landing, pool_part, Table};
 use crate::value::{binary, logic, many, not, unary, Slot, Truth, Value};
 
-/// "Running answers number, place, verdict (bottom if refused) and steps (0 if refused)."
+/// Request 7: "or 65535 if none did"
+pub const NO_ENTRY: usize = 65535;
+
+/// "Running answers number, place, verdict (bottom if refused) and steps (0 if refused)."; request 7: "the
+/// number of the first visited entry that left bottom on the stack, counted from 0, or 65535 if none did",
+/// and "A refused run .. give[s] 65535."
 #[derive(Clone, Copy, PartialEq, Eq, Debug)]
 pub struct Running {
     pub number: u8,
     pub place: usize,
     pub verdict: Truth,
     pub steps: usize,
+    pub undecided: usize,
 }
 
 /// "Running: 12 before 11."
 pub fn run(table: &[u8], notice: &[u8]) -> Running {
-    run_shown(table, notice, &mut |_, _| ())
+    run_shown(table, notice, &mut |_, _, _| ())
 }
 
-/// As `run`; each entry is shown before its visit, with the stack, its operands on top.
-pub fn run_shown(table: &[u8], notice: &[u8], show: &mut dyn FnMut(&Entry, &[Slot])) -> Running {
+/// What is shown of an entry before its visit: its number, itself, and the stack, its operands on top.
+pub type Show<'a> = dyn FnMut(usize, &Entry, &[Slot]) + 'a;
+
+/// As `run`; each entry is shown before its visit.
+pub fn run_shown(table: &[u8], notice: &[u8], show: &mut Show) -> Running {
     let refused = |number, place| Running {
         number,
         place,
         verdict: Truth::Bottom,
         steps: 0,
+        undecided: NO_ENTRY,
     };
     let Some(table) = checked(table) else {
         return refused(12, 0);
@@ -35,19 +46,18 @@ pub fn run_shown(table: &[u8], notice: &[u8], show: &mut dyn FnMut(&Entry, &[Slo
         Ok(fields) => fields,
         Err(place) => return refused(11, place),
     };
-    let (verdict, steps) = Machine {
+    Machine {
         table,
         notice,
         fields,
         stack: Vec::new(),
     }
-    .run(show);
-    Running {
-        number: 0,
-        place: 0,
-        verdict,
-        steps,
-    }
+    .run(show)
+}
+
+/// Bottom, as a truth value or in a value's place.
+pub fn is_bottom(slot: &Slot) -> bool {
+    matches!(slot, Slot::Truth(Truth::Bottom) | Slot::Value(None))
 }
 
 struct Machine<'a> {
@@ -60,14 +70,24 @@ struct Machine<'a> {
 impl Machine<'_> {
     /// "The run starts at entry 0 with an empty stack. An entry reached is visited: one step. .. At N
     /// it ends and the one slot is the verdict."
-    fn run(mut self, show: &mut dyn FnMut(&Entry, &[Slot])) -> (Truth, usize) {
-        let (mut at, mut steps) = (0, 0);
+    fn run(mut self, show: &mut Show) -> Running {
+        let mut at = 0;
+        // the entries visited, in their order, each with whether it left bottom on the stack
+        let mut visited: Vec<(usize, bool)> = Vec::new();
         while at < self.table.entries.len() {
-            show(&self.table.entries[at], &self.stack);
-            at = self.visit(at);
-            steps += 1;
+            show(at, &self.table.entries[at], &self.stack);
+            let next = self.visit(at);
+            visited.push((at, self.stack.iter().any(is_bottom)));
+            at = next;
         }
-        (self.pop_truth(), steps)
+        let first = visited.iter().find(|(_, bottom)| *bottom);
+        Running {
+            number: 0,
+            place: 0,
+            verdict: self.pop_truth(),
+            steps: visited.len(),
+            undecided: first.map_or(NO_ENTRY, |(entry, _)| *entry),
+        }
     }
 
     /// Visits one entry; the next one. "44 on a false top and 45 on a true one go a + 1 entries on,
@@ -154,13 +174,13 @@ mod tests {
 
     #[test]
     fn the_example_runs() {
-        let cases: [(&str, &[u8], Truth, usize); 4] = [
-            ("Op == 42", &OP42, Truth::True, 3),
-            ("Op == 42", &E, Truth::Bottom, 3),
-            ("Op == 1 && 1 == 2", &E, Truth::False, 8),
-            ("1 == 2 && Op == 42", &E, Truth::False, 4),
+        let cases: [(&str, &[u8], Truth, usize, usize); 4] = [
+            ("Op == 42", &OP42, Truth::True, 3, 65535),
+            ("Op == 42", &E, Truth::Bottom, 3, 0),
+            ("Op == 1 && 1 == 2", &E, Truth::False, 8, 0),
+            ("1 == 2 && Op == 42", &E, Truth::False, 4, 65535),
         ];
-        for (text, notice, verdict, steps) in cases {
+        for (text, notice, verdict, steps, undecided) in cases {
             let answer = run(&table_of(text.as_bytes()).unwrap(), notice);
             assert_eq!(
                 answer,
@@ -168,7 +188,8 @@ mod tests {
                     number: 0,
                     place: 0,
                     verdict,
-                    steps
+                    steps,
+                    undecided
                 },
                 "{text}"
             );
@@ -176,9 +197,38 @@ mod tests {
     }
 
     #[test]
+    fn the_first_undecided_entry() {
+        let cases = [
+            // a missing name; a kind and a value that the operator does not take
+            ("1 == a", 1),
+            ("Op > 'x'", 2),
+            ("Op / 0 == 1", 2),
+            ("Op << 32 == 1", 2),
+            ("size (Op) == 1", 1),
+            // the first of several
+            ("a == b", 0),
+            ("Op + a > b", 1),
+            // one that is passed over is not visited
+            ("Op == 41 && a == 1", 65535),
+            ("Op == 41 && a == 1 ^^ b == 1", 8),
+            // gone in the end
+            ("a == 1 || Op == 42", 0),
+            ("a == 1 && Op == 41 || b == 1", 0),
+        ];
+        for (text, undecided) in cases {
+            let answer = run(&table_of(text.as_bytes()).unwrap(), &OP42);
+            assert_eq!(answer.undecided, undecided, "{text}");
+        }
+    }
+
+    #[test]
     fn twelve_comes_before_eleven() {
         let table = table_of(b"Op == 42").unwrap();
-        assert_eq!(run(b"", b"").number, 12);
-        assert_eq!(run(&table, b"").number, 11);
+        let refused = |notice: &[u8], table: &[u8]| {
+            let answer = run(table, notice);
+            (answer.number, answer.undecided)
+        };
+        assert_eq!(refused(b"", b""), (12, 65535));
+        assert_eq!(refused(b"", &table), (11, 65535));
     }
 }

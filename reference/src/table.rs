@@ -6,6 +6,7 @@ use crate::notice::name_right;
 use crate::op::Op;
 use crate::wildcard::Pattern;
 use crate::{word, MOST_ENTRIES, MOST_POOL, MOST_SLOTS};
+use std::ops::Range;
 
 /// A table's entries and pool as they lie in the lent bytes.
 #[derive(Clone, PartialEq, Eq, Debug)]
@@ -57,6 +58,49 @@ pub fn entry(table: &[u8], at: usize) -> Option<Entry> {
         a,
         b: word(table, at + 4, 8)?,
     })
+}
+
+/// What is told of an entry: number, op, a and b, and where its bytes lie in the table.
+#[derive(Clone, PartialEq, Eq, Debug)]
+pub struct Described {
+    pub number: u8,
+    pub op: u16,
+    pub a: u16,
+    pub b: u64,
+    pub bytes: Range<usize>,
+}
+
+/// Document 02, request 7: "Support staff see `bottom` and can't tell which field was lacking." Entry k of
+/// the table: 12, then 17 if it has none; for a string or a name its bytes, else none at 0.
+pub fn describe(table: &[u8], k: usize) -> Described {
+    let refused = |number| Described {
+        number,
+        op: 0,
+        a: 0,
+        b: 0,
+        bytes: 0..0,
+    };
+    let Some(whole) = checked(table) else {
+        return refused(12);
+    };
+    let Some(entry) = whole.entries.get(k) else {
+        return refused(17);
+    };
+    let pool = table.len() - whole.pool.len();
+    let bytes = match entry.op {
+        Op::Text | Op::Name => {
+            let start = pool + entry.b as usize;
+            start..start + usize::from(entry.a)
+        }
+        _ => 0..0,
+    };
+    Described {
+        number: 0,
+        op: entry.op.code(),
+        a: entry.a,
+        b: entry.b,
+        bytes,
+    }
 }
 
 /// The part of the pool that a string's or a name's entry means: "a length, b pool offset, a + b at
@@ -188,6 +232,27 @@ mod tests {
     fn a_translated_table_passes() {
         let table = table_of(b"a == 1 && (b == 2 || c == 3)").unwrap();
         assert_eq!(check(&table), 0);
+    }
+
+    #[test]
+    fn entries_are_described() {
+        let table = table_of(b"Op != '' && 1 == 2L").unwrap();
+        let told = |k| {
+            let told = describe(&table, k);
+            (told.number, told.op, told.a, told.b, told.bytes)
+        };
+        let pool = 10 + 12 * 8;
+        assert_eq!(table.len(), pool + 2);
+        assert_eq!(told(0), (0, 5, 2, 0, pool..pool + 2));
+        assert_eq!(told(1), (0, 4, 0, 2, pool + 2..pool + 2));
+        assert_eq!(told(2), (0, 33, 0, 0, 0..0));
+        assert_eq!(told(3), (0, 44, 4, 0, 0..0));
+        assert_eq!(told(5), (0, 2, 0, 2, 0..0));
+        assert_eq!(told(7), (0, 41, 0, 0, 0..0));
+        for k in [8, 9, usize::MAX] {
+            assert_eq!(told(k), (17, 0, 0, 0, 0..0));
+        }
+        assert_eq!(describe(&table[1..], 0).number, 12);
     }
 
     #[test]

@@ -17,7 +17,11 @@
 //! - `05-read.txt`: UBF(A) text, buffer length, number, place, notice
 //! - `05-write.txt`: notice, buffer length, number, place, UBF(A) text
 //! - `06-run.txt`: as `run.txt`, of tables with integers beside reals and results beyond int64
+//! - `07-run.txt`: as `run.txt`, then the undecided entry; `07-quorum.txt`: as `03-quorum.txt`, each answer
+//!   with the entry at its end; `07-program.txt`: as `program.txt`, each `N` line with the entry at its end
 //! - `11-find.txt`: notice, name, index of the field that has it or `-`, names looked at
+//!
+//! Files without 07 in front are from before request 7, so that their answers of runs have no entry.
 
 use crate::quorum::{self, Decision, Shown};
 use crate::wildcard::Pattern;
@@ -39,14 +43,19 @@ pub fn agree(file: &str, lines: &str) -> Result<usize, String> {
 fn answer(file: &str, words: &[&str]) -> Option<(usize, String)> {
     match (file, words.len()) {
         ("translate.txt" | "01-translate.txt", 5) => Some((2, translate(words)?)),
-        ("run.txt" | "01-run.txt" | "02-run.txt" | "06-run.txt", 6) => Some((2, run(words)?)),
+        ("run.txt" | "01-run.txt" | "02-run.txt" | "06-run.txt", 6) => {
+            Some((2, without_last(&run(words)?)))
+        }
+        ("07-run.txt", 7) => Some((2, run(words)?)),
         ("01-check.txt", 2) => Some((1, crate::check(&bytes(words[0])?).to_string())),
         ("01-patterns.txt", 4) => Some((2, pattern(words)?)),
         ("read.txt", 7) => Some((2, read(words)?)),
         ("write.txt", 9) => Some((5, write(words)?)),
-        ("program.txt", 2) => Some((1, hex(&crate::verdict(&bytes(words[0])?)))),
-        ("03-quorum.txt", _) => quorum(words),
-        ("03-states.txt", 8) => Some((4, state(words)?)),
+        ("program.txt", 2) => Some((1, hex(without_entries(&program(words)?).as_bytes()))),
+        ("07-program.txt", 2) => Some((1, hex(program(words)?.as_bytes()))),
+        ("03-quorum.txt", _) => quorum(words, without_last),
+        ("07-quorum.txt", _) => quorum(words, str::to_string),
+        ("03-states.txt", 8) => Some((4, without_last(&state(words)?))),
         ("05-read.txt", 5) => Some((2, ubf(words, crate::ubf::read)?)),
         ("05-write.txt", 5) => Some((2, ubf(words, crate::ubf::write)?)),
         ("11-find.txt", 4) => Some((2, find(words)?)),
@@ -73,9 +82,27 @@ fn run(words: &[&str]) -> Option<String> {
         Truth::Bottom => "bottom",
     };
     Some(format!(
-        "{} {} {verdict} {}",
-        answer.number, answer.place, answer.steps
+        "{} {} {verdict} {} {}",
+        answer.number, answer.place, answer.steps, answer.undecided
     ))
+}
+
+/// The words but the last, which request 7 has added.
+fn without_last(words: &str) -> String {
+    words.rsplit_once(' ').map_or("", |(rest, _)| rest).into()
+}
+
+fn program(words: &[&str]) -> Option<String> {
+    String::from_utf8(crate::verdict(&bytes(words[0])?)).ok()
+}
+
+/// The lines, those of notices without their last words.
+fn without_entries(printed: &str) -> String {
+    let line = |line: &str| match line.starts_with('N') {
+        true => without_last(line) + "\n",
+        false => line.to_string() + "\n",
+    };
+    printed.lines().map(line).collect()
 }
 
 fn read(words: &[&str]) -> Option<String> {
@@ -114,9 +141,9 @@ fn pattern(words: &[&str]) -> Option<String> {
     Some(format!("{} {}", u8::from(pattern.is_ok()), u8::from(fits)))
 }
 
-/// A decision in a buffer of its size, opened and shown each notice. Between the number of no notices
-/// and `:` stands an empty word.
-fn quorum(words: &[&str]) -> Option<(usize, String)> {
+/// A decision in a buffer of its size, opened and shown each notice; the answers as the file has them.
+/// Between the number of no notices and `:` stands an empty word.
+fn quorum(words: &[&str], as_stored: fn(&str) -> String) -> Option<(usize, String)> {
     let given = words.iter().position(|word| *word == ":")? + 1;
     let (table, needed) = (bytes(words[0])?, words.get(1)?.parse().ok()?);
     let mut notices = words.get(3..given - 1)?.to_vec();
@@ -129,7 +156,8 @@ fn quorum(words: &[&str]) -> Option<(usize, String)> {
     for notice in notices {
         answers.push(shown(quorum::show(&mut buffer, &bytes(notice)?)));
     }
-    Some((given, answers.join(" | ")))
+    let stored: Vec<String> = answers.iter().map(|answer| as_stored(answer)).collect();
+    Some((given, stored.join(" | ")))
 }
 
 /// A decision made by hand, which need not be right, shown one notice.
@@ -168,8 +196,8 @@ fn find(words: &[&str]) -> Option<String> {
 fn shown(answer: Shown) -> String {
     let reached = u8::from(answer.reached);
     format!(
-        "{} {} {} {reached}",
-        answer.number, answer.place, answer.count
+        "{} {} {} {reached} {}",
+        answer.number, answer.place, answer.count, answer.undecided
     )
 }
 
@@ -196,6 +224,16 @@ mod tests {
         assert!(agree("translate.txt", "4f70 100 5 1 -").is_err());
         assert!(agree("other.txt", "4f70 100 5 0 -").is_err());
         assert_eq!(agree("program.txt", "020000000700 5820370a"), Ok(1));
+        // "N 12 bottom 0 0", and with request 7 " 65535"
+        let (input, line) = ("0400000001000000", "4e20313220626f74746f6d20302030");
+        for (file, end) in [("program.txt", ""), ("07-program.txt", "203635353335")] {
+            assert_eq!(agree(file, &format!("{input} {line}{end}0a")), Ok(1));
+        }
+        for (file, answer) in [("run.txt", ""), ("07-run.txt", " 65535")] {
+            let line = format!("- - 12 0 bottom 0{answer}");
+            assert_eq!(agree(file, &line), Ok(1));
+        }
+        assert!(agree("07-run.txt", "- - 12 0 bottom 0 0").is_err());
         assert_eq!(agree("read.txt", "0400000001000000 2 17 0 0 - -"), Ok(1));
     }
 }

@@ -52,7 +52,8 @@ fn text_line(text: &[u8], table: &mut Option<Vec<u8>>) -> String {
     }
 }
 
-/// "`N number verdict steps place` (verdict `true`, `false` or `bottom`; no table gives 12)"
+/// "`N number verdict steps place` (verdict `true`, `false` or `bottom`; no table gives 12)"; document 02,
+/// request 7: "The `N` line of `verdict` gains it [the undecided entry] at its end"
 fn notice_line(notice: &[u8], table: &Option<Vec<u8>>) -> String {
     // No bytes are no table, so the check refuses them.
     let answer = run(table.as_deref().unwrap_or_default(), notice);
@@ -62,8 +63,8 @@ fn notice_line(notice: &[u8], table: &Option<Vec<u8>>) -> String {
         Truth::Bottom => "bottom",
     };
     format!(
-        "N {} {verdict} {} {}\n",
-        answer.number, answer.steps, answer.place
+        "N {} {verdict} {} {} {}\n",
+        answer.number, answer.steps, answer.place, answer.undecided
     )
 }
 
@@ -85,7 +86,8 @@ mod tests {
     #[test]
     fn the_example_session() {
         let text = record_of(3, b"Op == 42");
-        let meant = "S 0 0 48\nN 0 true 3 0\nN 0 bottom 3 0\n";
+        // request 7: "document 01's three lines end in 48 (`S`, unchanged), 65535 and 0"
+        let meant = "S 0 0 48\nN 0 true 3 0 65535\nN 0 bottom 3 0 0\n";
         assert_eq!(printed(&[&text, &OP42, &E]), meant);
     }
 
@@ -94,15 +96,16 @@ mod tests {
         let (text, bad) = (record_of(3, b"Op == 42"), record_of(3, b""));
         assert_eq!(
             printed(&[&text, &bad, &E]),
-            "S 0 0 48\nS 2 0 0\nN 12 bottom 0 0\n"
+            "S 0 0 48\nS 2 0 0\nN 12 bottom 0 0 65535\n"
         );
     }
 
     #[test]
     fn other_kinds_and_cut_records() {
         assert_eq!(printed(&[&record_of(7, b"")]), "X 7\n");
-        assert_eq!(printed(&[&E, &[1, 0]]), "N 12 bottom 0 0\nE\n");
-        assert_eq!(printed(&[&E, &[1, 0, 0, 0, 0, 0]]), "N 12 bottom 0 0\nE\n");
+        let meant = "N 12 bottom 0 0 65535\nE\n";
+        assert_eq!(printed(&[&E, &[1, 0]]), meant);
+        assert_eq!(printed(&[&E, &[1, 0, 0, 0, 0, 0]]), meant);
         assert_eq!(printed(&[]), "");
         let long = record_of(9, &[0; 16378]);
         assert_eq!(printed(&[&long]), "X 9\n");

@@ -21,6 +21,9 @@ fn the_vectors_agree() {
         ("05-read.txt", 900),
         ("05-write.txt", 400),
         ("06-run.txt", 1200),
+        ("07-run.txt", 700),
+        ("07-quorum.txt", 120),
+        ("07-program.txt", 120),
         ("11-find.txt", 500),
     ];
     for (file, cases) in files {

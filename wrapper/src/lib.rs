@@ -32,6 +32,17 @@ mod library {
             place: *mut usize,
             verdict: *mut u8,
             steps: *mut usize,
+            undecided: *mut u16,
+        ) -> u8;
+        pub fn virentolex_entry(
+            table: *const u8,
+            table_len: usize,
+            k: usize,
+            op: *mut u16,
+            a: *mut u16,
+            b: *mut u64,
+            start: *mut usize,
+            end: *mut usize,
         ) -> u8;
         pub fn virentolex_read(
             notice: *const u8,
@@ -73,6 +84,7 @@ mod library {
             place: *mut usize,
             count: *mut u8,
             reached: *mut u8,
+            undecided: *mut u16,
         ) -> u8;
         pub fn virentolex_quorum_show(
             decision: *mut u8,
@@ -82,6 +94,7 @@ mod library {
             place: *mut usize,
             count: *mut u8,
             reached: *mut u8,
+            undecided: *mut u16,
         ) -> u8;
         pub fn virentolex_ubf_read(
             text: *const u8,
@@ -119,6 +132,8 @@ pub const UBF_TEXT_MAX: usize = 32_839;
 
 /// The library's index for a name that no field has.
 const NO_FIELD: usize = 64;
+/// The library's number where no entry is undecided.
+const NO_ENTRY: u16 = 65_535;
 
 /// The notice without fields, with which a new notice is begun.
 pub const EMPTY_NOTICE: [u8; 8] = [4, 0, 0, 0, 1, 0, 0, 0];
@@ -183,13 +198,27 @@ pub struct Checked {
     pub place: usize,
 }
 
-/// What running answers: if refused, the verdict is bottom and the steps are 0.
+/// What running answers: if refused, the verdict is bottom and the steps are 0. Undecided is the number of
+/// the first visited entry that left bottom on the stack, if one did and nothing was refused; with verdict
+/// bottom there is one, with true and false there may be. `entry` tells what it is.
 #[derive(Debug, Clone, Copy, PartialEq, Eq)]
 pub struct Ran {
     pub number: u8,
     pub place: usize,
     pub verdict: Verdict,
     pub steps: usize,
+    pub undecided: Option<usize>,
+}
+
+/// What an entry of a table is: its op, a and b, and of a string (op 4) or a name (op 5) its bytes as a part
+/// of the table; if refused, zeros and no bytes.
+#[derive(Debug, Clone, Copy, PartialEq, Eq)]
+pub struct Entry<'a> {
+    pub number: u8,
+    pub op: u16,
+    pub a: u16,
+    pub b: u64,
+    pub bytes: &'a [u8],
 }
 
 /// What reading answers: the field's kind, and its name and value as parts of the notice; if refused,
@@ -223,12 +252,14 @@ pub struct Written {
 
 /// What opening a decision and showing a notice to it answer: the people counted, and whether they are
 /// as many as needed. A refusal leaves both as they stood; at opening and with 12 they are 0 and false.
+/// Undecided is the run's, with 19 and 20 too.
 #[derive(Debug, Clone, Copy, PartialEq, Eq)]
 pub struct Shown {
     pub number: u8,
     pub place: usize,
     pub count: u8,
     pub reached: bool,
+    pub undecided: Option<usize>,
 }
 
 /// What reading and writing UBF(A) answer: the place is that of 11, and else 0; the length is that of
@@ -280,12 +311,18 @@ pub fn check_notice(notice: &[u8]) -> Checked {
     Checked { number, place }
 }
 
+/// The entry's number, if the library's is one.
+fn undecided_of(number: u16) -> Option<usize> {
+    (number != NO_ENTRY).then_some(number.into())
+}
+
 /// Runs a table on a notice. Both are checked first: 12, then 11.
 pub fn run(table: &[u8], notice: &[u8]) -> Ran {
     let mut place = 0;
     let mut verdict = 0;
     let mut steps = 0;
-    // SAFETY: each pointer and length come from one slice, which is only read; the three results are
+    let mut undecided = 0;
+    // SAFETY: each pointer and length come from one slice, which is only read; the four results are
     // borrowed here alone.
     let number = unsafe {
         library::virentolex_run(
@@ -296,6 +333,7 @@ pub fn run(table: &[u8], notice: &[u8]) -> Ran {
             &mut place,
             &mut verdict,
             &mut steps,
+            &mut undecided,
         )
     };
     Ran {
@@ -303,6 +341,34 @@ pub fn run(table: &[u8], notice: &[u8]) -> Ran {
         place,
         verdict: Verdict::of_number(verdict),
         steps,
+        undecided: undecided_of(undecided),
+    }
+}
+
+/// Tells what entry k of a table is: 12, then 17 if it has no entry k.
+pub fn entry(table: &[u8], k: usize) -> Entry<'_> {
+    let (mut op, mut a, mut b) = (0, 0, 0);
+    let (mut start, mut end) = (0, 0);
+    // SAFETY: the pointer and the length come from one slice, which is only read; the five results are
+    // borrowed here alone.
+    let number = unsafe {
+        library::virentolex_entry(
+            table.as_ptr(),
+            table.len(),
+            k,
+            &mut op,
+            &mut a,
+            &mut b,
+            &mut start,
+            &mut end,
+        )
+    };
+    Entry {
+        number,
+        op,
+        a,
+        b,
+        bytes: &table[start..end],
     }
 }
 
@@ -436,9 +502,9 @@ impl<B: AsRef<[u8]> + AsMut<[u8]>> Decision<B> {
 
 /// Opens a decision at the start of the buffer, as `Decision::open_in` does.
 pub fn quorum_open(decision: &mut [u8], table: &[u8], needed: usize) -> Shown {
-    let (mut place, mut count, mut reached) = (0, 0, 0);
+    let (mut place, mut count, mut reached, mut undecided) = (0, 0, 0, 0);
     // SAFETY: each pointer and length come from one slice, an empty one's pointer is not null; the
-    // decision and the three results are borrowed here alone, so that they overlap nothing.
+    // decision and the four results are borrowed here alone, so that they overlap nothing.
     let number = unsafe {
         library::virentolex_quorum_open(
             decision.as_mut_ptr(),
@@ -449,6 +515,7 @@ pub fn quorum_open(decision: &mut [u8], table: &[u8], needed: usize) -> Shown {
             &mut place,
             &mut count,
             &mut reached,
+            &mut undecided,
         )
     };
     Shown {
@@ -456,12 +523,13 @@ pub fn quorum_open(decision: &mut [u8], table: &[u8], needed: usize) -> Shown {
         place,
         count,
         reached: reached == 1,
+        undecided: undecided_of(undecided),
     }
 }
 
 /// Shows a notice to the decision at the start of the buffer, as `Decision::show` does.
 pub fn quorum_show(decision: &mut [u8], notice: &[u8]) -> Shown {
-    let (mut place, mut count, mut reached) = (0, 0, 0);
+    let (mut place, mut count, mut reached, mut undecided) = (0, 0, 0, 0);
     // SAFETY: as above.
     let number = unsafe {
         library::virentolex_quorum_show(
@@ -472,6 +540,7 @@ pub fn quorum_show(decision: &mut [u8], notice: &[u8]) -> Shown {
             &mut place,
             &mut count,
             &mut reached,
+            &mut undecided,
         )
     };
     Shown {
@@ -479,6 +548,7 @@ pub fn quorum_show(decision: &mut [u8], notice: &[u8]) -> Shown {
         place,
         count,
         reached: reached == 1,
+        undecided: undecided_of(undecided),
     }
 }
 

@@ -132,9 +132,97 @@ fn running_is_refused_12_before_11() {
         place,
         verdict: Verdict::Bottom,
         steps: 0,
+        undecided: None,
     };
     assert_eq!(run(&OP_IS_42, &cut), refused(11, 8));
     assert_eq!(run(&OP_IS_42[..47], &cut), refused(12, 0));
+}
+
+/// The verdict, the steps and the undecided entry of a text on a notice.
+fn why(text: &str, notice: &[u8]) -> (Verdict, usize, Option<usize>) {
+    let r = run(&table(text), notice);
+    assert_eq!((r.number, r.place), (0, 0), "{text}");
+    (r.verdict, r.steps, r.undecided)
+}
+
+#[test]
+fn the_first_undecided_entry() {
+    use Verdict::{Bottom, False, True};
+    // "document 01's three lines end in 48 (`S`, unchanged), 65535 and 0"
+    assert_eq!(why("Op == 42", &OP42), (True, 3, None));
+    assert_eq!(why("Op == 42", &EMPTY_NOTICE), (Bottom, 3, Some(0)));
+    let cases = [
+        ("Op == 41", False, 3, None),
+        // the comparison itself: its operands are there, of kinds that it does not take
+        ("Op > \"41\"", Bottom, 3, Some(2)),
+        ("begins-with (Op, \"4\")", Bottom, 3, Some(2)),
+        ("1 == 1 && Op / 0 > 1", Bottom, 10, Some(6)),
+        ("Op << 32 == 0", Bottom, 5, Some(2)),
+        ("1 == 1 ^^ size (Op) == 1", Bottom, 8, Some(4)),
+        // "the first": of two names that are lacking, and of the operators that follow one
+        ("1 + a * b > c", Bottom, 7, Some(1)),
+        ("! (! (a == 1))", Bottom, 5, Some(0)),
+        // "visited": what a skip passes over is not
+        ("Op == 41 && a == 1", False, 4, None),
+        ("Op == 42 || a == 1", True, 4, None),
+        ("Op == 41 && a == 1 ^^ b == 1", Bottom, 8, Some(8)),
+        // with true and false too, where bottom is gone in the end
+        ("a == 1 || Op == 42", True, 8, Some(0)),
+        ("Op == 42 && a == 1 && Op == 41", False, 13, Some(4)),
+    ];
+    for (text, verdict, steps, undecided) in cases {
+        assert_eq!(why(text, &OP42), (verdict, steps, undecided), "{text}");
+    }
+}
+
+#[test]
+fn an_entry_is_told() {
+    let entries = [(5, 2, 0, &b"Op"[..]), (1, 0, 42, b""), (32, 0, 0, b"")];
+    for (k, (op, a, b, bytes)) in entries.into_iter().enumerate() {
+        let told = Entry {
+            number: 0,
+            op,
+            a,
+            b,
+            bytes,
+        };
+        assert_eq!(entry(&OP_IS_42, k), told, "{k}");
+    }
+    assert_eq!(entry(&OP_IS_42, 0).bytes.as_ptr(), OP_IS_42[46..].as_ptr());
+    let refused = |number| Entry {
+        number,
+        op: 0,
+        a: 0,
+        b: 0,
+        bytes: b"",
+    };
+    // k at the count, and past it
+    for k in [3, 4, 256, 65_536, 65_536 * 65_536, usize::MAX] {
+        assert_eq!(entry(&OP_IS_42, k), refused(17), "{k}");
+    }
+    assert_eq!(entry(&OP_IS_42[..47], 0), refused(12));
+    assert_eq!(entry(&OP_IS_42[..47], 3), refused(12));
+    let table = table("wildcard (Cab, \"T-4?\", \"\") && -1L < 0.5");
+    let told: Vec<(u16, u16, u64, &[u8])> = (0..9)
+        .map(|k| entry(&table, k))
+        .map(|e| (e.op, e.a, e.b, e.bytes))
+        .collect();
+    let meant: [(u16, u16, u64, &[u8]); 9] = [
+        (5, 3, 0, b"Cab"),
+        (4, 4, 3, b"T-4?"),
+        (4, 0, 7, b""),
+        (60, 2, 0, b""),
+        (44, 4, 0, b""),
+        (2, 0, u64::MAX, b""),
+        (3, 0, 0.5f64.to_bits(), b""),
+        (34, 0, 0, b""),
+        (41, 0, 0, b""),
+    ];
+    assert_eq!(told, meant);
+    assert_eq!(
+        entry(&table, 2).bytes.as_ptr_range().end,
+        table.as_ptr_range().end
+    );
 }
 
 #[test]
@@ -191,6 +279,7 @@ fn empty_slices_are_answered() {
     assert_eq!(read(&[], 0).number, 11);
     assert_eq!(find(&[], b"").number, 11);
     assert_eq!(find(&EMPTY_NOTICE, b"").number, 0);
+    assert_eq!(entry(&[], 0).number, 12);
     assert_eq!(write(&mut [], 0, b"", kind::STRING, b"").number, 11);
 }
 
@@ -228,6 +317,18 @@ fn an_empty_slice_may_have_a_null_pointer() {
         )
     };
     assert_eq!((number, place, index, looked), (0, 0, 64, 1));
+    // refused by 12 and by 17: every result is set
+    for (table, length, refusal) in [(null, 0, 12), (OP_IS_42.as_ptr(), OP_IS_42.len(), 17)] {
+        let (mut op, mut a, mut b) = (9, 9, 9);
+        let (mut start, mut end) = (9, 9);
+        // SAFETY: as above.
+        let number = unsafe {
+            library::virentolex_entry(
+                table, length, 3, &mut op, &mut a, &mut b, &mut start, &mut end,
+            )
+        };
+        assert_eq!((number, op, a, b, start, end), (refusal, 0, 0, 0, 0, 0));
+    }
 }
 
 /// A notice of string fields, their names rising.
@@ -306,12 +407,14 @@ fn no_name_is_looked_at_in_what_is_no_notice() {
     assert_eq!(find(&OP42[..18], b"Op"), found(11, 0, None, 0));
 }
 
+/// An answer of the counter with no undecided entry.
 fn shown(number: u8, place: usize, count: u8, reached: bool) -> Shown {
     Shown {
         number,
         place,
         count,
         reached,
+        undecided: None,
     }
 }
 
@@ -410,7 +513,11 @@ fn two_people_are_two_staff_numbers() {
     assert_eq!(d.show(&first), shown(0, 0, 1, false));
     // "if the verdict is true": false and bottom count nobody
     assert_eq!(d.show(&other), shown(0, 0, 1, false));
-    assert_eq!(d.show(&undecided), shown(0, 0, 1, false));
+    let bottom = Shown {
+        undecided: Some(0),
+        ..shown(0, 0, 1, false)
+    };
+    assert_eq!(d.show(&undecided), bottom);
     // "whether it has reached the needed number"
     assert_eq!(d.show(&second), shown(0, 0, 2, true));
     assert_eq!(d.show(&nameless), shown(19, 0, 2, true));
@@ -449,6 +556,33 @@ fn a_ninth_person_is_20_and_one_of_the_eight_is_not() {
         again.show(&strings(&[("Staff", "y")])),
         shown(20, 0, 8, true)
     );
+}
+
+#[test]
+fn the_counter_passes_the_undecided_entry_on() {
+    // the left side is bottom on these notices, and the right side makes them true
+    let mut d = Decision::open(&table("Level > 3 || require (Console)"), 8).unwrap();
+    let answer = |number, count, reached, undecided| Shown {
+        undecided,
+        ..shown(number, 0, count, reached)
+    };
+    let nameless = strings(&[("Console", "yard")]);
+    // "with 19 and 20 too": absent, and of a kind that `>` does not take
+    assert_eq!(d.show(&nameless), answer(19, 0, false, Some(0)));
+    let level = strings(&[("Console", "yard"), ("Level", "4")]);
+    assert_eq!(d.show(&level), answer(19, 0, false, Some(2)));
+    for i in 1..=9u8 {
+        let staff = "x".repeat(i.into());
+        let notice = strings(&[("Console", "yard"), ("Staff", &staff)]);
+        let number = if i == 9 { 20 } else { 0 };
+        assert_eq!(d.show(&notice), answer(number, i.min(8), i >= 8, Some(0)));
+    }
+    // "A refused run, and a counter's call without a run, give 65535."
+    assert_eq!(d.show(&nameless[..9]), answer(11, 8, true, None));
+    let none = shown(12, 0, 0, false);
+    assert_eq!(Decision::kept([0; 600]).show(&nameless), none);
+    let opened = quorum_open(&mut [0; DECISION_MAX], &table("a == 1"), 8);
+    assert_eq!(opened, shown(0, 0, 0, false));
 }
 
 #[test]

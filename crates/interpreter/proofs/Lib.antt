@@ -1,5 +1,6 @@
 pub mod Stack
 pub mod Safe
+pub mod Firsts
 pub mod Visits
 pub mod Theorems
 pub mod Answers

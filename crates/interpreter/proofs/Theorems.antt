@@ -5,6 +5,8 @@ use mathlib.Core.List.{List, [], _∷_, map}
 use Prim.Native.Nat.{ℕ}
 use native.Mathlib.Omega.{arith}
 use lib.ListN.{length, length-map}
+use Rattle.common.proofs.Choice.{true-false}
+use Rattle.truth.specs.declared.Truth.{Truth}
 use Rattle.opcode.specs.Opcode.{Kind}
 use Rattle.table.specs.Table.{countOf, entriesOf, decode}
 use Rattle.table.specs.Check.{shapeAt, checkOf}
@@ -12,8 +14,10 @@ use Rattle.table.proofs.Theorems.{checked-ends}
 use Rattle.table.proofs.Reading.{length-entries}
 use Rattle.value.specs.Value.{Item, logic, value, truthIn, kindOf}
 use Rattle.interpreter.specs.Run.{start, slotAt, after, runOf}
-use Rattle.interpreter.specs.Theorems.{StackKinds, StackSmall, OperandKinds, RunEnds, RunSteps, RunWhole}
+use Rattle.interpreter.specs.Theorems.{StackKinds, StackSmall, OperandKinds, RunEnds, RunSteps, RunWhole, UndecidedNone, UndecidedFirst, UndecidedBottom}
+use Rattle.interpreter.specs.Undecided.{holdsBottom}
 use Rattle.interpreter.proofs.Safe.{some-same, known, operands, start-sound, always, ends, whole, shallow}
+use Rattle.interpreter.proofs.Firsts.{none-each, each-none, first-is, clean, few-entries, first-inside, first-top}
 
 pub stack-kinds : StackKinds
 stack-kinds s notice c k = let a = always s notice c k in (a .inside, a .kinds)
@@ -48,3 +52,19 @@ run-steps s notice c = let a = always s notice c (length (entriesOf s)) in omega
 pub run-whole : RunWhole
 run-whole s notice c k h =
     whole s notice c k (length (entriesOf s)) start (start-sound s notice c) (omega arith) (omega (arith, length-entries s))
+
+-- ---- document 02, request 7
+
+pub undecided-none : UndecidedNone
+undecided-none s notice c n = let few = few-entries s c in (none-each (decode s) notice few n, each-none (decode s) notice few n)
+
+pub undecided-first : UndecidedFirst
+undecided-first s notice c n f =
+    let few = few-entries s c in
+    let w = first-is (decode s) notice few n f in
+    (w .0, w .1, w .2, first-inside s notice c (w .0) (w .3), first-top s notice c (w .0) (w .3) (w .4), none-each (decode s) notice few (w .0) (w .4))
+
+pub undecided-bottom : UndecidedBottom
+undecided-bottom s notice c v e =
+    let h : holdsBottom (runOf (decode s) notice .stack) ≡ true = ap holdsBottom (run-ends s notice c .1) ∙ ap (λ (t : Truth). holdsBottom (logic t ∷ [])) v in
+    true-false (sym h ∙ clean (decode s) notice (few-entries s c) (length (entriesOf s)) e)

@@ -5,7 +5,7 @@ use mathlib.Core.List.{List, _∷_, _++_, map, reverse}
 use Prim.Native.Nat.{ℕ, suc, _+_, _-_, _*_, _<_, _≤_}
 use native.Mathlib.Numerals.{add-one}
 use native.Mathlib.Omega.{arith}
-use borrow.Author.Tests.{ltb-true, ltb-false}
+use borrow.Author.Tests.{ltb-true, ltb-false, lt-ltb}
 use lib.Dec.{ltb}
 use lib.ListN.{length, getD, set, take, drop, length-set, length-map, length-append, length-replicate}
 use Rattle.common.proofs.Choice.{true-false}
@@ -23,20 +23,23 @@ use Rattle.table.specs.Check.{skipOp, checkOf}
 use Rattle.table.proofs.Tests.{both-true}
 use Rattle.table.proofs.Theorems.{checked-layout, checked-skip}
 use Rattle.table.proofs.Laid.{laid}
-use Rattle.value.specs.Value.{Item, logic, truthIn, kindOf, unaryOf, binaryOf, manyItems, loadOf, startOf, moreOf, tallyOf}
+use Rattle.table.proofs.Reading.{length-entries}
+use Rattle.value.specs.Value.{Item, logic, truthIn, isBottom, kindOf, unaryOf, binaryOf, loadOf, startOf, moreOf, tallyOf}
 use Rattle.value.specs.Held.{itemOf, itemIn}
 use Rattle.value.specs.declared.Slot.{Slot}
 use Rattle.value.proofs.Theorems.{tally}
 use Rattle.interpreter.specs.declared.Machine.{Machine}
 use Rattle.interpreter.specs.Run.{State, slotAt, skips, stackBy, strideBy, visit, rule, afterFrom, after}
+use Rattle.interpreter.specs.Undecided.{holdsBottom, entryAfter, visits, leavesBottom, noEntry, firstFrom, undecidedAfter}
 use Rattle.interpreter.specs.Machine.{blank, stackOf, stateOf, fresh, Visited, Follows}
 use Rattle.interpreter.proofs.Stack.{stack-put, stack-length, stack-drop, stack-get, stack-up}
 use Rattle.interpreter.proofs.Safe.{Sound, known, operands, never-unknown, rule-more, after-next, after-past, always}
+use Rattle.interpreter.proofs.Firsts.{put-bottom, withNext, unchanged, first-by, few-entries, first-past}
 use Rattle.interpreter.proofs.Theorems.{stack-small}
 
 -- the machine of the loop's variables, after so many visits
-abbrev pub machine : List Slot → ℕ → ℕ → ℕ → Machine
-machine stack next depth steps = record { next = next; depth = depth; steps = steps; stack = stack }
+abbrev pub machine : List Slot → ℕ → ℕ → ℕ → ℕ → Machine
+machine stack next depth steps first = record { next = next; depth = depth; steps = steps; undecided = first; stack = stack }
 
 -- the stack as items, what a slot of it holds, and what the slots from j up hold, the deepest first
 abbrev pub items : List ℕ → List ℕ → List Slot → ℕ → List Item
@@ -49,17 +52,17 @@ abbrev pub itemsUp : List ℕ → List ℕ → List Slot → ℕ → ℕ → Lis
 itemsUp pool notice stack depth j = reverse (take (depth - j) (items pool notice stack depth))
 
 -- The loop's variables at the head of a turn: their machine follows the rule, and has made the visits of the budget that are not left; n and pool are those of the table, which passes the check.
-pub record Going (s pool notice : List ℕ) (n budget : ℕ) (stack : List Slot) (next depth left : ℕ) : Type 0 where
+pub record Going (s pool notice : List ℕ) (n budget : ℕ) (stack : List Slot) (next depth left first : ℕ) : Type 0 where
   pub checked : checkOf s ≡ true
   pub count : n ≡ countOf s
   pub strings : pool ≡ poolOf s
   pub long : length stack ≡ 32
   pub within : left ≤ budget
-  pub follows : Follows s notice (machine stack next depth (budget - left))
+  pub follows : Follows s notice (machine stack next depth (budget - left) first)
 
 -- .. and in the turn: there is a next entry, its operator is o, and a visit is left.
-pub record Visiting (s pool notice : List ℕ) (n budget : ℕ) (stack : List Slot) (next depth left : ℕ) (o : Op) : Type 0 where
-  pub going : Going s pool notice n budget stack next depth left
+pub record Visiting (s pool notice : List ℕ) (n budget : ℕ) (stack : List Slot) (next depth left first : ℕ) (o : Op) : Type 0 where
+  pub going : Going s pool notice n budget stack next depth left first
   pub more : next < n
   pub spare : 0 < left
   pub op : opOf (entryAt s next .op) ≡ o
@@ -68,9 +71,10 @@ pub record Visiting (s pool notice : List ℕ) (n budget : ℕ) (stack : List Sl
 pub as-many : (s notice : List ℕ) (k : ℕ) (m : Machine) → stateOf (poolOf s) notice m ≡ after (decode s) notice k → m .depth ≡ length (after (decode s) notice k .stack)
 as-many s notice k m e = sym (stack-length (itemOf (poolOf s) notice) (m .stack) (m .depth)) ∙ ap (λ (t : State). length (t .stack)) e
 
--- a machine whose state is the rule's has room for it
-visited : {s notice : List ℕ} {k : ℕ} {m : Machine} → checkOf s ≡ true → stateOf (poolOf s) notice m ≡ after (decode s) notice k → Visited s notice k m
-visited {s} {notice} {k} {m} c e = record { state = e; inside = omega (arith, as-many s notice k m e, stack-small s notice c k) }
+-- a machine whose state and undecided entry are the rule's has room for it
+visited : {s notice : List ℕ} {k : ℕ} {m : Machine} → checkOf s ≡ true → stateOf (poolOf s) notice m ≡ after (decode s) notice k
+    → m .undecided ≡ undecidedAfter (decode s) notice k → Visited s notice k m
+visited {s} {notice} {k} {m} c e u = record { state = e; undecided = u; inside = omega (arith, as-many s notice k m e, stack-small s notice c k) }
 
 -- what the loop's test says
 pub tested : (next n left : ℕ) → (ltb next n && ltb 0 left) ≡ true → (next < n) × (0 < left)
@@ -78,8 +82,8 @@ tested next n left e = let b = both-true (ltb next n) (ltb 0 left) e in (ltb-tru
 
 -- where a run starts
 pub begin : {s pool : List ℕ} (notice : List ℕ) (n budget : ℕ) → checkOf s ≡ true → n ≡ countOf s → pool ≡ poolOf s
-    → Going s pool notice n budget (fresh .stack) 0 0 budget
-unfolding afterFrom
+    → Going s pool notice n budget (fresh .stack) 0 0 budget noEntry
+unfolding afterFrom firstFrom
 begin {s} {pool} notice n budget c e p =
     let none : budget - budget ≡ 0 = omega arith in
     record {
@@ -88,7 +92,7 @@ begin {s} {pool} notice n budget c e p =
       strings = p;
       long = length-replicate 32 blank;
       within = omega arith;
-      follows = visited c (rw none refl);
+      follows = visited c (rw none refl) (rw none refl);
     }
 
 -- What is known of the first operand, at i, with the later ones below j: with those that are left it is what all of them give.
@@ -111,13 +115,13 @@ module _ {pool notice : List ℕ} {stack : List Slot} {depth i : ℕ} {o : Many}
         whole = rw e (sym (ap (tallyOf o (itemAt pool notice stack i) known) (stack-up (itemOf pool notice) stack j depth h)) ∙ t .whole);
       }
 
-module _ {s pool notice : List ℕ} {n budget : ℕ} {stack : List Slot} {next depth left : ℕ} where
-  module _ (l : Going s pool notice n budget stack next depth left) where
+module _ {s pool notice : List ℕ} {n budget : ℕ} {stack : List Slot} {next depth left first : ℕ} where
+  module _ (l : Going s pool notice n budget stack next depth left first) where
     -- the state over the loop's own pool, and its soundness, which every state of the rule has
-    state : stateOf pool notice (machine stack next depth (budget - left)) ≡ after (decode s) notice (budget - left)
-    state = ap (λ (p : List ℕ). stateOf p notice (machine stack next depth (budget - left))) (l .strings) ∙ l .follows .state
+    state : stateOf pool notice (machine stack next depth (budget - left) first) ≡ after (decode s) notice (budget - left)
+    state = ap (λ (p : List ℕ). stateOf p notice (machine stack next depth (budget - left) first)) (l .strings) ∙ l .follows .state
 
-    sound : Sound s (stateOf pool notice (machine stack next depth (budget - left)))
+    sound : Sound s (stateOf pool notice (machine stack next depth (budget - left) first))
     sound = subst (Sound s) (sym state) (always s notice (l .checked) (budget - left))
 
     low : depth ≤ 32
@@ -130,19 +134,21 @@ module _ {s pool notice : List ℕ} {n budget : ℕ} {stack : List Slot} {next d
     entry-fits more = known notice (l .checked) sound (rw (l .count) at more) .inside
 
     -- the last machine: all visits are made, or no entry is left
-    pub ended : (ltb next n && ltb 0 left) ≡ false → Visited s notice budget (machine stack next depth (budget - left))
+    pub ended : (ltb next n && ltb 0 left) ≡ false → Visited s notice budget (machine stack next depth (budget - left) first)
     ended = go (ltb next n) (ltb 0 left) refl refl
       where
-        go : (a b : Bool) → ltb next n ≡ a → ltb 0 left ≡ b → (a && b) ≡ false → Visited s notice budget (machine stack next depth (budget - left))
+        go : (a b : Bool) → ltb next n ≡ a → ltb 0 left ≡ b → (a && b) ≡ false → Visited s notice budget (machine stack next depth (budget - left) first)
         go true true p q e = true-false e
         go true false p q e =
             let all : budget - left ≡ budget = omega (arith, ltb-false 0 left q) in
-            subst (λ (k : ℕ). Visited s notice k (machine stack next depth (budget - left))) all (l .follows)
+            subst (λ (k : ℕ). Visited s notice k (machine stack next depth (budget - left) first)) all (l .follows)
         go false b p q e =
             let past : countOf s ≤ after (decode s) notice (budget - left) .next = omega (arith, l .count, ltb-false next n p, ap (λ (t : State). t .next) state) in
-            visited (l .checked) (l .follows .state ∙ sym (after-past s notice (budget - left) budget (omega arith) past))
+            visited (l .checked)
+            (l .follows .state ∙ sym (after-past s notice (budget - left) budget (omega arith) past))
+            (l .follows .undecided ∙ sym (first-past s notice (l .checked) (budget - left) budget (omega arith) past))
 
-  module _ {o : Op} (v : Visiting s pool notice n budget stack next depth left o) where
+  module _ {o : Op} (v : Visiting s pool notice n budget stack next depth left first o) where
     here : next < countOf s
     here = rw (v .going .count) at (v .more)
 
@@ -160,15 +166,44 @@ module _ {s pool notice : List ℕ} {n budget : ℕ} {stack : List Slot} {next d
     slot : (j : ℕ) → j < depth → slotAt (items pool notice stack depth) j ≡ itemAt pool notice stack (depth - (j + 1))
     slot j h = stack-get (itemOf pool notice) stack j depth (logic Bottom) h
 
-    -- variables that are the rule's next
-    again : (stack′ : List Slot) (next′ depth′ : ℕ) → next′ ≡ next + strideBy o (entryAt s next) (items pool notice stack depth)
-        → items pool notice stack′ depth′ ≡ stackBy pool notice o (entryAt s next) (items pool notice stack depth) → length stack′ ≡ 32
-        → Going s pool notice n budget stack′ next′ depth′ (left - 1)
-    again stack′ next′ depth′ p q long =
+    -- the first undecided entry with this visit
+    undecided : (st : List Item) (first′ : ℕ) (b : Bool) → st ≡ after (decode s) notice (budget - left + 1) .stack
+        → (holdsBottom (items pool notice stack depth) ≡ false → holdsBottom st ≡ b) → first′ ≡ withNext first next b
+        → first′ ≡ undecidedAfter (decode s) notice (budget - left + 1)
+    undecided st first′ b e f u =
         let l = v .going in
-        let t = stateOf pool notice (machine stack next depth (budget - left)) in
+        let k = budget - left in
+        let p = decode s in
+        let at : next ≡ entryAfter p notice k = ap (λ (t : State). t .next) (state l) in
+        let seen : visits p notice k ≡ true = lt-ltb (entryAfter p notice k) (length (p .entries)) (omega (arith, here, at, length-entries s)) in
+        let leaves : holdsBottom (after p notice k .stack) ≡ false → leavesBottom p notice k ≡ b =
+        λ c. ap (λ (a : Bool). a && holdsBottom (after p notice (suc k) .stack)) seen
+        ∙ ap (λ (i : ℕ). holdsBottom (after p notice i .stack)) (sym (add-one k))
+        ∙ ap holdsBottom (sym e)
+        ∙ f (ap (λ (t : State). holdsBottom (t .stack)) (state l) ∙ c) in
+        u
+        ∙ ap (λ (i : ℕ). withNext i next b) (l .follows .undecided)
+        ∙ ap (λ (i : ℕ). withNext (undecidedAfter p notice k) i b) at
+        ∙ sym (first-by p notice (few-entries s (l .checked)) k b leaves)
+        ∙ ap (undecidedAfter p notice) (sym (add-one k))
+
+    -- variables that are the rule's next
+    again : (stack′ : List Slot) (next′ depth′ first′ : ℕ) (b : Bool) → next′ ≡ next + strideBy o (entryAt s next) (items pool notice stack depth)
+        → items pool notice stack′ depth′ ≡ stackBy pool notice o (entryAt s next) (items pool notice stack depth) → length stack′ ≡ 32
+        → (holdsBottom (items pool notice stack depth) ≡ false → holdsBottom (items pool notice stack′ depth′) ≡ b) → first′ ≡ withNext first next b
+        → Going s pool notice n budget stack′ next′ depth′ (left - 1) first′
+    again stack′ next′ depth′ first′ b p q long f u =
+        let l = v .going in
+        let t = stateOf pool notice (machine stack next depth (budget - left) first) in
+        let m = machine stack′ next′ depth′ (budget - (left - 1)) first′ in
         let one : budget - (left - 1) ≡ budget - left + 1 = omega (arith, v .spare, l .within) in
-        let e : stateOf pool notice (machine stack′ next′ depth′ (budget - (left - 1))) ≡ visit pool notice (entryAt s next) t = rw (v .op, p, q, one) in
+        let e : stateOf pool notice m ≡ visit pool notice (entryAt s next) t = rw (v .op, p, q, one) in
+        let r : stateOf pool notice m ≡ after (decode s) notice (budget - left + 1) =
+        e
+        ∙ ap (λ (x : List ℕ). visit x notice (entryAt s next) t) (l .strings)
+        ∙ sym (rule-more s notice t here)
+        ∙ ap (rule (decode s) notice) (state l)
+        ∙ sym (after-next (decode s) notice (budget - left)) in
         record {
           checked = l .checked;
           count = l .count;
@@ -176,81 +211,87 @@ module _ {s pool notice : List ℕ} {n budget : ℕ} {stack : List Slot} {next d
           long = long;
           within = omega (arith, l .within);
           follows = visited (l .checked)
-              (ap (λ (x : List ℕ). stateOf x notice (machine stack′ next′ depth′ (budget - (left - 1)))) (sym (l .strings))
-              ∙ e
-              ∙ ap (λ (x : List ℕ). visit x notice (entryAt s next) t) (l .strings)
-              ∙ sym (rule-more s notice t here)
-              ∙ ap (rule (decode s) notice) (state l)
-              ∙ sym (after-next (decode s) notice (budget - left))
-              ∙ ap (after (decode s) notice) (sym one));
+              (ap (λ (x : List ℕ). stateOf x notice m) (sym (l .strings)) ∙ r ∙ ap (after (decode s) notice) (sym one))
+              (undecided (items pool notice stack′ depth′) first′ b (ap (λ (x : State). x .stack) r) f u ∙ ap (undecidedAfter (decode s) notice) (sym one));
         }
 
     -- an operator's result in the place of its j operands
-    answered : (j i depth′ : ℕ) (r : Slot) → i ≡ depth - j → depth′ ≡ i + 1 → i < 32
+    answered : (j i depth′ first′ : ℕ) (r : Slot) → i ≡ depth - j → depth′ ≡ i + 1 → i < 32
         → stackBy pool notice o (entryAt s next) (items pool notice stack depth) ≡ itemIn pool notice r ∷ drop j (items pool notice stack depth)
         → strideBy o (entryAt s next) (items pool notice stack depth) ≡ 1
-        → Going s pool notice n budget (set stack i r) (next + 1) depth′ (left - 1)
-    answered j i depth′ r e d fits q p =
+        → first′ ≡ withNext first next (isBottom (itemIn pool notice r))
+        → Going s pool notice n budget (set stack i r) (next + 1) depth′ (left - 1) first′
+    answered j i depth′ first′ r e d fits q p u =
         let f : i < length stack = omega (arith, v .going .long) in
-        again (set stack i r) (next + 1) depth′ (ap (λ (k : ℕ). next + k) (sym p))
-        (ap (items pool notice (set stack i r)) d
+        let put : items pool notice (set stack i r) depth′ ≡ itemIn pool notice r ∷ drop j (items pool notice stack depth) =
+        ap (items pool notice (set stack i r)) d
         ∙ stack-put (itemOf pool notice) stack r i f
-        ∙ ap (λ (st : List Item). itemIn pool notice r ∷ st) (ap (items pool notice stack) e ∙ sym (stack-drop (itemOf pool notice) stack j depth))
-        ∙ sym q)
-        (length-set stack i r ∙ v .going .long)
+        ∙ ap (λ (st : List Item). itemIn pool notice r ∷ st) (ap (items pool notice stack) e ∙ sym (stack-drop (itemOf pool notice) stack j depth)) in
+        again (set stack i r) (next + 1) depth′ first′ (isBottom (itemIn pool notice r)) (ap (λ (k : ℕ). next + k) (sym p)) (put ∙ sym q) (length-set stack i r ∙ v .going .long)
+        (λ c. ap holdsBottom put ∙ put-bottom (itemIn pool notice r) j (items pool notice stack depth) c) u
 
   -- ---- by group
 
-  module _ {k : Load} (v : Visiting s pool notice n budget stack next depth left (Op.Load k)) where
+  module _ {k : Load} (v : Visiting s pool notice n budget stack next depth left first (Op.Load k)) where
     pub load-fits : depth < 32
     load-fits = omega (arith, room v)
 
-    pub load-law : {l : Load} {a b : ℕ} (r : Slot) → k ≡ l → a ≡ entryAt s next .a → b ≡ entryAt s next .b → itemIn pool notice r ≡ loadOf pool notice l a b
-        → Going s pool notice n budget (set stack depth r) (next + 1) (depth + 1) (left - 1)
-    load-law r e p q f =
-        answered v 0 depth (depth + 1) r (omega arith) refl load-fits
-        (rw (e, ← p, ← q) (ap (λ (x : Item). x ∷ items pool notice stack depth) (sym f))) refl
+    pub load-law : {l : Load} {a b first′ : ℕ} (r : Slot) → k ≡ l → a ≡ entryAt s next .a → b ≡ entryAt s next .b → itemIn pool notice r ≡ loadOf pool notice l a b
+        → first′ ≡ withNext first next (isBottom (itemIn pool notice r))
+        → Going s pool notice n budget (set stack depth r) (next + 1) (depth + 1) (left - 1) first′
+    load-law {l} {a} {b} {first′} r e p q f u =
+        answered v 0 depth (depth + 1) first′ r (omega arith) refl load-fits
+        (rw (e, ← p, ← q) (ap (λ (x : Item). x ∷ items pool notice stack depth) (sym f))) refl u
 
-  module _ {k : Unary} (v : Visiting s pool notice n budget stack next depth left (Op.Unary k)) where
+    -- a number or a string is never bottom
+    pub load-known : {l : Load} {a b : ℕ} (r : Slot) → k ≡ l → a ≡ entryAt s next .a → b ≡ entryAt s next .b → itemIn pool notice r ≡ loadOf pool notice l a b
+        → isBottom (loadOf pool notice l a b) ≡ false
+        → Going s pool notice n budget (set stack depth r) (next + 1) (depth + 1) (left - 1) first
+    load-known r e p q f z = load-law r e p q f (unchanged first next (ap isBottom f ∙ z))
+
+  module _ {k : Unary} (v : Visiting s pool notice n budget stack next depth left first (Op.Unary k)) where
     pub unary-fits : (1 ≤ depth) × (depth ≤ 32)
     unary-fits = (room v .0, low (v .going))
 
-    pub unary-law : {l : Unary} (r : Slot) → k ≡ l → itemIn pool notice r ≡ unaryOf l (itemAt pool notice stack (depth - 1))
-        → Going s pool notice n budget (set stack (depth - 1) r) (next + 1) depth (left - 1)
-    unary-law r e f =
+    pub unary-law : {l : Unary} {first′ : ℕ} (r : Slot) → k ≡ l → itemIn pool notice r ≡ unaryOf l (itemAt pool notice stack (depth - 1))
+        → first′ ≡ withNext first next (isBottom (itemIn pool notice r))
+        → Going s pool notice n budget (set stack (depth - 1) r) (next + 1) depth (left - 1) first′
+    unary-law {l} {first′} r e f u =
         let h = unary-fits in
-        answered v 1 (depth - 1) depth r refl (omega arith) (omega arith)
-        (rw (e, slot v 0 (h .0)) (ap (λ (x : Item). x ∷ drop 1 (items pool notice stack depth)) (sym f))) refl
+        answered v 1 (depth - 1) depth first′ r refl (omega arith) (omega arith)
+        (rw (e, slot v 0 (h .0)) (ap (λ (x : Item). x ∷ drop 1 (items pool notice stack depth)) (sym f))) refl u
 
-  module _ {k : Binary} (v : Visiting s pool notice n budget stack next depth left (Op.Binary k)) where
+  module _ {k : Binary} (v : Visiting s pool notice n budget stack next depth left first (Op.Binary k)) where
     pub binary-fits : (2 ≤ depth) × (depth ≤ 32)
     binary-fits = (room v .0, low (v .going))
 
-    pub binary-law : {l : Binary} (r : Slot) → k ≡ l → itemIn pool notice r ≡ binaryOf l (itemAt pool notice stack (depth - 2)) (itemAt pool notice stack (depth - 1))
-        → Going s pool notice n budget (set stack (depth - 2) r) (next + 1) (depth - 1) (left - 1)
-    binary-law r e f =
+    pub binary-law : {l : Binary} {first′ : ℕ} (r : Slot) → k ≡ l → itemIn pool notice r ≡ binaryOf l (itemAt pool notice stack (depth - 2)) (itemAt pool notice stack (depth - 1))
+        → first′ ≡ withNext first next (isBottom (itemIn pool notice r))
+        → Going s pool notice n budget (set stack (depth - 2) r) (next + 1) (depth - 1) (left - 1) first′
+    binary-law {l} {first′} r e f u =
         let h = binary-fits in
-        answered v 2 (depth - 2) (depth - 1) r refl (omega arith) (omega arith)
-        (rw (e, slot v 0 (omega arith), slot v 1 (omega arith)) (ap (λ (x : Item). x ∷ drop 2 (items pool notice stack depth)) (sym f))) refl
+        answered v 2 (depth - 2) (depth - 1) first′ r refl (omega arith) (omega arith)
+        (rw (e, slot v 0 (omega arith), slot v 1 (omega arith)) (ap (λ (x : Item). x ∷ drop 2 (items pool notice stack depth)) (sym f))) refl u
 
-  module _ {k : Many} (v : Visiting s pool notice n budget stack next depth left (Op.Many k)) {a : ℕ} (is : a ≡ entryAt s next .a) where
+  module _ {k : Many} (v : Visiting s pool notice n budget stack next depth left first (Op.Many k)) {a : ℕ} (is : a ≡ entryAt s next .a) where
     pub many-fits : (a + 1 ≤ depth) × (depth ≤ 32)
     many-fits = (omega (arith, room v, length-replicate (entryAt s next .a) Kind.value), low (v .going))
 
     -- what is known with all later operands
-    pub many-law : {known : Truth} {j : ℕ} (r : Slot) → Tallied pool notice stack depth k (depth - (a + 1)) known j → depth ≤ j → itemIn pool notice r ≡ logic known
-        → Going s pool notice n budget (set stack (depth - (a + 1)) r) (next + 1) (depth - (a + 1) + 1) (left - 1)
-    many-law {known} {j} r t end f =
+    pub many-law : {known : Truth} {j first′ : ℕ} (r : Slot) → Tallied pool notice stack depth k (depth - (a + 1)) known j → depth ≤ j → itemIn pool notice r ≡ logic known
+        → first′ ≡ withNext first next (isBottom (itemIn pool notice r))
+        → Going s pool notice n budget (set stack (depth - (a + 1)) r) (next + 1) (depth - (a + 1) + 1) (left - 1) first′
+    many-law {known} {j} {first′} r t end f u =
         let h = many-fits in
         let st = items pool notice stack depth in
         let x = itemAt pool notice stack (depth - (a + 1)) in
         let none : depth - j ≡ 0 = omega arith in
         let all : depth - (depth - (a + 1) + 1) ≡ a = omega arith in
         let w : known ≡ tallyOf k x (startOf k x) (reverse (take a st)) = rw (none, all) at (t .whole) in
-        answered v (a + 1) (depth - (a + 1)) (depth - (a + 1) + 1) r refl refl (omega arith)
-        (rw (add-one a, ← is, slot v a (omega arith)) (ap (λ (y : Item). y ∷ drop (suc a) st) (sym (f ∙ ap logic w ∙ tally k x (reverse (take a st)))))) refl
+        answered v (a + 1) (depth - (a + 1)) (depth - (a + 1) + 1) first′ r refl refl (omega arith)
+        (rw (add-one a, ← is, slot v a (omega arith)) (ap (λ (y : Item). y ∷ drop (suc a) st) (sym (f ∙ ap logic w ∙ tally k x (reverse (take a st)))))) refl u
 
-  module _ {k : Skip} (v : Visiting s pool notice n budget stack next depth left (Op.Skip k)) where
+  module _ {k : Skip} (v : Visiting s pool notice n budget stack next depth left first (Op.Skip k)) where
     pub skip-fits : (1 ≤ depth) × (depth ≤ 32)
     skip-fits = (room v .0, low (v .going))
 
@@ -258,8 +299,8 @@ module _ {s pool notice : List ℕ} {n budget : ℕ} {stack : List Slot} {next d
     skip-room is = omega (arith, checked-skip s (v .going .checked) next (here v) (ap skipOp (v .op)) .0, few (v .going), v .going .count)
 
     pub skip-law : {a far : ℕ} → a ≡ entryAt s next .a → far ≡ cond (skips k (truthIn (itemAt pool notice stack (depth - 1)))) (a + 1) 1
-        → Going s pool notice n budget stack (next + far) depth (left - 1)
-    skip-law {a} {far} is f = again v stack (next + far) depth (rw (slot v 0 (skip-fits .0), ← is, f)) refl (v .going .long)
+        → Going s pool notice n budget stack (next + far) depth (left - 1) first
+    skip-law {a} {far} is f = again v stack (next + far) depth first false (rw (slot v 0 (skip-fits .0), ← is, f)) refl (v .going .long) (λ c. c) (unchanged first next refl)
 
-  pub no-unknown : Visiting s pool notice n budget stack next depth left Op.Unknown → ⊥
+  pub no-unknown : Visiting s pool notice n budget stack next depth left first Op.Unknown → ⊥
   no-unknown v = never-unknown notice (v .going .checked) (sound (v .going)) (here v) (v .op)

@@ -12,6 +12,7 @@ use Rattle.value.specs.declared.Held.{Held}
 use Rattle.value.specs.declared.Slot.{Slot}
 use Rattle.interpreter.specs.declared.Machine.{Machine}
 use Rattle.interpreter.specs.Run.{State, after}
+use Rattle.interpreter.specs.Undecided.{noEntry, undecidedAfter}
 
 -- what an unused slot holds
 abbrev pub blank : Slot
@@ -28,12 +29,13 @@ stateOf pool notice m = record { next = m .next; stack = stackOf (itemOf pool no
 
 -- "The run starts at entry 0 with an empty stack."
 abbrev pub fresh : Machine
-fresh = record { stack = replicate 32 blank; depth = 0; next = 0; steps = 0 }
+fresh = record { stack = replicate 32 blank; depth = 0; next = 0; steps = 0; undecided = noEntry }
 
--- A machine after so many visits, or after as many as there are: its next entry, whole stack and steps are those of the rule, and its slots are slots of the array.
+-- A machine after so many visits, or after as many as there are: its next entry, whole stack and steps are those of the rule, its first undecided entry is that of these visits, and its slots are slots of the array.
 -- What the slots above the depth hold, and which of the stretches of pool and notice that give a string's bytes its slot names, is no part of the state.
 pub record Visited (table notice : List ℕ) (visits : ℕ) (m : Machine) : Type 0 where
   pub state : stateOf (poolOf table) notice m ≡ after (decode table) notice visits
+  pub undecided : m .undecided ≡ undecidedAfter (decode table) notice visits
   pub inside : m .depth ≤ 32
 
 -- "After each visit the runner's own next entry and whole stack are those of this rule": a machine is the rule's after as many visits as it has counted.

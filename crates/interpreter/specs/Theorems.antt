@@ -1,15 +1,18 @@
 -- What holds of the run of every checked table, compiled or not, on every notice. The proofs are in proofs/Theorems.antt, under the same names.
-use Prim.Native.Nat.{ℕ, _≤_, _<_}
+use Prim.Native.Nat.{ℕ, suc, _≤_, _<_}
 use mathlib.Core.Path.{_≡_}
-use mathlib.Core.Bool.{true}
+use mathlib.Core.Logic.{_↔_}
+use mathlib.Core.Bool.{true, false}
 use mathlib.Core.List.{List, [], _∷_, _++_, map}
 use mathlib.Core.Option.{some}
 use lib.ListN.{length}
 use Rattle.opcode.specs.Opcode.{opOf, Kind, takesOf}
 use Rattle.table.specs.Table.{countOf, entryAt, entriesOf, decode}
 use Rattle.table.specs.Check.{shapeAt, checkOf}
-use Rattle.value.specs.Value.{logic, kindOf}
-use Rattle.interpreter.specs.Run.{after, runOf, verdictOf}
+use Rattle.truth.specs.declared.Truth.the-variants.{Bottom}
+use Rattle.value.specs.Value.{logic, kindOf, isBottom}
+use Rattle.interpreter.specs.Run.{slotAt, after, runOf, verdictOf}
+use Rattle.interpreter.specs.Undecided.{entryAfter, leavesBottom, noEntry, undecidedAfter, undecidedOf}
 
 -- After any number of visits the stack's kinds are those that the check found before the next entry, which is at most N.
 abbrev pub StackKinds : Type 0
@@ -42,3 +45,20 @@ RunSteps = (s notice : List ℕ) → checkOf s ≡ true → runOf (decode s) not
 -- .. and after N visits nothing is left to visit.
 abbrev pub RunWhole : Type 0
 RunWhole = (s notice : List ℕ) → checkOf s ≡ true → (k : ℕ) → countOf s ≤ k → after (decode s) notice k ≡ runOf (decode s) notice
+
+-- ---- document 02, request 7: "the number of the first visited entry that left bottom on the stack, counted from 0, or 65535 if none did"
+
+-- Of n visits none left bottom on the stack exactly if 65535 is answered.
+abbrev pub UndecidedNone : Type 0
+UndecidedNone = (s notice : List ℕ) → checkOf s ≡ true → (n : ℕ) → (undecidedAfter (decode s) notice n ≡ noEntry) ↔ ((k : ℕ) → k < n → leavesBottom (decode s) notice k ≡ false)
+
+-- Else it is the entry of the first that did: one of the table's, visited; it left bottom on the stack, on top, and no visit before it left any.
+abbrev pub UndecidedFirst : Type 0
+UndecidedFirst =
+    (s notice : List ℕ) → checkOf s ≡ true → (n : ℕ) → (undecidedAfter (decode s) notice n ≡ noEntry → ⊥)
+    → (k : ℕ) × (k < n) × (undecidedAfter (decode s) notice n ≡ entryAfter (decode s) notice k) × (entryAfter (decode s) notice k < countOf s)
+    × (isBottom (slotAt (after (decode s) notice (suc k) .stack) 0) ≡ true) × ((j : ℕ) → j < k → leavesBottom (decode s) notice j ≡ false)
+
+-- With verdict bottom there is one.
+abbrev pub UndecidedBottom : Type 0
+UndecidedBottom = (s notice : List ℕ) → checkOf s ≡ true → verdictOf (runOf (decode s) notice) ≡ Bottom → undecidedOf (decode s) notice ≡ noEntry → ⊥

@@ -1,15 +1,16 @@
 // The run of a table on a notice. Document 01, "Table" (the run) and "Refusals by number" (running).
 ghost use mathlib.Core.Path.{_≡_};
-ghost use mathlib.Core.Bool.{true, cond};
+ghost use mathlib.Core.Bool.{true, cond, _&&_};
 ghost use mathlib.Core.List.{List};
-ghost use Prim.Native.Nat.{ℕ, _+_, _≤_};
+ghost use Prim.Native.Nat.{ℕ, _+_, _≤_, _<_};
+ghost use lib.Dec.{eqb};
 ghost use Rattle.notice.specs.Layout.{checkOf as noticeCheck, Indexed};
 ghost use Rattle.notice.specs.declared.Layout.the-variants.{WellFormed};
 ghost use Rattle.table.specs.Table.{decode};
 ghost use Rattle.table.specs.Check.{checkOf};
-ghost use Rattle.value.specs.Value.{truthIn};
+ghost use Rattle.value.specs.Value.{truthIn, isBottom};
 ghost use Rattle.value.specs.Held.{itemIn};
-ghost use Rattle.interpreter.specs.Run.{skips, runOf};
+ghost use Rattle.interpreter.specs.Run.{skips};
 ghost use Rattle.interpreter.specs.Machine.{Visited};
 ghost use Rattle.interpreter.specs.Running.{refused as refusedWith, answerOf, runningOf};
 use notice::Layout;
@@ -22,11 +23,12 @@ use truth::Truth;
 use value::Held;
 use value::Slot;
 
-// The next entry, how many of the stack's slots are taken, the entries visited, and the slots, the topmost last.
+// The next entry, how many of the stack's slots are taken, the entries visited, the first of them that left bottom on the stack, and the slots, the topmost last.
 pub struct Machine {
     pub next: usize,
     pub depth: usize,
     pub steps: usize,
+    pub undecided: u16,
     pub stack: [Slot; 32],
 }
 
@@ -51,6 +53,17 @@ fn stride(skip: Skip, a: u16, top: Slot) -> usize
     }
 }
 
+// The first undecided entry with one more visited: `first` so far, 65535 for none; the entry `at` left `top` on the stack.
+fn noted(first: u16, at: usize, top: Slot) -> u16
+    requires { ⌜ at < 512 ⌝ }
+    ensures { λ r. ⌜ ((p : List ℕ) → (q : List ℕ) → r ≡ cond (eqb first 65535 && isBottom (itemIn p q top)) at first) ⌝ }
+{
+    if (first == 65535) & value::is_bottom(top) {
+        return at as u16;
+    }
+    first
+}
+
 // The inner run: at most `budget` visits, or as many as there are. It asks for a table that passes the check, a notice found well-formed and the starts of its fields, so that a caller checks each once and runs often.
 // "After each visit the runner's own next entry and whole stack are those of this rule": `Visited`. Two things are left free. The slots above the depth hold whatever earlier visits left in them; the array has 32 slots, and the depth is
 // at most 32. Where a string lies is not told: its slot names some stretch of the pool or of the notice, with a mark or without, that gives the string's bytes.
@@ -73,6 +86,7 @@ pub fn run_indexed<'a>(
     let mut next = 0;
     let mut depth = 0;
     let mut left = budget;
+    let mut first: u16 = 65535;
     while (next < n) & (0 < left) {
         let at = next;
         left = left - 1;
@@ -97,13 +111,15 @@ pub fn run_indexed<'a>(
                     depth = depth + 1;
                 }
                 Load::Name => {
-                    stack[depth] = value::load_name(
+                    let r = value::load_name(
                         pool,
                         notice,
                         starts,
                         table::a_at(table, at),
                         table::b_at(table, at),
                     );
+                    stack[depth] = r;
+                    first = noted(first, at, r);
                     depth = depth + 1;
                 }
             },
@@ -111,17 +127,23 @@ pub fn run_indexed<'a>(
                 Unary::Not => {
                     let i = depth - 1;
                     let x = stack[i];
-                    stack[i] = value::not(x);
+                    let r = value::not(x);
+                    stack[i] = r;
+                    first = noted(first, at, r);
                 }
                 Unary::Change(o) => {
                     let i = depth - 1;
                     let x = stack[i];
-                    stack[i] = value::change(pool, notice, o, x);
+                    let r = value::change(pool, notice, o, x);
+                    stack[i] = r;
+                    first = noted(first, at, r);
                 }
                 Unary::Test(o) => {
                     let i = depth - 1;
                     let x = stack[i];
-                    stack[i] = value::test(o, x);
+                    let r = value::test(o, x);
+                    stack[i] = r;
+                    first = noted(first, at, r);
                 }
             },
             Op::Binary(k) => match k {
@@ -130,21 +152,27 @@ pub fn run_indexed<'a>(
                     depth = depth - 1;
                     let y = stack[depth];
                     let x = stack[i];
-                    stack[i] = value::combine(o, x, y);
+                    let r = value::combine(o, x, y);
+                    stack[i] = r;
+                    first = noted(first, at, r);
                 }
                 Binary::Compare(o) => {
                     let i = depth - 2;
                     depth = depth - 1;
                     let y = stack[depth];
                     let x = stack[i];
-                    stack[i] = value::compare(pool, notice, o, x, y);
+                    let r = value::compare(pool, notice, o, x, y);
+                    stack[i] = r;
+                    first = noted(first, at, r);
                 }
                 Binary::Connect(o) => {
                     let i = depth - 2;
                     depth = depth - 1;
                     let y = stack[depth];
                     let x = stack[i];
-                    stack[i] = value::connect(o, x, y);
+                    let r = value::connect(o, x, y);
+                    stack[i] = r;
+                    first = noted(first, at, r);
                 }
             },
             Op::Many(k) => {
@@ -157,7 +185,9 @@ pub fn run_indexed<'a>(
                     known = value::more(pool, notice, k, x, known, y);
                     j = j + 1;
                 }
-                stack[i] = value::decided(known);
+                let r = value::decided(known);
+                stack[i] = r;
+                first = noted(first, at, r);
                 depth = i + 1;
             }
             Op::Skip(k) => {
@@ -172,16 +202,18 @@ pub fn run_indexed<'a>(
         next,
         depth,
         steps: budget - left,
+        undecided: first,
         stack,
     }
 }
 
-// "Running answers number, place, verdict (bottom if refused) and steps (0 if refused)."
+// "Running answers number, place, verdict (bottom if refused) and steps (0 if refused)."; and the first undecided entry (document 02, request 7).
 pub struct Ran {
     pub number: u8,
     pub place: usize,
     pub verdict: Truth,
     pub steps: usize,
+    pub undecided: u16,
 }
 
 fn refused(number: u8, place: usize) -> Ran
@@ -192,6 +224,7 @@ fn refused(number: u8, place: usize) -> Ran
         place: place,
         verdict: Truth::Bottom,
         steps: 0,
+        undecided: 65535,
     }
 }
 
@@ -208,7 +241,7 @@ pub fn run_checked<'a>(table: &'a [u8], notice: &'a [u8], budget: usize) -> Mach
 // The whole run, with what `run_indexed` asks: "At N it ends and the one slot is the verdict."
 pub fn run_whole<'a>(table: &'a [u8], notice: &'a [u8], starts: &[u16; 64]) -> Ran
     requires { ⌜ (checkOf (now table) ≡ true) × (noticeCheck (now notice) ≡ WellFormed) × Indexed (now notice) (now starts) ⌝ }
-    ensures { λ r. ⌜ r ≡ answerOf (runOf (decode (now (table .entry))) (now (notice .entry))) ⌝ }
+    ensures { λ r. ⌜ r ≡ answerOf (decode (now (table .entry))) (now (notice .entry)) ⌝ }
 {
     let n = table::count(table);
     let m = run_indexed(table, notice, starts, n);
@@ -219,6 +252,7 @@ pub fn run_whole<'a>(table: &'a [u8], notice: &'a [u8], starts: &[u16; 64]) -> R
         place: 0,
         verdict: verdict,
         steps: m.steps,
+        undecided: m.undecided,
     }
 }
 

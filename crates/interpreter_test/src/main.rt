@@ -26,6 +26,8 @@ fn put_ran(ran: Ran) {
     let verdict = ran.verdict;
     put_truth(verdict);
     put_number(ran.steps as u64);
+    put(b" ");
+    put_number(ran.undecided as u64);
     put(b"\n");
 }
 

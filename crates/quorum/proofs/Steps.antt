@@ -25,7 +25,7 @@ use Rattle.quorum.proofs.Counting.{collect, collect-append}
 use Rattle.quorum.proofs.Reading.{Holding, holds, length-values}
 use Rattle.quorum.proofs.Writing.{Keeps, added-keeps}
 use Rattle.quorum.proofs.Staff.{staff-short, staff-string}
-use Rattle.quorum.proofs.Turns.{Delivered, Told, told, answer-by, bytes-by}
+use Rattle.quorum.proofs.Turns.{Delivered, Told, told, undecidedIn, answer-by, bytes-by}
 
 -- ---- one notice
 
@@ -70,7 +70,7 @@ module _ (s notice after : List ℕ) (a : Shown) (h : Holding s) (w : Shows s no
   held : holdsOf s ≡ true
   held = holds s h
 
-  answer-is : (t : Turn) → t ≡ turnOf (kept s) notice → a ≡ answerBy t (countOf s) (neededOf s)
+  answer-is : (t : Turn) → t ≡ turnOf (kept s) notice → a ≡ answerBy t (countOf s) (neededOf s) (undecidedIn s notice)
   answer-is t e = w .answer ∙ answer-by s notice held t e
 
   bytes-are : (t : Turn) → t ≡ turnOf (kept s) notice → after ≡ bytesBy t s (staffOf notice)
@@ -83,7 +83,7 @@ module _ (s notice after : List ℕ) (a : Shown) (h : Holding s) (w : Shows s no
   keeps-with x l m q z k = rw (q, z) k
 
   -- refused or short of true: all is as it stood
-  uncounted-step : (number place : ℕ) → a ≡ shownAs number place (countOf s) (neededOf s) → after ≡ s → counts (tableOf s) event ≡ false → countsBy (tableOf s) (valuesOf s) notice ≡ false
+  uncounted-step : (number place : ℕ) → a ≡ shownAs number place (countOf s) (neededOf s) (undecidedIn s notice) → after ≡ s → counts (tableOf s) event ≡ false → countsBy (tableOf s) (valuesOf s) notice ≡ false
       → ((v : List ℕ) → staffsOf notice ≡ v ∷ [] → has v (valuesOf s) ≡ true → number ≡ 20 → ⊥) → (number ≡ 12 → ⊥) → Stepped
   unfolding collect
   uncounted-step number place p q f c u v =
@@ -123,7 +123,7 @@ module _ (s notice after : List ℕ) (a : Shown) (h : Holding s) (w : Shows s no
     counts-by b c e f = rw (eq-eqb _ 0 (d .accepted), d .holds-true, le-leb 1 (length v) x, e, f)
 
     -- not refused
-    accepted-step : (count : ℕ) → a ≡ shownAs 0 0 count (neededOf s) → countsBy (tableOf s) (valuesOf s) notice ≡ true
+    accepted-step : (count : ℕ) → a ≡ shownAs 0 0 count (neededOf s) (undecidedIn s notice) → countsBy (tableOf s) (valuesOf s) notice ≡ true
         → (count ≡ length (collect (valuesOf s) (v ∷ []))) → Keeps after (tableOf s) (neededOf s) (collect (valuesOf s) (v ∷ [])) → Stepped
     accepted-step count p c l k =
         let o : a .number ≡ 0 = ap (λ (y : Shown). y .number) p in

@@ -19,7 +19,7 @@ use Rattle.interpreter.proofs.Answers.{ran-well}
 use Rattle.quorum.specs.declared.Turn.{Turn}
 use Rattle.quorum.specs.declared.Turn.the-variants.{Keep, Add, Refuse}
 use Rattle.quorum.specs.declared.Shown.{Shown}
-use Rattle.quorum.specs.Decision.{Decision, has, neededOf, countOf, kept, holdsOf, addedTo}
+use Rattle.quorum.specs.Decision.{Decision, has, tableOf, neededOf, countOf, kept, holdsOf, addedTo}
 use Rattle.quorum.specs.Showing.{nothingYet, staffOf, staffTurn, turnBy, turnOf, answerBy, adds, bytesBy, showOf, shownBytes, Shows, Gives}
 use Rattle.quorum.proofs.Reading.{length-values}
 
@@ -110,13 +110,17 @@ module _ (t : Turn) (s v : List ℕ) where
       go true = length-sets (set s 7 (countOf s + 1)) (8 + 65 * countOf s) (length v ∷ v) ∙ length-set s 7 (countOf s + 1)
       go false = refl
 
+-- the first undecided entry of the notice's run, which is passed on
+abbrev pub undecidedIn : List ℕ → List ℕ → ℕ
+undecidedIn s notice = runningOf (tableOf s) notice .undecided
+
 module _ (s notice : List ℕ) where
   pub not-held : holdsOf s ≡ false → Shows s notice s (nothingYet 12)
   not-held e = record { answer = rw e; bytes = rw e }
 
   module _ (h : holdsOf s ≡ true) where
     -- what is answered, and the bytes afterwards, by what the notice is
-    pub answer-by : (t : Turn) → t ≡ turnOf (kept s) notice → showOf s notice ≡ answerBy t (countOf s) (neededOf s)
+    pub answer-by : (t : Turn) → t ≡ turnOf (kept s) notice → showOf s notice ≡ answerBy t (countOf s) (neededOf s) (undecidedIn s notice)
     answer-by t e = rw (h, ← e, length-values s 0 (countOf s))
 
     pub bytes-by : (t : Turn) → t ≡ turnOf (kept s) notice → shownBytes s notice ≡ bytesBy t s (staffOf notice)
@@ -132,16 +136,18 @@ module _ (s notice : List ℕ) where
       pub free-place : adds t ≡ true → countOf s < 8
       free-place a = omega (arith, added a .1, length-values s 0 (countOf s))
 
-      pub shows-by : (after : List ℕ) (r : Shown) → r ≡ answerBy t (countOf s) (neededOf s) → after ≡ bytesBy t s (staffOf notice) → Shows s notice after r
-      shows-by after r p q = record { answer = p ∙ sym (answer-by t e); bytes = q ∙ sym (bytes-by t e) }
+      pub shows-by : (ran : Ran) (after : List ℕ) (r : Shown) → ran ≡ runningOf (tableOf s) notice → r ≡ answerBy t (countOf s) (neededOf s) (ran .undecided) → after ≡ bytesBy t s (staffOf notice) → Shows s notice after r
+      shows-by ran after r g p q =
+          record { answer = p ∙ (ap (λ (x : Ran). answerBy t (countOf s) (neededOf s) (x .undecided)) g ∙ sym (answer-by t e)); bytes = q ∙ sym (bytes-by t e) }
 
 -- ---- in the interface for C
 
 -- the fields of an answer, one by one
-pub gives : (a b : Shown) (flag : ℕ) → a ≡ b → flag ≡ cond (a .reached) 1 0 → Gives b (a .number) (a .place) (a .count) flag
+pub gives : (a b : Shown) (flag : ℕ) → a ≡ b → flag ≡ cond (a .reached) 1 0 → Gives b (a .number) (a .place) (a .count) flag (a .undecided)
 gives a b flag e f = record {
   number-is = ap (λ (x : Shown). x .number) e;
   place-is = ap (λ (x : Shown). x .place) e;
   count-is = ap (λ (x : Shown). x .count) e;
   reached-is = f ∙ ap (λ (x : Shown). cond (x .reached) 1 0) e;
+  undecided-is = ap (λ (x : Shown). x .undecided) e;
 }

@@ -13,6 +13,7 @@ use Rattle.notice.specs.Layout.{unless, fieldsOf}
 use Rattle.notice.specs.Lookup.{fieldNamed}
 use Rattle.table.specs.Check.{checkOf as tableCheck, refusalOf}
 use Rattle.interpreter.specs.declared.Ran.{Ran}
+use Rattle.interpreter.specs.Undecided.{noEntry}
 use Rattle.interpreter.specs.Running.{runningOf}
 use Rattle.quorum.specs.declared.Turn.{Turn}
 use Rattle.quorum.specs.declared.Turn.the-variants.{Keep, Add, Refuse}
@@ -21,13 +22,13 @@ use Rattle.quorum.specs.Decision.{Decision, has, decisionOf, openedWith,
 
 -- ---- what is answered
 
--- "The answer is the count and whether it has reached the needed number."
-abbrev pub shownAs : ℕ → ℕ → ℕ → ℕ → Shown
-shownAs number place count needed = record { number = number; place = place; count = count; reached = leb needed count }
+-- "The answer is the count and whether it has reached the needed number."; document 02, request 7: the run's first undecided entry, which "the quorum counter passes on"
+abbrev pub shownAs : ℕ → ℕ → ℕ → ℕ → ℕ → Shown
+shownAs number place count needed undecided = record { number = number; place = place; count = count; reached = leb needed count; undecided = undecided }
 
--- "(at opening and with 12: 0, not reached)"
+-- "(at opening and with 12: 0, not reached)"; request 7: "a counter's call without a run, give[s] 65535"
 abbrev pub nothingYet : ℕ → Shown
-nothingYet number = record { number = number; place = 0; count = 0; reached = false }
+nothingYet number = record { number = number; place = 0; count = 0; reached = false; undecided = noEntry }
 
 -- ---- opening
 
@@ -93,11 +94,11 @@ turnOf d notice = turnBy (runningOf (d .table) notice) (λ _. staffTurn (staffOf
 
 -- ---- showing
 
--- "a refusal answers its number, the run's place and the rest as it stood"
-abbrev pub answerBy : Turn → ℕ → ℕ → Shown
-answerBy Keep count needed = shownAs 0 0 count needed
-answerBy Add count needed = shownAs 0 0 (count + 1) needed
-answerBy (Refuse number place) count needed = shownAs number place count needed
+-- "a refusal answers its number, the run's place and the rest as it stood"; request 7: the run's first undecided entry with each, "with 19 and 20 too"
+abbrev pub answerBy : Turn → ℕ → ℕ → ℕ → Shown
+answerBy Keep count needed undecided = shownAs 0 0 count needed undecided
+answerBy Add count needed undecided = shownAs 0 0 (count + 1) needed undecided
+answerBy (Refuse number place) count needed undecided = shownAs number place count needed undecided
 
 -- whether the Staff is added
 abbrev pub adds : Turn → Bool
@@ -116,7 +117,7 @@ onDecision (some d) f x = f d
 
 -- "at a notice first 12 unless the decision keeps .."
 abbrev pub showOf : List ℕ → List ℕ → Shown
-showOf s notice = onDecision (decisionOf s) (λ d. answerBy (turnOf d notice) (length (d .values)) (d .needed)) (nothingYet 12)
+showOf s notice = onDecision (decisionOf s) (λ d. answerBy (turnOf d notice) (length (d .values)) (d .needed) (runningOf (d .table) notice .undecided)) (nothingYet 12)
 
 -- the buffer afterwards
 abbrev pub shownBytes : List ℕ → List ℕ → List ℕ
@@ -129,9 +130,10 @@ pub record Shows (s notice after : List ℕ) (r : Shown) : Type 0 where
 
 -- ---- in the interface for C
 
--- an answer as four numbers: reached is 1, and 0 if not
-pub record Gives (a : Shown) (number place count reached : ℕ) : Type 0 where
+-- an answer as five numbers: reached is 1, and 0 if not
+pub record Gives (a : Shown) (number place count reached undecided : ℕ) : Type 0 where
   pub number-is : number ≡ a .number
   pub place-is : place ≡ a .place
   pub count-is : count ≡ a .count
   pub reached-is : reached ≡ cond (a .reached) 1 0
+  pub undecided-is : undecided ≡ a .undecided

@@ -56,7 +56,7 @@ fn judge(buffer: &[u8], v: &[u8]) -> Turn
 }
 
 // The run of the table that a decision keeps.
-fn run_in<'a>(buffer: &'a [u8], notice: &'a [u8]) -> Ran
+pub fn run_in<'a>(buffer: &'a [u8], notice: &'a [u8]) -> Ran
     requires { ⌜ holdsOf (now buffer) ≡ true ⌝ }
     ensures { λ r. ⌜ r ≡ runningOf (tableOf (now (buffer .entry))) (now (notice .entry)) ⌝ }
 {
@@ -64,12 +64,11 @@ fn run_in<'a>(buffer: &'a [u8], notice: &'a [u8]) -> Ran
     interpreter::run_kept(&buffer[528..size], notice)
 }
 
-// "Each notice shown to it is run": refused with the run; by its Staff, if the verdict is true; else left aside.
-pub fn turn_of<'a>(buffer: &'a [u8], notice: &'a [u8]) -> Turn
-    requires { ⌜ holdsOf (now buffer) ≡ true ⌝ }
+// "Each notice shown to it is run", and `ran` is what the run answered: refused with the run; by its Staff, if the verdict is true; else left aside.
+pub fn turn_of(buffer: &[u8], notice: &[u8], ran: Ran) -> Turn
+    requires { ⌜ (holdsOf (now buffer) ≡ true) × (ran ≡ runningOf (tableOf (now buffer)) (now notice)) ⌝ }
     ensures { λ r. ⌜ r ≡ turnOf (kept (now (buffer .entry))) (now (notice .entry)) ⌝ }
 {
-    let ran = run_in(buffer, notice);
     if ran.number != 0 {
         return Turn::Refuse {
             number: ran.number,

@@ -6,18 +6,20 @@ ghost use Rattle.quorum.specs.Showing.{shownAs, nothingYet, openRefusal,
 mod judging;
 mod state;
 
+use judging::run_in;
 use judging::staff;
 use judging::turn_of;
 use state::add;
 use state::holds;
 use state::keep;
 
-// What opening and showing answer: the number of the refusal, 0 for none, the run's place, the count, and whether it has reached the needed number.
+// What opening and showing answer: the number of the refusal, 0 for none, the run's place, the count, whether it has reached the needed number, and the run's first undecided entry (request 7).
 pub struct Shown {
     pub number: u8,
     pub place: usize,
     pub count: u8,
     pub reached: bool,
+    pub undecided: u16,
 }
 
 // What a notice is to a decision: it leaves it as it stood, adds its Staff, or is refused.
@@ -28,14 +30,15 @@ enum Turn {
 }
 
 // "The answer is the count and whether it has reached the needed number."
-fn answer(number: u8, place: usize, count: u8, needed: u8) -> Shown
-    ensures { λ r. ⌜ r ≡ shownAs number place count needed ⌝ }
+fn answer(number: u8, place: usize, count: u8, needed: u8, undecided: u16) -> Shown
+    ensures { λ r. ⌜ r ≡ shownAs number place count needed undecided ⌝ }
 {
     Shown {
         number,
         place,
         count,
         reached: needed <= count,
+        undecided,
     }
 }
 
@@ -48,6 +51,7 @@ fn nothing_yet(number: u8) -> Shown
         place: 0,
         count: 0,
         reached: false,
+        undecided: 65535,
     }
 }
 
@@ -86,14 +90,14 @@ pub fn open(buffer: &mut [u8], table: &[u8], needed: usize) -> Shown
 }
 
 // "a refusal answers its number, the run's place and the rest as it stood"
-fn answer_by(turn: Turn, count: u8, needed: u8) -> Shown
+fn answer_by(turn: Turn, count: u8, needed: u8, undecided: u16) -> Shown
     requires { ⌜ count < 255 ⌝ }
-    ensures { λ r. ⌜ r ≡ answerBy turn count needed ⌝ }
+    ensures { λ r. ⌜ r ≡ answerBy turn count needed undecided ⌝ }
 {
     match turn {
-        Turn::Keep => answer(0, 0, count, needed),
-        Turn::Add => answer(0, 0, count + 1, needed),
-        Turn::Refuse { number, place } => answer(number, place, count, needed),
+        Turn::Keep => answer(0, 0, count, needed, undecided),
+        Turn::Add => answer(0, 0, count + 1, needed, undecided),
+        Turn::Refuse { number, place } => answer(number, place, count, needed, undecided),
     }
 }
 
@@ -115,11 +119,13 @@ pub fn show(buffer: &mut [u8], notice: &[u8]) -> Shown
     if !holds(buffer) {
         return nothing_yet(12);
     }
-    let turn = turn_of(buffer, notice);
+    let ran = run_in(buffer, notice);
+    let undecided = ran.undecided;
+    let turn = turn_of(buffer, notice, ran);
     let needed = buffer[6];
     let count = buffer[7];
     if adds(turn) {
         add(buffer, staff(notice));
     }
-    answer_by(turn, count, needed)
+    answer_by(turn, count, needed, undecided)
 }

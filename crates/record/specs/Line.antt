@@ -1,5 +1,5 @@
 -- The lines of standard output. Document 01, "Examples": "It prints `S number place length` or `N number verdict steps place` (verdict `true`, `false` or `bottom` ..), `X kind` for
--- another kind, and `E`".
+-- another kind, and `E`". Document 02, request 7: "The `N` line of `verdict` gains it at its end": the number of the first undecided entry.
 use Prim.Native.Nat.{ℕ}
 use mathlib.Core.List.{List, [], _∷_, _++_}
 use Rattle.decimal.specs.Decimal.{decimalOf}
@@ -23,9 +23,9 @@ lineEnd = 10 ∷ []
 abbrev pub textLine : ℕ → ℕ → ℕ → List ℕ
 textLine number place len = 83 ∷ (spaced number ++ (spaced place ++ (spaced len ++ lineEnd)))
 
--- `N number verdict steps place`
-abbrev pub noticeLine : ℕ → Truth → ℕ → ℕ → List ℕ
-noticeLine number t steps place = 78 ∷ (spaced number ++ (verdictOf t ++ (spaced steps ++ (spaced place ++ lineEnd))))
+-- `N number verdict steps place undecided`
+abbrev pub noticeLine : ℕ → Truth → ℕ → ℕ → ℕ → List ℕ
+noticeLine number t steps place undecided = 78 ∷ (spaced number ++ (verdictOf t ++ (spaced steps ++ (spaced place ++ (spaced undecided ++ lineEnd)))))
 
 -- `X kind`
 abbrev pub kindLine : ℕ → List ℕ
@@ -37,4 +37,4 @@ errorLine = 69 ∷ lineEnd
 
 -- the bytes that every line has room in
 abbrev pub lineRoom : ℕ
-lineRoom = 80
+lineRoom = 100

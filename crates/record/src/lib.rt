@@ -87,7 +87,7 @@ fn put_verdict(out: &mut [u8], at: usize, t: Truth) -> usize
 }
 
 // The bytes that every line has room in.
-pub const LINE_ROOM: usize = 80;
+pub const LINE_ROOM: usize = 100;
 
 // `S number place length`: what translation answered.
 pub fn put_text_line(out: &mut [u8], at: usize, number: u64, place: u64, len: u64) -> usize
@@ -101,7 +101,7 @@ pub fn put_text_line(out: &mut [u8], at: usize, number: u64, place: u64, len: u6
     put_byte(out, d, b'\n')
 }
 
-// `N number verdict steps place`: what running answered.
+// `N number verdict steps place undecided`: what running answered.
 pub fn put_notice_line(
     out: &mut [u8],
     at: usize,
@@ -109,16 +109,18 @@ pub fn put_notice_line(
     verdict: Truth,
     steps: u64,
     place: u64,
+    undecided: u64,
 ) -> usize
     requires { ⌜ at + lineRoom ≤ length (now out) ⌝ }
-    ensures { λ r. ⌜ Put (now (out .entry)) at (noticeLine number verdict steps place) (now (out .exit)) r × (r ≤ at + lineRoom) ⌝ }
+    ensures { λ r. ⌜ Put (now (out .entry)) at (noticeLine number verdict steps place undecided) (now (out .exit)) r × (r ≤ at + lineRoom) ⌝ }
 {
     let a = put_byte(out, at, b'N');
     let b = put_number(out, a, number);
     let c = put_verdict(out, b, verdict);
     let d = put_number(out, c, steps);
     let e = put_number(out, d, place);
-    put_byte(out, e, b'\n')
+    let f = put_number(out, e, undecided);
+    put_byte(out, f, b'\n')
 }
 
 // `X kind`

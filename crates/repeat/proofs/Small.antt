@@ -19,7 +19,7 @@ use Rattle.interpreter.specs.Running.{answerOf}
 use Rattle.interpreter.proofs.Theorems.{run-steps}
 use Rattle.repeat.specs.Repeat.{weightOf, repeatOf}
 
-module _ (table notice : List ℕ) (checked : tableCheck table ≡ true) (r : Ran) (ran : r ≡ answerOf (runOf (decode table) notice)) where
+module _ (table notice : List ℕ) (checked : tableCheck table ≡ true) (r : Ran) (ran : r ≡ answerOf (decode table) notice) where
   pub few : r .steps ≤ 512
   few =
       let same : r .steps ≡ runOf (decode table) notice .steps = ap (λ (x : Ran). x .steps) ran in

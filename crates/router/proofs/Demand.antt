@@ -68,7 +68,7 @@ module _ (text notice : List ℕ) (tree : Tree) (b : Bytes text) (a : Accepted t
       let table = encode (compile tree) in
       let p = passes-check text tree b a in
       let d = decodes text tree b a in
-      let r : runningOf table notice ≡ answerOf (runOf (decode table) notice) = sym (neither-refused table notice p w) in
+      let r : runningOf table notice ≡ answerOf (decode table) notice = sym (neither-refused table notice p w) in
       let e = whole .ends in
       record {
         passes = p;
@@ -124,11 +124,11 @@ check-refused table notice visits r e q =
     }
 
 pub check-passed : (table notice : List ℕ) (visits : ℕ) (a : Ran) (m : Machine) → tableCheck table ≡ true → a ≡ runningOf table notice → Visited table notice visits m
-    → RunsChecked table notice visits (record { number = a .number; place = a .place; length = length table; verdict = a .verdict; steps = a .steps; machine = m })
+    → RunsChecked table notice visits (record { number = a .number; place = a .place; length = length table; verdict = a .verdict; steps = a .steps; undecided = a .undecided; machine = m })
 check-passed table notice visits a m p q v =
     record {
       answer =
-          ap (λ (x : Ran). record { number = x .number; place = x .place; length = length table; verdict = x .verdict; steps = x .steps; machine = m }) q
+          ap (λ (x : Ran). record { number = x .number; place = x .place; length = length table; verdict = x .verdict; steps = x .steps; undecided = x .undecided; machine = m }) q
           ∙ sym (ap (λ (b : Bool). checkedOf b table notice m) p);
       runner = λ _. v;
     }

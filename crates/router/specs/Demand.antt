@@ -28,6 +28,7 @@ use Rattle.grammar.specs.Tree.{Tree}
 use Rattle.table.specs.Table.{encode, decode}
 use Rattle.table.specs.Check.{checkOf as tableCheck, refusalOf}
 use Rattle.interpreter.specs.Run.{after, runOf, verdictOf}
+use Rattle.interpreter.specs.Undecided.{noEntry}
 use Rattle.interpreter.specs.Machine.{fresh, Visited}
 use Rattle.interpreter.specs.Running.{runningOf}
 use Rattle.interpreter.specs.declared.Machine.{Machine}
@@ -103,13 +104,13 @@ outcomeOf text room notice = outcomeBy (noticeCheck notice) (translationOf text 
 
 -- a refusal: no table, bottom, no steps, and a machine that has made no visit
 abbrev pub refused : ℕ → ℕ → Matched
-refused number place = record { number = number; place = place; length = 0; verdict = Bottom; steps = 0; machine = fresh }
+refused number place = record { number = number; place = place; length = 0; verdict = Bottom; steps = 0; undecided = noEntry; machine = fresh }
 
 -- the table's length with what its run answers, and the runner's machine
 abbrev pub ranOf : List ℕ → List ℕ → Machine → Matched
 ranOf table notice m =
     let r = runningOf table notice in
-    record { number = r .number; place = r .place; length = length table; verdict = r .verdict; steps = r .steps; machine = m }
+    record { number = r .number; place = r .place; length = length table; verdict = r .verdict; steps = r .steps; undecided = r .undecided; machine = m }
 
 -- .. where the table passes the check, and the check's refusal where it does not
 abbrev pub checkedOf : Bool → List ℕ → List ℕ → Machine → Matched

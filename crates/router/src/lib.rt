@@ -7,6 +7,7 @@ ghost use lib.ListN.{length};
 ghost use Rattle.truth.specs.Truth.{numberOf as verdictNumber};
 ghost use Rattle.translator.specs.Translation.{translationOf, Answers};
 ghost use Rattle.table.specs.Check.{checkOf as tableCheck, refusalOf};
+ghost use Rattle.table.specs.Parts.{partsOf};
 ghost use Rattle.notice.specs.Layout.{checkOf as noticeCheck, numberOf, placeOf};
 ghost use Rattle.notice.specs.Read.{Located};
 ghost use Rattle.notice.specs.Search.{findOf};
@@ -61,7 +62,7 @@ pub extern "C" fn virentolex_check_notice(notice: &[u8], place: &mut usize) -> u
     }
 }
 
-// "Running answers number, place, verdict (bottom if refused) and steps (0 if refused)." A verdict is false 0, true 1, bottom 2.
+// "Running answers number, place, verdict (bottom if refused) and steps (0 if refused)." A verdict is false 0, true 1, bottom 2. Request 7: `undecided` is the first entry that left bottom on the stack, 65535 for none.
 #[no_mangle]
 pub extern "C" fn virentolex_run<'a>(
     table: &'a [u8],
@@ -69,18 +70,43 @@ pub extern "C" fn virentolex_run<'a>(
     place: &mut usize,
     verdict: &mut u8,
     steps: &mut usize,
+    undecided: &mut u16,
 ) -> u8
     ensures { λ r. ⌜ r ≡ runningOf (now (table .entry)) (now (notice .entry)) .number ⌝ }
     ensures { λ _. ⌜ now (place .exit) ≡ runningOf (now (table .entry)) (now (notice .entry)) .place ⌝ }
     ensures { λ _. ⌜ now (verdict .exit) ≡ verdictNumber (runningOf (now (table .entry)) (now (notice .entry)) .verdict) ⌝ }
     ensures { λ _. ⌜ now (steps .exit) ≡ runningOf (now (table .entry)) (now (notice .entry)) .steps ⌝ }
+    ensures { λ _. ⌜ now (undecided .exit) ≡ runningOf (now (table .entry)) (now (notice .entry)) .undecided ⌝ }
 {
     let a = interpreter::run(table, notice);
     let t = a.verdict;
     *place = a.place;
     *verdict = truth::number(t);
     *steps = a.steps;
+    *undecided = a.undecided;
     a.number
+}
+
+// Request 7, for support staff: what the entry k of a table is, and for a string or a name its bytes, from `start` to `end` of the table. 12 if the table fails its check, 17 if it has no entry k.
+#[no_mangle]
+pub extern "C" fn virentolex_entry(
+    table: &[u8],
+    k: usize,
+    op: &mut u16,
+    a: &mut u16,
+    b: &mut u64,
+    start: &mut usize,
+    end: &mut usize,
+) -> u8
+    ensures { λ r. ⌜ record { number = r; op = now (op .exit); a = now (a .exit); b = now (b .exit); start = now (start .exit); end = now (end .exit) } ≡ partsOf (now (table .entry)) k ⌝ }
+{
+    let p = table::parts_of(table, k);
+    *op = p.op;
+    *a = p.a;
+    *b = p.b;
+    *start = p.start;
+    *end = p.end;
+    p.number
 }
 
 // "Reading field k gives its kind and its name and value as parts of the lent notice": the name from `name` to `value`, the value from there to `end`.
@@ -159,18 +185,20 @@ pub extern "C" fn virentolex_quorum_open(
     place: &mut usize,
     count: &mut u8,
     reached: &mut u8,
+    undecided: &mut u16,
 ) -> u8
-    ensures { λ r. ⌜ Gives (openOf (now (decision .entry)) (now (table .entry)) needed) r (now (place .exit)) (now (count .exit)) (now (reached .exit)) ⌝ }
+    ensures { λ r. ⌜ Gives (openOf (now (decision .entry)) (now (table .entry)) needed) r (now (place .exit)) (now (count .exit)) (now (reached .exit)) (now (undecided .exit)) ⌝ }
     ensures { λ _. ⌜ now (decision .exit) ≡ openedBytes (now (decision .entry)) (now (table .entry)) needed ⌝ }
 {
     let a = quorum::open(decision, table, needed);
     *place = a.place;
     *count = a.count;
     *reached = flag(a.reached);
+    *undecided = a.undecided;
     a.number
 }
 
-// "The answer is the count and whether it has reached the needed number." A refusal changes no byte.
+// "The answer is the count and whether it has reached the needed number.", and the run's first undecided entry, which the counter "passes .. on". A refusal changes no byte.
 #[no_mangle]
 pub extern "C" fn virentolex_quorum_show(
     decision: &mut [u8],
@@ -178,14 +206,16 @@ pub extern "C" fn virentolex_quorum_show(
     place: &mut usize,
     count: &mut u8,
     reached: &mut u8,
+    undecided: &mut u16,
 ) -> u8
-    ensures { λ r. ⌜ Gives (showOf (now (decision .entry)) (now (notice .entry))) r (now (place .exit)) (now (count .exit)) (now (reached .exit)) ⌝ }
+    ensures { λ r. ⌜ Gives (showOf (now (decision .entry)) (now (notice .entry))) r (now (place .exit)) (now (count .exit)) (now (reached .exit)) (now (undecided .exit)) ⌝ }
     ensures { λ _. ⌜ now (decision .exit) ≡ shownBytes (now (decision .entry)) (now (notice .entry)) ⌝ }
 {
     let a = quorum::show(decision, notice);
     *place = a.place;
     *count = a.count;
     *reached = flag(a.reached);
+    *undecided = a.undecided;
     a.number
 }
 

@@ -11,13 +11,14 @@ use truth::Truth;
 use value::Held;
 use value::Slot;
 
-// Number and place of the first refusal, of the notice, of translation or of the check; the table's length, 0 if there is none; verdict and steps; and the runner's machine after as many visits as the caller names.
+// Number and place of the first refusal, of the notice, of translation or of the check; the table's length, 0 if there is none; verdict and steps; the first undecided entry (document 02, request 7); and the runner's machine after as many visits as the caller names.
 pub struct Matched {
     pub number: u8,
     pub place: usize,
     pub length: usize,
     pub verdict: Truth,
     pub steps: usize,
+    pub undecided: u16,
     pub machine: Machine,
 }
 
@@ -32,6 +33,7 @@ fn refused(number: u8, place: usize) -> Matched
         next: 0,
         depth: 0,
         steps: 0,
+        undecided: 65535,
         stack: stack,
     };
     Matched {
@@ -40,6 +42,7 @@ fn refused(number: u8, place: usize) -> Matched
         length: 0,
         verdict: Truth::Bottom,
         steps: 0,
+        undecided: 65535,
         machine: machine,
     }
 }
@@ -61,6 +64,7 @@ fn check_and_run<'a>(table: &'a [u8], notice: &'a [u8], visits: usize) -> Matche
         length: table.len(),
         verdict: verdict,
         steps: a.steps,
+        undecided: a.undecided,
         machine: machine,
     }
 }

@@ -1,5 +1,6 @@
 -- What the program `verdict` prints. Document 01, "Examples": "Kind 3 is a subscription text, which replaces the last one even if refused; kind 1 a notice. It prints `S number place length` or
 -- `N number verdict steps place` (.. no table gives 12), `X kind` for another kind, and `E` and stops where a record is cut, or its length is under 2 or over 16,380."
+-- Document 02, request 7: "The `N` line of `verdict` gains it at its end": the number of the first undecided entry, 65535 where there is none.
 use Prim.Native.Nat.{ℕ, zero, suc}
 use mathlib.Core.Bool.{true}
 use mathlib.Core.List.{List, [], _++_}
@@ -26,7 +27,7 @@ abbrev pub translatedLine : Outcome → List ℕ
 translatedLine o = textLine (o .number) (o .place) (length (o .table))
 
 abbrev pub ranLine : Ran → List ℕ
-ranLine a = noticeLine (a .number) (a .verdict) (a .steps) (a .place)
+ranLine a = noticeLine (a .number) (a .verdict) (a .steps) (a .place) (a .undecided)
 
 -- The line for a record of a kind, where `table` is the last text's table, empty if it was refused or there was none, and tables have room for so many bytes. A record of kind 1 is the notice, with its own
 -- six first bytes. An empty table fails the check: "no table gives 12".

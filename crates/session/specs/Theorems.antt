@@ -43,4 +43,4 @@ WholeOutput = (input table read written : List ℕ) (s : State) → Session inpu
 
 -- "no table gives 12", whatever the notice is.
 abbrev pub NoTable : Type 0
-NoTable = (room : ℕ) (r : List ℕ) → lineOf room [] 1 r ≡ noticeLine 12 Bottom 0 0
+NoTable = (room : ℕ) (r : List ℕ) → lineOf room [] 1 r ≡ noticeLine 12 Bottom 0 0 65535

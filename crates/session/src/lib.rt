@@ -56,6 +56,7 @@ fn put_verdict<'a>(table: &'a [u8], notice: &'a [u8], out: &mut [u8], at: usize)
         verdict,
         a.steps as u64,
         a.place as u64,
+        a.undecided as u64,
     )
 }
 

@@ -8,6 +8,7 @@ pub mod Patterns
 pub mod Grouped
 pub mod Encoding
 pub mod Reached
+pub mod Parts
 pub mod Theorems
 pub mod Answer
 pub mod Passing

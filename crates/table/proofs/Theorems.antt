@@ -13,7 +13,7 @@ use mir.Syntax.{w32, w64}
 use mir.Val.{SFits, ofZ}
 use Rattle.table.specs.Table.{encode, decode, layoutOf, countOf, entryAt, entriesOf, poolOf}
 use Rattle.table.specs.Check.{inRange, entriesRight, shapeFrom, shapeAt, endRight, skipsRight, patternsBefore, patternsRight, programRight, checkOf}
-use Rattle.table.specs.Theorems.{DecodeEncode, EncodeDecode, Layout, Widened, CheckEncode, CheckWays, EveryReached, CheckedEntry, CheckedSkip, CheckedEnds}
+use Rattle.table.specs.Theorems.{DecodeEncode, EncodeDecode, Layout, Widened, CheckEncode, CheckWays, EveryReached, CheckedEntry, CheckedSkip, CheckedEnds, PartsName}
 use Rattle.table.proofs.Tests.{both-true, are-true}
 use Rattle.table.proofs.Laid.{laid, keeps, inside}
 use Rattle.table.proofs.Encoding.{read-written, laid-out, written-read, within-limits, written-bytes}
@@ -21,6 +21,7 @@ use Rattle.table.proofs.Reading.{length-entries, entry-of}
 use Rattle.table.proofs.Passes.{each-right, each-pattern}
 use Rattle.table.proofs.Patterns.{every-pattern, patterns-right}
 use Rattle.table.proofs.Reached.{depth, end-shape, each-step, each-landing, every-way, reached, ends-right, skips-right}
+use Rattle.table.proofs.Parts.{is-pooled, bytes-lie, bytes-are, parts-there}
 
 -- ---- layout
 
@@ -123,3 +124,10 @@ checked-patterns s c i h = rw (entry-of s i h) at (each-pattern (poolOf s) (entr
 pub checked-ends : CheckedEnds
 unfolding shapeFrom
 checked-ends s c = let p = parts s c in (refl, ap (shapeAt (entriesOf s)) (sym (length-entries s)) ∙ end-shape (entriesOf s) (p .ends) (p .lands))
+
+-- ---- what an entry is
+
+pub parts-name : PartsName
+parts-name s c k h o =
+    let p = is-pooled (entryAt s k .op) o in
+    rw (parts-there s k c h, p) (omega arith, bytes-lie s k (checked-layout s c) (checked-entry s c k h .right) o, bytes-are s k)

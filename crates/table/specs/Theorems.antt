@@ -1,19 +1,20 @@
 -- What holds of every table. The proofs are in proofs/Theorems.antt, under the same names.
-use Prim.Native.Nat.{ℕ, _+_, _*_, _^_, _≤_, _<_}
+use Prim.Native.Nat.{ℕ, _+_, _*_, _-_, _^_, _≤_, _<_}
 use mathlib.Core.Path.{_≡_}
 use mathlib.Core.Bool.{true}
 use mathlib.Core.List.{List, [], _∷_, _++_}
-use mathlib.Core.Logic.{_↔_}
+use mathlib.Core.Logic.{_↔_, _⊎_}
 use mathlib.Core.Option.{some}
 use lib.IntN.{ℤ}
-use lib.ListN.{length, getD}
+use lib.ListN.{length, take, drop, getD}
 use mir.Syntax.{w32, w64}
 use mir.Val.{SFits, ofZ}
 use Rattle.word.specs.Word.{Bytes}
 use Rattle.opcode.specs.Opcode.{opOf, Kind, logic, takesOf, givesOf}
 use Rattle.table.specs.Table.{Entry, blank, Program, encode, decode, layoutOf, countOf, entryAt, entriesOf, poolOf}
-use Rattle.table.specs.Check.{inRange, entryRight, entriesRight, shapeAt, isSkip, programRight, checkOf}
+use Rattle.table.specs.Check.{inRange, partOf, entryRight, entriesRight, shapeAt, isSkip, programRight, checkOf}
 use Rattle.table.specs.Ways.{Reaches, EveryWay, EveryPattern}
+use Rattle.table.specs.Parts.{partsOf}
 
 -- ---- layout
 
@@ -90,3 +91,12 @@ CheckedSkip =
 -- A checked table starts with an empty stack and ends with one logic slot.
 abbrev pub CheckedEnds : Type 0
 CheckedEnds = (s : List ℕ) → checkOf s ≡ true → (shapeAt (entriesOf s) 0 ≡ some []) × (shapeAt (entriesOf s) (countOf s) ≡ some (logic ∷ []))
+
+-- ---- what an entry is
+
+-- Of a string or a name of a checked table, what is answered from start to end lies in the table, and is the entry's bytes in the pool.
+abbrev pub PartsName : Type 0
+PartsName =
+    (s : List ℕ) → checkOf s ≡ true → (k : ℕ) → k < countOf s → (entryAt s k .op ≡ 4) ⊎ (entryAt s k .op ≡ 5)
+    → (partsOf s k .start ≤ partsOf s k .end) × (partsOf s k .end ≤ length s)
+    × (take (partsOf s k .end - partsOf s k .start) (drop (partsOf s k .start) s) ≡ partOf (poolOf s) (entryAt s k))

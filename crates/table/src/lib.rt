@@ -9,6 +9,7 @@ ghost use lib.ListN.{length, getD, replicate};
 ghost use Rattle.opcode.specs.Opcode.{opOf, Kind, logic, value};
 ghost use Rattle.table.specs.Table.{countOf, entryAt, entriesOf, poolOf, layoutOf};
 ghost use Rattle.table.specs.Check.{inRange, partRight, loadRight, entryRight, popOne, pop, push, patternTest, operandRight, operandsRight, patternsBefore, checkOf};
+ghost use Rattle.table.specs.Parts.{noParts, partsAt, partsOf};
 ghost use Rattle.table.specs.Groups.{groupOf, rightBy, takesBy, givesBy, skipBy};
 ghost use Rattle.table.specs.Number.{bitOf, numberOf, metBy, Landed};
 use groups::Group;
@@ -417,4 +418,66 @@ pub fn check(table: &[u8]) -> bool
     }
     let mut wanted = [0u64; 513];
     kinds_right(whole, n, &mut wanted)
+}
+
+// ---- what an entry is
+
+// What an entry of a table is: 12 if the table fails its check, 17 if it has no entry k; its op, a and b, and for a string or a name where its bytes lie in the table, from `start` to `end`; else all 0.
+pub struct EntryParts {
+    pub number: u8,
+    pub op: u16,
+    pub a: u16,
+    pub b: u64,
+    pub start: usize,
+    pub end: usize,
+}
+
+fn no_parts(number: u8) -> EntryParts
+    ensures { λ r. ⌜ r ≡ noParts number ⌝ }
+{
+    EntryParts {
+        number,
+        op: 0,
+        a: 0,
+        b: 0,
+        start: 0,
+        end: 0,
+    }
+}
+
+// The entry k of a table that passes the check.
+fn parts_at(table: &[u8], k: usize) -> EntryParts
+    requires { ⌜ (checkOf (now table) ≡ true) × (k < countOf (now table)) ⌝ }
+    ensures { λ r. ⌜ r ≡ partsAt (now (table .entry)) k ⌝ }
+{
+    let op = op_at(table, k);
+    let a = a_at(table, k);
+    let b = b_at(table, k);
+    let mut start = 0;
+    let mut end = 0;
+    if (op == 4) | (op == 5) {
+        start = 10 + 12 * count(table) + b as usize;
+        end = start + a as usize;
+    }
+    EntryParts {
+        number: 0,
+        op,
+        a,
+        b,
+        start,
+        end,
+    }
+}
+
+// For support staff (document 02, request 7): what the entry is whose number a run carries.
+pub fn parts_of(table: &[u8], k: usize) -> EntryParts
+    ensures { λ r. ⌜ r ≡ partsOf (now (table .entry)) k ⌝ }
+{
+    if !check(table) {
+        return no_parts(12);
+    }
+    if count(table) <= k {
+        return no_parts(17);
+    }
+    parts_at(table, k)
 }

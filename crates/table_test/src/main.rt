@@ -1,4 +1,5 @@
-// Prints of each table on standard input its refusal number, 0 or 12, and of one that passes its entries and its pool.
+// Prints of each table on standard input its refusal number, 0 or 12, and of one that passes its entries and its pool. A case is a table and an empty part;
+// or a table and an entry's number (8 bytes): of this entry it prints the number, op, a, b, start and end.
 ghost use Prim.Native.Nat.{_+_, _*_, _≤_};
 ghost use lib.ListN.{length};
 ghost use mathlib.Core.Path.{_≡_};
@@ -46,15 +47,32 @@ fn answer(table: &[u8]) {
     put(b"\n");
 }
 
+fn put_parts(table: &[u8], k: usize) {
+    let p = table::parts_of(table, k);
+    put_number(p.number as u64);
+    put_number(p.op as u64);
+    put_number(p.a as u64);
+    put_number(p.b);
+    put_number(p.start as u64);
+    put_number(p.end as u64);
+    put(b"\n");
+}
+
 // One table. Answers whether there was one.
 fn next_case() -> bool {
     let mut buffer = [0u8; 16384];
     let part = cases::next_part(&mut buffer);
-    if !part.whole {
+    let mut k = [0u8; 8];
+    let asked = cases::next_part(&mut k);
+    if !asked.whole {
         return false;
     }
     let end = part.len;
-    answer(&buffer[0..end]);
+    if asked.len == 0 {
+        answer(&buffer[0..end]);
+    } else {
+        put_parts(&buffer[0..end], word::read_u64(&k, 0) as usize);
+    }
     true
 }
 

@@ -200,6 +200,13 @@ abbrev pub valueIn : Item → Value
 valueIn (logic t) = bottom
 valueIn (value v) = v
 
+-- whether an item is bottom: the truth value, or a value that there is not
+abbrev pub isBottom : Item → Bool
+isBottom (logic False) = false
+isBottom (logic Bottom) = true
+isBottom (logic True) = false
+isBottom (value v) = eqb (typeOf v) 0
+
 abbrev pub unaryOf : Unary → Item → Item
 unaryOf Unary.Not x = logic (notOf (truthIn x))
 unaryOf (Unary.Change o) x = value (changeOf o (valueIn x))

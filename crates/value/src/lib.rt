@@ -9,7 +9,7 @@ ghost use Rattle.notice.specs.declared.Layout.the-variants.{WellFormed};
 ghost use Rattle.opcode.specs.declared.Load.{Load};
 ghost use Rattle.opcode.specs.declared.Unary.{Unary};
 ghost use Rattle.opcode.specs.declared.Binary.{Binary};
-ghost use Rattle.value.specs.Value.{logic, value, truthIn, valueIn, connectOf, unaryOf, binaryOf, startOf, joinOf, besideOf, moreOf, loadOf};
+ghost use Rattle.value.specs.Value.{logic, value, isBottom, truthIn, valueIn, connectOf, unaryOf, binaryOf, startOf, joinOf, besideOf, moreOf, loadOf};
 ghost use Rattle.value.specs.Held.{typedOf, itemIn, pooled};
 
 mod fields;
@@ -93,6 +93,21 @@ fn value_in(s: Slot) -> Typed
     match h {
         Held::Logic(_) => Typed::Bottom,
         Held::Value(v) => v,
+    }
+}
+
+// Whether a slot holds bottom.
+pub fn is_bottom(s: Slot) -> bool
+    ensures { λ r. ⌜ ((p : List ℕ) → (q : List ℕ) → r ≡ isBottom (itemIn p q s)) ⌝ }
+{
+    let h = s.held;
+    match h {
+        Held::Logic(t) => match t {
+            Truth::False => false,
+            Truth::Bottom => true,
+            Truth::True => false,
+        },
+        Held::Value(v) => values::type_of(v) == 0,
     }
 }
 

@@ -47,7 +47,7 @@ fn value_of(n: Number) -> Typed
 }
 
 // The type's number among the kinds of fields, 0 where it is bottom.
-fn type_of(v: Typed) -> u8
+pub fn type_of(v: Typed) -> u8
     ensures { λ r. ⌜ ((p : List ℕ) → (q : List ℕ) → r ≡ typeOf (typedOf p q v)) ⌝ }
 {
     match v {

@@ -1,5 +1,5 @@
 -- `interpreter::run_indexed` meets its contract. The loop's invariant, `Going`, is document 01's sentence, `Follows`, of the machine of the loop's variables: at each turn, so after each visit, its next entry and whole stack are
--- those of the rule after as many visits as are gone from the budget. Where none is left, or no entry, this is the promise.
+-- those of the rule after as many visits as are gone from the budget, and its first undecided entry is that of these visits (document 02, request 7). Where none is left, or no entry, this is the promise.
 -- The inner loop's invariant, `Tallied`: what is known with the later operands below j, and with those that are left, is the whole. Assumes nothing.
 use Prim.Native.Nat.{_+_, _-_, _*_, _<_, _≤_}
 use mathlib.Core.Path.{_≡_, refl, sym, ap, _∙_}
@@ -11,28 +11,31 @@ use Rattle.opcode.specs.Opcode.{opOf}
 use Rattle.opcode.specs.declared.Op.{Op}
 use Rattle.table.proofs.Theorems.{checked-layout}
 use Rattle.table.proofs.Laid.{laid}
-use Rattle.interpreter.proofs.Visits.{Going, Visiting, Tallied, tested, begin, few, ended, entry-fits, load-fits, load-law, unary-fits, unary-law, binary-fits, binary-law, many-fits, many-law, skip-fits, skip-room, skip-law, no-unknown, tally-start, tally-more}
+use Rattle.interpreter.proofs.Visits.{Going, Visiting, Tallied, tested, begin, few, ended, entry-fits, load-fits, load-law, load-known, unary-fits, unary-law, binary-fits, binary-law, many-fits, many-law, skip-fits, skip-room, skip-law, no-unknown, tally-start, tally-more}
 use Rattle.interpreter.proofs.run_indexed.Statement.{statement}
 use Rattle.interpreter.proofs.run_indexed.Tie as tie
 
 abbrev Inv-loop2 : tie.InvT-loop2
-Inv-loop2 table notice starts budget n pool stack next depth left at k i x known₀ j₀ known j = Tallied pool notice stack depth k i known j
+Inv-loop2 table notice starts budget n pool stack next depth left first at k i x known₀ j₀ known j = Tallied pool notice stack depth k i known j
 
 abbrev μ-loop2 : tie.MeasureT-loop2
-μ-loop2 table notice starts budget n pool stack next depth left at k i x known₀ j₀ known j = depth - j
+μ-loop2 table notice starts budget n pool stack next depth left first at k i x known₀ j₀ known j = depth - j
 
 abbrev Inv-loop : tie.InvT-loop
-Inv-loop table notice starts budget n pool stack₀ next₀ depth₀ left₀ stack next depth left = Going table pool notice n budget stack next depth left
+Inv-loop table notice starts budget n pool stack₀ next₀ depth₀ left₀ first₀ stack next depth left first = Going table pool notice n budget stack next depth left first
 
 abbrev μ-loop : tie.MeasureT-loop
-μ-loop table notice starts budget n pool stack₀ next₀ depth₀ left₀ stack next depth left = left
+μ-loop table notice starts budget n pool stack₀ next₀ depth₀ left₀ first₀ stack next depth left first = left
 
--- a turn: what the loop's test says, and that the next entry lies in the table
+-- a turn: what the loop's test says, that the entry's number is small, and that the entry lies in the table
 abbrev Turn : Type 0
 Turn = tie.In-loop Inv-loop2 μ-loop2 Inv-loop μ-loop
 
 told : (c : Turn) → (c .before .loop .next < c .before .before .before .count .result) × (0 < c .before .loop .left)
 told c = tested (c .before .loop .next) (c .before .before .before .count .result) (c .before .loop .left) (c .loop-test .taken)
+
+early : (c : Turn) → c .before .loop .next < 512
+early c = omega (arith, told c, few (c .before .loop .inv))
 
 inside : (c : Turn) → 22 + 12 * c .before .loop .next ≤ length (now (c .before .before .before .before .before .before .args .table))
 inside c = entry-fits (c .before .loop .inv) (told c .0)
@@ -42,7 +45,7 @@ abbrev Visit : Turn → Op → Type 0
 Visit c o =
     let a = c .before .before .before .before .before .before .args in
     let l = c .before .loop in
-    Visiting (a .table .now) (c .before .before .pool .result .now) (a .notice .now) (c .before .before .before .count .result) (a .budget) (l .stack) (l .next) (l .depth) (l .left) o
+    Visiting (a .table .now) (c .before .before .pool .result .now) (a .notice .now) (c .before .before .before .count .result) (a .budget) (l .stack) (l .next) (l .depth) (l .left) (l .first) o
 
 visit : (d : tie.After-op-of Inv-loop2 μ-loop2 Inv-loop μ-loop) {o : Op} → d .op-of .result ≡ o → Visit (d .before .before) o
 visit d e =
@@ -87,7 +90,7 @@ run-indexed-spec =
     (λ c. begin _ _ _ (c .before .before .before .before .pre .0) (c .before .count .ensures .0) (c .pool .ensures))
     -- a turn: the visit is counted, and the entry's operator read
     (λ c. told c .1)
-    (λ c. omega (arith, told c, few (c .before .loop .inv)))
+    (λ c. omega (arith, early c))
     (λ c κs. inside c)
     (λ c κs. tt)
     -- `load_int32`
@@ -99,7 +102,7 @@ run-indexed-spec =
     (λ c. omega (arith, load-fits (load (search))))
     (λ c. omega (arith, load-fits (load (search))))
     (λ c. omega (arith, told (search)))
-    (λ c. load-law (load (search)) (c .load-int32 .result) (c .before .before .enum-told .given .1) refl (c .before .b-at .ensures) (c .load-int32 .ensures _ _ 0))
+    (λ c. load-known (load (search)) (c .load-int32 .result) (c .before .before .enum-told .given .1) refl (c .before .b-at .ensures) (c .load-int32 .ensures _ _ 0) refl)
     -- `load_int64`
     (λ c. search needs)
     (λ c κs. inside (search))
@@ -108,7 +111,7 @@ run-indexed-spec =
     (λ c. omega (arith, load-fits (load (search))))
     (λ c. omega (arith, load-fits (load (search))))
     (λ c. omega (arith, told (search)))
-    (λ c. load-law (load (search)) (c .load-int64 .result) (c .before .before .enum-told2 .given .1) refl (c .before .b-at2 .ensures) (c .load-int64 .ensures _ _ 0))
+    (λ c. load-known (load (search)) (c .load-int64 .result) (c .before .before .enum-told2 .given .1) refl (c .before .b-at2 .ensures) (c .load-int64 .ensures _ _ 0) refl)
     -- `load_real64`
     (λ c. search needs)
     (λ c κs. inside (search))
@@ -117,7 +120,7 @@ run-indexed-spec =
     (λ c. omega (arith, load-fits (load (search))))
     (λ c. omega (arith, load-fits (load (search))))
     (λ c. omega (arith, told (search)))
-    (λ c. load-law (load (search)) (c .load-real64 .result) (c .before .before .enum-told3 .given .1) refl (c .before .b-at3 .ensures) (c .load-real64 .ensures _ _ 0))
+    (λ c. load-known (load (search)) (c .load-real64 .result) (c .before .before .enum-told3 .given .1) refl (c .before .b-at3 .ensures) (c .load-real64 .ensures _ _ 0) refl)
     -- `load_text`
     (λ c. search needs)
     (λ c κs. inside (search))
@@ -127,7 +130,7 @@ run-indexed-spec =
     (λ c. omega (arith, load-fits (load (search))))
     (λ c. omega (arith, load-fits (load (search))))
     (λ c. omega (arith, told (search)))
-    (λ c. load-law (load (search)) (c .load-text .result) (c .before .before .before .enum-told4 .given .1) (c .before .before .a-at .ensures) (c .before .b-at4 .ensures) (c .load-text .ensures _ _))
+    (λ c. load-known (load (search)) (c .load-text .result) (c .before .before .before .enum-told4 .given .1) (c .before .before .a-at .ensures) (c .before .b-at4 .ensures) (c .load-text .ensures _ _) refl)
     -- `load_name`
     (λ c. search needs)
     (λ c κs. inside (search))
@@ -135,9 +138,10 @@ run-indexed-spec =
     (λ c κs. search needs)
     (λ c. omega (arith, load-fits (load (search))))
     (λ c. omega (arith, load-fits (load (search))))
+    (λ c κs. omega (arith, early (search)))
     (λ c. omega (arith, load-fits (load (search))))
     (λ c. omega (arith, told (search)))
-    (λ c. load-law (load (search)) (c .load-name .result) (c .before .before .before .enum-told5 .given .1) (c .before .before .a-at2 .ensures) (c .before .b-at5 .ensures) (c .load-name .ensures))
+    (λ c. load-law (load (search)) (c .before .load-name .result) (c .before .before .before .before .enum-told5 .given .1) (c .before .before .before .a-at2 .ensures) (c .before .before .b-at5 .ensures) (c .before .load-name .ensures) (c .noted .ensures _ _))
     -- `not`
     (λ c. search needs)
     (λ c. search needs)
@@ -147,8 +151,9 @@ run-indexed-spec =
     (λ c κs. tt)
     (λ c. omega (arith, unary-fits (unary (search))))
     (λ c. omega (arith, unary-fits (unary (search))))
+    (λ c κs. omega (arith, early (search)))
     (λ c. omega (arith, told (search)))
-    (λ c. unary-law (unary (search)) (c .not .result) (c .before .before .enum-told6 .given .1) (c .not .ensures _ _))
+    (λ c. unary-law (unary (search)) (c .before .not .result) (c .before .before .before .enum-told6 .given .1) (c .before .not .ensures _ _) (c .noted2 .ensures _ _))
     -- `change`
     (λ c. search needs)
     (λ c. omega (arith, unary-fits (unary (search))))
@@ -157,8 +162,9 @@ run-indexed-spec =
     (λ c κs. tt)
     (λ c. omega (arith, unary-fits (unary (search))))
     (λ c. omega (arith, unary-fits (unary (search))))
+    (λ c κs. omega (arith, early (search)))
     (λ c. omega (arith, told (search)))
-    (λ c. unary-law (unary (search)) (c .change .result) (c .before .before .before .k .given .1) (c .change .ensures))
+    (λ c. unary-law (unary (search)) (c .before .change .result) (c .before .before .before .before .k .given .1) (c .before .change .ensures) (c .noted3 .ensures _ _))
     -- `test`
     (λ c. search needs)
     (λ c. omega (arith, unary-fits (unary (search))))
@@ -167,8 +173,9 @@ run-indexed-spec =
     (λ c κs. tt)
     (λ c. omega (arith, unary-fits (unary (search))))
     (λ c. omega (arith, unary-fits (unary (search))))
+    (λ c κs. omega (arith, early (search)))
     (λ c. omega (arith, told (search)))
-    (λ c. unary-law (unary (search)) (c .test .result) (c .before .before .before .k2 .given .1) (c .test .ensures _ _))
+    (λ c. unary-law (unary (search)) (c .before .test .result) (c .before .before .before .before .k2 .given .1) (c .before .test .ensures _ _) (c .noted4 .ensures _ _))
     -- `combine`
     (λ c. search needs)
     (λ c. search needs)
@@ -181,8 +188,9 @@ run-indexed-spec =
     (λ c κs. tt)
     (λ c. omega (arith, binary-fits (binary (search))))
     (λ c. omega (arith, binary-fits (binary (search))))
+    (λ c κs. omega (arith, early (search)))
     (λ c. omega (arith, told (search)))
-    (λ c. binary-law (binary (search)) (c .combine .result) (c .before .before .before .before .k3 .given .1) (c .combine .ensures _ _))
+    (λ c. binary-law (binary (search)) (c .before .combine .result) (c .before .before .before .before .before .k3 .given .1) (c .before .combine .ensures _ _) (c .noted5 .ensures _ _))
     -- `compare`
     (λ c. search needs)
     (λ c. omega (arith, binary-fits (binary (search))))
@@ -194,8 +202,9 @@ run-indexed-spec =
     (λ c κs. tt)
     (λ c. omega (arith, binary-fits (binary (search))))
     (λ c. omega (arith, binary-fits (binary (search))))
+    (λ c κs. omega (arith, early (search)))
     (λ c. omega (arith, told (search)))
-    (λ c. binary-law (binary (search)) (c .compare .result) (c .before .before .before .before .k4 .given .1) (c .compare .ensures))
+    (λ c. binary-law (binary (search)) (c .before .compare .result) (c .before .before .before .before .before .k4 .given .1) (c .before .compare .ensures) (c .noted6 .ensures _ _))
     -- `connect`
     (λ c. search needs)
     (λ c. omega (arith, binary-fits (binary (search))))
@@ -207,8 +216,9 @@ run-indexed-spec =
     (λ c κs. tt)
     (λ c. omega (arith, binary-fits (binary (search))))
     (λ c. omega (arith, binary-fits (binary (search))))
+    (λ c κs. omega (arith, early (search)))
     (λ c. omega (arith, told (search)))
-    (λ c. binary-law (binary (search)) (c .connect .result) (c .before .before .before .before .k5 .given .1) (c .connect .ensures _ _))
+    (λ c. binary-law (binary (search)) (c .before .connect .result) (c .before .before .before .before .before .k5 .given .1) (c .before .connect .ensures _ _) (c .noted7 .ensures _ _))
     -- an operator of many operands
     (λ c. search needs)
     (λ c κs. inside (search))
@@ -231,9 +241,10 @@ run-indexed-spec =
     (λ c κs. tt)
     (λ c. omega (arith, later (search)))
     (λ c. omega (arith, later (search)))
+    (λ c κs. omega (arith, early (search)))
     (λ c. omega (arith, later (search)))
     (λ c. omega (arith, told (search)))
-    (λ c. many-law (many (search)) (c .before .before .before .before .before .a-at3 .ensures) (c .decided .result) (c .before .before .loop2 .inv) (c .before .loop2-test .left) (c .decided .ensures _ _))
+    (λ c. many-law (many (search)) (c .before .before .before .before .before .before .a-at3 .ensures) (c .before .decided .result) (c .before .before .before .loop2 .inv) (c .before .before .loop2-test .left) (c .before .decided .ensures _ _) (c .noted8 .ensures _ _))
     -- a skip
     (λ c. search needs)
     (λ c. omega (arith, skip-fits (skip (search))))

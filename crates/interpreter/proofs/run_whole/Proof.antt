@@ -23,7 +23,7 @@ returns : tie.Need-returns
 returns c =
     let s : tie.Start = search in
     let n : tie.After-count = search in
-    answer-is (s .args .table .now) (s .args .notice .now) (c .before .before .run-indexed .result) (n .count .result) (s .pre .0) (n .count .ensures .0) (c .before .before .run-indexed .ensures .state)
+    answer-is (s .args .table .now) (s .args .notice .now) (c .before .before .run-indexed .result) (n .count .result) (s .pre .0) (n .count .ensures .0) (c .before .before .run-indexed .ensures)
     (c .truth-in .result) (c .truth-in .ensures (poolOf (s .args .table .now)) (s .args .notice .now))
 
 pub run-whole-spec : {M : Type 1} → statement M

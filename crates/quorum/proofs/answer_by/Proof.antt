@@ -28,15 +28,15 @@ answer-requires-3 : tie.Need-answer-requires-3
 answer-requires-3 c κs = search needs
 
 returns : tie.Need-returns
-returns c = let a = c .before .before .before .args in c .answer .ensures ∙ ap (λ (t : Turn). answerBy t (a .count) (a .needed)) (sym (c .before .enum-told .given .1))
+returns c = let a = c .before .before .before .args in c .answer .ensures ∙ ap (λ (t : Turn). answerBy t (a .count) (a .needed) (a .undecided)) (sym (c .before .enum-told .given .1))
 
 returns-2 : tie.Need-returns-2
-returns-2 c = let a = c .before .before .before .args in c .answer2 .ensures ∙ ap (λ (t : Turn). answerBy t (a .count) (a .needed)) (sym (c .before .enum-told2 .given .1))
+returns-2 c = let a = c .before .before .before .args in c .answer2 .ensures ∙ ap (λ (t : Turn). answerBy t (a .count) (a .needed) (a .undecided)) (sym (c .before .enum-told2 .given .1))
 
 returns-3 : tie.Need-returns-3
 returns-3 c =
     let a = c .before .before .before .before .args in
-    c .answer3 .ensures ∙ ap (λ (t : Turn). answerBy t (a .count) (a .needed)) (sym (c .before .before .turn .given .1))
+    c .answer3 .ensures ∙ ap (λ (t : Turn). answerBy t (a .count) (a .needed) (a .undecided)) (sym (c .before .before .turn .given .1))
 
 pub answer-by-spec : {M : Type 1} → statement M
 answer-by-spec =

@@ -31,21 +31,28 @@ returns c =
     let w = not-held (a .buffer .now) (a .notice .now) (sym (c .before .before .holds .ensures) ∙ not-true _ (c .before .if1 .taken)) in
     record { answer = c .nothing-yet .ensures ∙ w .answer; bytes = w .bytes }
 
--- the buffer and the notice at the start, and that a decision is held
+-- a decision is held
+found : (c : tie.Else1) → holdsOf (c .before .before .before .before .before .args .buffer .now) ≡ true
+found c = sym (c .before .holds .ensures) ∙ not-false _ (c .if1 .left)
+
+-- the buffer and the notice at the start
 abbrev buffer-of : tie.After-turn-of → List ℕ
-buffer-of c = c .before .before .before .before .before .before .before .args .buffer .now
+buffer-of c = c .before .before .before .before .before .before .before .before .before .args .buffer .now
 
 abbrev notice-of : tie.After-turn-of → List ℕ
-notice-of c = c .before .before .before .before .before .before .before .args .notice .now
+notice-of c = c .before .before .before .before .before .before .before .before .before .args .notice .now
 
 held : (c : tie.After-turn-of) → holdsOf (buffer-of c) ≡ true
-held c = sym (c .before .before .before .holds .ensures) ∙ not-false _ (c .before .before .if1 .left)
+held c = found (c .before .before .before .before)
 
 holding-of : (c : tie.After-turn-of) → Holding (buffer-of c)
 holding-of c = holding (buffer-of c) (held c)
 
+run-in-requires : tie.Need-run-in-requires
+run-in-requires c κs = found (c .before)
+
 turn-of-requires : tie.Need-turn-of-requires
-turn-of-requires c κs = sym (c .before .before .holds .ensures) ∙ not-false _ (c .before .if1 .left)
+turn-of-requires c κs = (found (c .before .before .before), c .before .run-in .ensures)
 
 slice-read-needed : tie.Need-slice-read-needed
 slice-read-needed c = omega (arith, holding-of (c .before) .head .long)
@@ -87,7 +94,8 @@ same-length-2 c =
 returns-2 : tie.Need-returns-2
 returns-2 c =
     let t = c .before .before .before .before .before in
-    shows-by (buffer-of t) (notice-of t) (held t) (t .turn-of .result) (t .turn-of .ensures) _ _ (c .answer-by .ensures) (settled (c .before))
+    let r = t .before .before .run-in in
+    shows-by (buffer-of t) (notice-of t) (held t) (t .turn-of .result) (t .turn-of .ensures) (r .result) _ _ (r .ensures) (c .answer-by .ensures) (settled (c .before))
 
 pub show-spec : {M : Type 1} → statement M
 show-spec =
@@ -97,6 +105,7 @@ show-spec =
     nothing-yet-requires
     same-length
     returns
+    run-in-requires
     turn-of-requires
     slice-read-needed
     slice-read-count

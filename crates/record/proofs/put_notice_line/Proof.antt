@@ -26,6 +26,9 @@ put-number-requires-2 c κs = search needs
 put-number-requires-3 : tie.Need-put-number-requires-3
 put-number-requires-3 c κs = search needs
 
+put-number-requires-4 : tie.Need-put-number-requires-4
+put-number-requires-4 c κs = search needs
+
 put-byte-requires-2 : tie.Need-put-byte-requires-2
 put-byte-requires-2 c κs = search needs
 
@@ -34,16 +37,18 @@ same-length c = search needs
 
 returns : tie.Need-returns
 returns c =
-    let a = c .before .before .before .before .before .before .before .before .before .before .before .before .before .before .before .before .before .before .before .before .before .before .before .before .before .args in
+    let a = c .before .before .before .before .before .before .before .before .before .before .before .before .before .before .before .before .before .before .before .before .before .before .before .before .before .before .before .before .before .args in
     let x = spaced (a .number) in
     let v = verdictOf (a .verdict) in
     let y = spaced (a .steps) in
-    let z = spaced (a .place) in (
-      joined (78 ∷ []) (x ++ (v ++ (y ++ (z ++ lineEnd)))) (c .before .before .before .before .before .before .before .before .before .before .before .before .before .before .before .before .before .before .before .before .before .before .put-byte .ensures)
-          (joined x (v ++ (y ++ (z ++ lineEnd))) (c .before .before .before .before .before .before .before .before .before .before .before .before .before .before .before .before .before .before .put-number .ensures .0)
-          (joined v (y ++ (z ++ lineEnd)) (c .before .before .before .before .before .before .before .before .before .before .before .before .before .before .put-verdict .ensures .0)
-          (joined y (z ++ lineEnd) (c .before .before .before .before .before .before .before .before .before .before .put-number2 .ensures .0)
-          (joined z lineEnd (c .before .before .before .before .before .before .put-number3 .ensures .0) (c .before .before .put-byte2 .ensures))))),
+    let z = spaced (a .place) in
+    let u = spaced (a .undecided) in (
+      joined (78 ∷ []) (x ++ (v ++ (y ++ (z ++ (u ++ lineEnd))))) (c .before .before .before .before .before .before .before .before .before .before .before .before .before .before .before .before .before .before .before .before .before .before .before .before .before .before .put-byte .ensures)
+          (joined x (v ++ (y ++ (z ++ (u ++ lineEnd)))) (c .before .before .before .before .before .before .before .before .before .before .before .before .before .before .before .before .before .before .before .before .before .before .put-number .ensures .0)
+          (joined v (y ++ (z ++ (u ++ lineEnd))) (c .before .before .before .before .before .before .before .before .before .before .before .before .before .before .before .before .before .before .put-verdict .ensures .0)
+          (joined y (z ++ (u ++ lineEnd)) (c .before .before .before .before .before .before .before .before .before .before .before .before .before .before .put-number2 .ensures .0)
+          (joined z (u ++ lineEnd) (c .before .before .before .before .before .before .before .before .before .before .put-number3 .ensures .0)
+          (joined u lineEnd (c .before .before .before .before .before .before .put-number4 .ensures .0) (c .before .before .put-byte2 .ensures)))))),
       omega arith,
     )
 
@@ -56,6 +61,7 @@ put-notice-line-spec =
     put-verdict-requires
     put-number-requires-2
     put-number-requires-3
+    put-number-requires-4
     put-byte-requires-2
     same-length
     returns)

@@ -14,7 +14,7 @@ number-requires c κs = search needs
 returns : tie.Need-returns
 returns c =
     let e = c .before .run .ensures in
-    (ap (λ a. a .number) e, (ap (λ a. a .place) e, (c .number .ensures ∙ ap (λ a. numberOf (a .verdict)) e, ap (λ a. a .steps) e)))
+    (ap (λ a. a .number) e, (ap (λ a. a .place) e, (c .number .ensures ∙ ap (λ a. numberOf (a .verdict)) e, (ap (λ a. a .steps) e, ap (λ a. a .undecided) e))))
 
 pub virentolex-run-spec : {M : Type 1} → statement M
 virentolex-run-spec = tie.close (tie.spec run-requires number-requires returns)

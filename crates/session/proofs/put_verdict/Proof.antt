@@ -15,6 +15,9 @@ run-last-requires c κs = search needs
 cast-put-notice-line : tie.Need-cast-put-notice-line
 cast-put-notice-line c = search needs
 
+cast-put-notice-line-2 : tie.Need-cast-put-notice-line-2
+cast-put-notice-line-2 c = search needs
+
 put-notice-line-requires : tie.Need-put-notice-line-requires
 put-notice-line-requires c κs = search needs
 
@@ -23,9 +26,9 @@ same-length c = search needs
 
 returns : tie.Need-returns
 returns c =
-    (renamed (ap ranLine (c .before .before .before .before .before .run-last .ensures)) (c .before .before .put-notice-line .ensures .0), c .before .before .put-notice-line .ensures .1)
+    (renamed (ap ranLine (c .before .before .before .before .before .before .run-last .ensures)) (c .before .before .put-notice-line .ensures .0), c .before .before .put-notice-line .ensures .1)
 
 pub put-verdict-spec : {M : Type 1} → statement M
 put-verdict-spec =
     tie.close
-    (tie.spec run-last-requires cast-put-notice-line put-notice-line-requires same-length returns)
+    (tie.spec run-last-requires cast-put-notice-line cast-put-notice-line-2 put-notice-line-requires same-length returns)

@@ -11,49 +11,39 @@ use Rattle.quorum.proofs.Turns.{run-refused, short-of-true, by-staff}
 use Rattle.quorum.proofs.judging.turn_of.Statement.{statement}
 use Rattle.quorum.proofs.judging.turn_of.Tie as tie
 
-run-in-requires : tie.Need-run-in-requires
-run-in-requires c κs = search needs
-
 returns : tie.Need-returns
 returns c =
-    let a = c .before .before .before .before .before .args in
-    let r = c .before .before .run-in in
-    run-refused (kept (a .buffer .now)) (a .notice .now) (r .result) (r .ensures) (c .if1 .taken)
+    let s = c .before .before .before .before in
+    let a = s .args in
+    run-refused (kept (a .buffer .now)) (a .notice .now) (a .ran) (s .pre .1) (c .if1 .taken)
 
 is-true-requires : tie.Need-is-true-requires
 is-true-requires c κs = search needs
 
 staff-requires : tie.Need-staff-requires
 staff-requires c κs =
-    let a = c .before .before .before .before .before .before .before .args in
-    let r = c .before .before .before .before .run-in in
-    ran-well (tableOf (a .buffer .now)) (a .notice .now) (sym (ap (λ (x : Ran). x .number) (r .ensures)) ∙ c .before .before .if1 .left)
+    let s = c .before .before .before .before .before .before in
+    let a = s .args in
+    ran-well (tableOf (a .buffer .now)) (a .notice .now) (sym (ap (λ (x : Ran). x .number) (s .pre .1)) ∙ c .before .before .if1 .left)
 
 judge-requires : tie.Need-judge-requires
-judge-requires c κs = search needs
+judge-requires c κs = c .before .before .before .before .before .before .before .pre .0
 
 returns-2 : tie.Need-returns-2
 returns-2 c =
-    let a = c .before .before .before .before .before .before .before .before .before .args in
-    let r = c .before .before .before .before .before .before .run-in in
+    let s = c .before .before .before .before .before .before .before .before in
+    let a = s .args in
     c .judge .ensures
     ∙ (ap (λ (v : List ℕ). staffTurn v (valuesOf (a .buffer .now))) (c .before .staff .ensures)
-    ∙ by-staff (kept (a .buffer .now)) (a .notice .now) (r .result) (r .ensures) (c .before .before .before .before .if1 .left) (sym (c .before .before .before .is-true .ensures) ∙ c .before .before .if2 .taken))
+    ∙ by-staff (kept (a .buffer .now)) (a .notice .now) (a .ran) (s .pre .1) (c .before .before .before .before .if1 .left) (sym (c .before .before .before .is-true .ensures) ∙ c .before .before .if2 .taken))
 
 returns-3 : tie.Need-returns-3
 returns-3 c =
-    let a = c .before .before .before .before .before .before .before .args in
-    let r = c .before .before .before .before .run-in in
-    short-of-true (kept (a .buffer .now)) (a .notice .now) (r .result) (r .ensures) (c .before .before .if1 .left) (sym (c .before .is-true .ensures) ∙ c .if2 .left)
+    let s = c .before .before .before .before .before .before in
+    let a = s .args in
+    short-of-true (kept (a .buffer .now)) (a .notice .now) (a .ran) (s .pre .1) (c .before .before .if1 .left) (sym (c .before .is-true .ensures) ∙ c .if2 .left)
 
 pub turn-of-spec : {M : Type 1} → statement M
 turn-of-spec =
     tie.close
-    (tie.spec
-    run-in-requires
-    returns
-    is-true-requires
-    staff-requires
-    judge-requires
-    returns-2
-    returns-3)
+    (tie.spec returns is-true-requires staff-requires judge-requires returns-2 returns-3)
