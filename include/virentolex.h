@@ -22,6 +22,7 @@
  *    deciding      12 no decision                   21 needed number outside 1 to 8
  *                  19 no right Staff field          20 a ninth person
  *    UBF(A)        22 text outside the syntax      23 not one tuple of fields; a real64 field
+ *    many tables   24 over 64 tables                 9 verdict buffer shorter than their number
  *
  * What every caller must see to, since nothing checks a caller in C:
  *
@@ -38,7 +39,8 @@
  * use no heap and call nothing but memset. The stack is not part of the proofs. Measured: translating
  * takes 14 kB for a flat text, 18 kB with `wildcard`, and 349 kB for the deepest texts tried (24
  * parentheses, every operator level and 24 prefix operators between each two); a run whose `contains`
- * goes on by borders takes 10 kB, the other functions at most 6 kB, of which reading UBF(A) takes 4.
+ * goes on by borders takes 10 kB, among many tables too, the other functions at most 6 kB, of which
+ * reading UBF(A) takes 4.
  */
 #ifndef VIRENTOLEX_H
 #define VIRENTOLEX_H
@@ -55,6 +57,9 @@ extern "C" {
 #define VIRENTOLEX_TRUE 1
 #define VIRENTOLEX_BOTTOM 2
 
+/* In place of a verdict, where virentolex_run_many was passed a table that fails its check. */
+#define VIRENTOLEX_REFUSED 3
+
 /*
  * The kinds of fields, with the size of their values. What the function `size` of a subscription counts
  * are a string's UTF-8 characters (bottom if it is ill-formed) and an opaque value's bytes.
@@ -69,6 +74,9 @@ extern "C" {
 #define VIRENTOLEX_TEXT_MAX 4096
 #define VIRENTOLEX_TABLE_MAX 10250
 #define VIRENTOLEX_NOTICE_MAX 16384
+
+/* The most tables of one call of virentolex_run_many. */
+#define VIRENTOLEX_TABLES_MAX 64
 
 /* The index for a name that no field has. */
 #define VIRENTOLEX_NO_FIELD 64
@@ -267,6 +275,28 @@ uint8_t virentolex_ubf_read(const uint8_t *text, size_t text_len,
 uint8_t virentolex_ubf_write(const uint8_t *notice, size_t notice_len,
                              uint8_t *text, size_t text_len,
                              size_t *place, size_t *length);
+
+/*
+ * Runs up to VIRENTOLEX_TABLES_MAX tables, laid end to end, on one notice, which is checked once. Each
+ * table is checked before it is run, so any bytes may be passed.
+ *
+ * A table ends where its length word, the u32 in its first four bytes, says. If that passes the end of
+ * the bytes, or if only 1 to 3 bytes are left, all that is left counts as one table, which is refused. A
+ * refused table does not end the walk, whatever is wrong in it; a length word of 0 is a refused table of
+ * four bytes. No bytes are no table.
+ *
+ * Answers 0, or the first that applies of: 11 if the notice fails its layout; 24 for over
+ * VIRENTOLEX_TABLES_MAX tables; 9 if there are more than verdicts_len tables.
+ * *place     after 11 as virentolex_check_notice says; else 0.
+ * *count     how many tables there are, and verdict bytes; 0 if refused.
+ * verdicts   after 0 its first *count bytes are, table by table, what virentolex_run answers for it as
+ *            *verdict, or VIRENTOLEX_REFUSED where it answers 12; the bytes after them are as they were.
+ *            After a refusal every byte is as it was.
+ */
+uint8_t virentolex_run_many(const uint8_t *tables, size_t tables_len,
+                            const uint8_t *notice, size_t notice_len,
+                            uint8_t *verdicts, size_t verdicts_len,
+                            size_t *place, size_t *count);
 
 #ifdef __cplusplus
 }

@@ -59,20 +59,29 @@ pub fn median(mut v: Vec<f64>) -> f64 {
     v[v.len() / 2]
 }
 
-/// Nanoseconds a time of each side and their ratio: each the median over the rounds. The sides go in turn, and a ratio is that of
-/// one round, so that other work on the machine, which comes and goes, tells on both.
+/// Nanoseconds a time of each side, round by round. The sides go in turn, so that other work on the machine, which comes and goes,
+/// tells on all.
+pub fn rounds<const N: usize>(mut sides: [&mut dyn FnMut(u32); N], pace: Pace) -> Vec<[f64; N]> {
+    let times = sides.each_mut().map(|side| fill(side, pace));
+    let round = |_| std::array::from_fn(|k| once(sides[k], times[k]) / times[k] as f64);
+    (0..pace.rounds).map(round).collect()
+}
+
+/// The median over the rounds of what is made of each.
+pub fn middle<const N: usize>(rounds: &[[f64; N]], of: impl Fn(&[f64; N]) -> f64) -> f64 {
+    median(rounds.iter().map(of).collect())
+}
+
+/// Nanoseconds a time of each side and their ratio: each the median over the rounds, and a ratio is that of one round.
 pub fn compare(
     ours: &mut dyn FnMut(u32),
     expert: &mut dyn FnMut(u32),
     pace: Pace,
 ) -> (f64, f64, f64) {
-    let (m, n) = (fill(ours, pace), fill(expert, pace));
-    let (mut a, mut b, mut r) = (Vec::new(), Vec::new(), Vec::new());
-    for _ in 0..pace.rounds {
-        let (x, y) = (once(ours, m) / m as f64, once(expert, n) / n as f64);
-        a.push(x);
-        b.push(y);
-        r.push(x / y);
-    }
-    (median(a), median(b), median(r))
+    let all = rounds([ours, expert], pace);
+    (
+        middle(&all, |r| r[0]),
+        middle(&all, |r| r[1]),
+        middle(&all, |r| r[0] / r[1]),
+    )
 }

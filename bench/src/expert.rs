@@ -416,6 +416,12 @@ fn before(a: &[u8], b: &[u8]) -> bool {
 
 /// None if the notice is well formed, else the place of its first fault.
 pub fn check_notice(notice: &[u8]) -> Option<usize> {
+    check_fields(notice, |_, _, _| ())
+}
+
+/// The same, with each right field's number, start and name told.
+#[inline(always)]
+fn check_fields(notice: &[u8], mut tell: impl FnMut(usize, usize, &[u8])) -> Option<usize> {
     let len = notice.len();
     if !(8..=16384).contains(&len) {
         return Some(0);
@@ -427,7 +433,7 @@ pub fn check_notice(notice: &[u8]) -> Option<usize> {
         }
         let mut at = 8;
         let mut last = notice.get_unchecked(8..8);
-        for _ in 0..count {
+        for k in 0..count {
             if len - at < 5 {
                 return Some(at);
             }
@@ -447,6 +453,7 @@ pub fn check_notice(notice: &[u8]) -> Option<usize> {
             if !right || !name_right(name) || !before(last, name) {
                 return Some(at);
             }
+            tell(k as usize, at, name);
             last = name;
             at += 2 + size;
         }
@@ -455,6 +462,25 @@ pub fn check_notice(notice: &[u8]) -> Option<usize> {
         } else {
             Some(at)
         }
+    }
+}
+
+/// The value of the field that starts at the place.
+#[inline(always)]
+unsafe fn value_at(notice: &[u8], at: usize) -> Slot {
+    let start = at + 5 + *notice.get_unchecked(at + 4) as usize;
+    let len = at + 2 + u16_at(notice, at) as usize - start;
+    match u16_at(notice, at + 2) {
+        1 => Slot::Int32(u32_at(notice, start) as i32),
+        2 => Slot::Int64(u64_at(notice, start) as i64),
+        3 => Slot::Real(f64::from_bits(u64_at(notice, start))),
+        4 => Slot::Text(Piece {
+            at: start as u16,
+            len: len as u16,
+            in_pool: false,
+            folded: false,
+        }),
+        _ => Slot::Opaque(len as u16),
     }
 }
 
@@ -471,20 +497,7 @@ unsafe fn lookup(notice: &[u8], key: &[u8]) -> Slot {
             if name_len == key.len()
                 && same_bytes(notice.as_ptr().add(at + 5), key.as_ptr(), name_len)
             {
-                let start = at + 5 + name_len;
-                let len = at + 2 + u16_at(notice, at) as usize - start;
-                return match u16_at(notice, at + 2) {
-                    1 => Slot::Int32(u32_at(notice, start) as i32),
-                    2 => Slot::Int64(u64_at(notice, start) as i64),
-                    3 => Slot::Real(f64::from_bits(u64_at(notice, start))),
-                    4 => Slot::Text(Piece {
-                        at: start as u16,
-                        len: len as u16,
-                        in_pool: false,
-                        folded: false,
-                    }),
-                    _ => Slot::Opaque(len as u16),
-                };
+                return value_at(notice, at);
             }
         } else if head > first {
             return Slot::Missing;
@@ -807,6 +820,12 @@ fn is_bottom(s: Slot) -> bool {
 /// # Safety
 /// The notice is well formed.
 pub unsafe fn run(p: &Program, notice: &[u8]) -> (u8, usize, u16) {
+    run_by(p, notice, |name| lookup(notice, name))
+}
+
+/// The same with another way to find the field of a name.
+#[inline(always)]
+unsafe fn run_by(p: &Program, notice: &[u8], find: impl Fn(&[u8]) -> Slot) -> (u8, usize, u16) {
     let pool = p.pool;
     let code = p.code;
     let mut stack = [MaybeUninit::<Slot>::uninit(); 33];
@@ -887,7 +906,7 @@ pub unsafe fn run(p: &Program, notice: &[u8]) -> (u8, usize, u16) {
             })),
             Ins::Name(start, len) => push!({
                 let name = pool.get_unchecked(start as usize..start as usize + len as usize);
-                let v = lookup(notice, name);
+                let v = find(name);
                 note!(v);
                 v
             }),
@@ -1120,4 +1139,121 @@ pub fn guarded(table: &[u8], notice: &[u8]) -> (u8, usize, u8, usize, u16) {
     }
     let (verdict, steps, undecided) = unsafe { run(&p, notice) };
     (0, 0, number_of(verdict), steps, undecided)
+}
+
+// ---- many tables
+
+/// A notice's fields, so that a name is found without a walk: where each starts, and a byte that most other names do not have.
+struct Index {
+    starts: [MaybeUninit<u16>; 64],
+    tags: [u8; 64],
+    count: usize,
+}
+
+#[inline(always)]
+unsafe fn tag(name: &[u8]) -> u8 {
+    let last = *name.get_unchecked(name.len() - 1);
+    name.get_unchecked(0)
+        .wrapping_mul(31)
+        .wrapping_add(last.wrapping_mul(7))
+        .wrapping_add(name.len() as u8)
+}
+
+impl Index {
+    /// The index of a notice, or the place of its first fault.
+    fn of(notice: &[u8]) -> Result<Index, usize> {
+        let mut index = Index {
+            starts: [MaybeUninit::uninit(); 64],
+            tags: [0; 64],
+            count: 0,
+        };
+        let fault = check_fields(notice, |k, at, name| {
+            index.starts[k].write(at as u16);
+            // SAFETY: a right name is not empty
+            index.tags[k] = unsafe { tag(name) };
+            index.count = k + 1;
+        });
+        match fault {
+            None => Ok(index),
+            Some(place) => Err(place),
+        }
+    }
+
+    /// A bit for each field whose tag is the one.
+    #[inline(always)]
+    unsafe fn places(&self, tag: u8) -> u64 {
+        use std::arch::x86_64::*;
+        let sought = _mm_set1_epi8(tag as i8);
+        let mut all = 0;
+        let mut k = 0;
+        while k < self.count {
+            let sixteen = _mm_loadu_si128(self.tags.as_ptr().add(k) as *const __m128i);
+            all |= (_mm_movemask_epi8(_mm_cmpeq_epi8(sought, sixteen)) as u64) << k;
+            k += 16;
+        }
+        all & (u64::MAX >> (64 - self.count))
+    }
+
+    /// The value of the field of a name in the notice that the index is of.
+    #[inline(always)]
+    unsafe fn find(&self, notice: &[u8], name: &[u8]) -> Slot {
+        if self.count == 0 {
+            return Slot::Missing;
+        }
+        let mut places = self.places(tag(name));
+        while places != 0 {
+            let at = self.starts[places.trailing_zeros() as usize].assume_init() as usize;
+            if *notice.get_unchecked(at + 4) as usize == name.len()
+                && same_bytes(notice.as_ptr().add(at + 5), name.as_ptr(), name.len())
+            {
+                return value_at(notice, at);
+            }
+            places &= places - 1;
+        }
+        Slot::Missing
+    }
+}
+
+/// How many of these bytes the table at their start takes.
+#[inline(always)]
+fn extent(s: &[u8]) -> usize {
+    if s.len() < 4 {
+        return s.len();
+    }
+    // SAFETY: there are four bytes
+    let size = 4 + unsafe { u32_at(s, 0) } as usize;
+    size.min(s.len())
+}
+
+/// Up to 64 tables end to end on one notice (document 02, request 8): number, place, how many verdict bytes. The notice is checked
+/// and its index made once; each table is checked and decoded in one pass and then run.
+pub fn many(tables: &[u8], notice: &[u8], verdicts: &mut [u8]) -> (u8, usize, usize) {
+    let index = match Index::of(notice) {
+        Ok(index) => index,
+        Err(place) => return (11, place, 0),
+    };
+    let mut ends = [0; 64];
+    let (mut count, mut end) = (0, 0);
+    while end < tables.len() {
+        if count == 64 {
+            return (24, 0, 0);
+        }
+        end += extent(&tables[end..]);
+        ends[count] = end;
+        count += 1;
+    }
+    if verdicts.len() < count {
+        return (9, 0, 0);
+    }
+    let mut code = no_code();
+    let mut start = 0;
+    for (&end, verdict) in ends[..count].iter().zip(verdicts) {
+        *verdict = match decode(&tables[start..end], &mut code) {
+            // SAFETY: the notice has been checked, and the index is of it
+            Some(p) => number_of(unsafe { run_by(&p, notice, |name| index.find(notice, name)) }.0),
+            None => 3,
+        };
+        start = end;
+    }
+    (0, 0, count)
 }

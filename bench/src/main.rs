@@ -1,6 +1,6 @@
 //! Ours beside the expert's Rust, one machine, one run. `bench` prints every table, `bench quick` the same in a tenth
 //! of the time, `bench agree` compares the answers of both sides on many random cases and times nothing, `bench worst` times
-//! ours alone on the worst inputs found, `bench ubf` prints the tables of UBF(A) alone.
+//! ours alone on the worst inputs found, `bench ubf` prints the tables of UBF(A) alone, `bench many` those of many subscriptions.
 //! How it is built and run, with the flags: bench/run.
 
 mod agree;
@@ -8,6 +8,7 @@ mod clock;
 mod doors;
 mod hostile;
 mod load;
+mod many;
 mod meters;
 mod program;
 mod quorum;
@@ -251,14 +252,17 @@ fn main() {
         ),
         "agree" => {
             doors::agree(200_000);
+            many::agree(20_000);
             return agree::agree(200_000);
         }
         "worst" => return worst::rows(),
         "ubf" => return doors::rows(WHOLE),
-        _ => panic!("bench [quick | agree | worst | ubf]"),
+        "many" => return many::rows(WHOLE),
+        _ => panic!("bench [quick | agree | worst | ubf | many]"),
     };
     agree::agree(2_000);
     doors::agree(2_000);
+    many::agree(200);
     linear();
     println!(
         "medians of {} rounds, the sides in turn; ratio: ours over expert in the same round",
@@ -266,6 +270,7 @@ fn main() {
     );
     inner(pace);
     guarded(pace);
+    many::rows(pace);
     quorum::shows(pace);
     checks(pace);
     translation(pace);

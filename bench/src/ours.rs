@@ -85,6 +85,16 @@ mod c {
             place: *mut usize,
             length: *mut usize,
         ) -> u8;
+        pub fn virentolex_run_many(
+            tables: *const u8,
+            tables_len: usize,
+            notice: *const u8,
+            notice_len: usize,
+            verdicts: *mut u8,
+            verdicts_len: usize,
+            place: *mut usize,
+            count: *mut usize,
+        ) -> u8;
         pub fn repeat_run(
             table: *const u8,
             table_len: usize,
@@ -263,6 +273,25 @@ pub fn ubf_write(notice: &[u8], text: &mut [u8]) -> (u8, usize, usize) {
         )
     };
     (number, place, length)
+}
+
+/// Many tables end to end on one notice: number, place and how many verdict bytes.
+pub fn many(tables: &[u8], notice: &[u8], verdicts: &mut [u8]) -> (u8, usize, usize) {
+    let (mut place, mut count) = (0, 0);
+    // SAFETY: as above
+    let number = unsafe {
+        c::virentolex_run_many(
+            tables.as_ptr(),
+            tables.len(),
+            notice.as_ptr(),
+            notice.len(),
+            verdicts.as_mut_ptr(),
+            verdicts.len(),
+            &mut place,
+            &mut count,
+        )
+    };
+    (number, place, count)
 }
 
 /// The inner run so many times: the sum of the runs' steps, each four times, and of their verdicts; 0 if the table fails the check or the notice is not well-formed.

@@ -17,7 +17,7 @@ struct Case {
 /// An input that grows: `of(1)` is the half and `of(2)` the whole. The bytes of a case are
 /// - of a text, a UBF(A) text and a notice its length, of a decision its length and the notice's;
 /// - of a table in a check its length, and a name's bytes for each entry that names them;
-/// - of a run its table's length, for each string operator the bytes of both its operands with each literal, for each `size` those
+/// - of a run, of many too, its table's length, for each string operator the bytes of both its operands with each literal, for each `size` those
 ///   of its string, and for each name the bytes of all the notice's fields but their values.
 struct Family {
     name: String,
@@ -80,6 +80,7 @@ pub fn rows() {
     told("virentolex_run: strings", strings());
     told("virentolex_run: names and numbers", names_and_numbers());
     told("virentolex_run: patterns", patterns());
+    told("virentolex_run_many", many());
     told("virentolex_check", checks());
     told("virentolex_check_notice, virentolex_read", notices());
     told("virentolex_write (with 16,384 bytes copied)", writes());
@@ -351,6 +352,38 @@ fn names_and_numbers() -> Vec<Family> {
         }));
     }
     all
+}
+
+/// So many times the table, end to end, whose run looks at these bytes beside it.
+fn deliver(table: Vec<u8>, count: usize, notice: Vec<u8>, bytes: usize) -> Case {
+    let (tables, mut verdicts) = (table.repeat(count), vec![0; count]);
+    Case {
+        number: 0,
+        bytes: notice.len() + count * (table.len() + bytes),
+        call: Box::new(move || ours::many(black_box(&tables), &notice, &mut verdicts).0),
+    }
+}
+
+fn many() -> Vec<Family> {
+    vec![
+        family("64 tables, 414 lookups each, 64 names as above", |k| {
+            let names = alike(64, 64);
+            let group = eight(&[name(64, 0)], &[name(64, 0)], 59);
+            let table = table(&often(&group), &names[63]);
+            let fields: Vec<_> = names
+                .into_iter()
+                .map(|name| (name, 1, vec![0; 4]))
+                .collect();
+            let bytes = groups(&group) * 9 * 64 * 69;
+            deliver(table, 32 * k, notice(&fields), bytes)
+        }),
+        family("64 tables, contains in the pool, folded, as above", |k| {
+            let (group, pool) = hostile::almost_contained(2048, 1);
+            let bytes = groups(&group) * both(4095, 2048);
+            let table = table(&often(&group), &pool);
+            deliver(table, 32 * k, hostile::EMPTY.to_vec(), bytes)
+        }),
+    ]
 }
 
 /// `wildcard` with eight patterns on a field of so many a's, as often as it fits.

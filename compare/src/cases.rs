@@ -80,7 +80,7 @@ pub fn entry_number(undecided: Option<usize>) -> usize {
 }
 
 /// The kinds in turn, by the case's number.
-const KINDS: [&str; 26] = [
+const KINDS: [&str; 27] = [
     "text",
     "table",
     "notice",
@@ -107,6 +107,7 @@ const KINDS: [&str; 26] = [
     "meter",
     "find",
     "undecided",
+    "many",
 ];
 /// So many operators are tried in one case of theirs.
 const OPERATORS: usize = 20;
@@ -136,6 +137,7 @@ impl Case<'_> {
             "meter" => self.meter(),
             "find" => self.find(),
             "undecided" => self.undecided(),
+            "many" => self.many(),
             "operator" => (0..OPERATORS).try_for_each(|_| self.operator()),
             _ => self.program(),
         }
@@ -529,6 +531,7 @@ mod tests {
             kinds,
             [
                 "find",
+                "many",
                 "meter",
                 "notice",
                 "operator",

@@ -80,7 +80,7 @@ fn notice_with_names(random: &mut Random) -> (Vec<u8>, Vec<Vec<u8>>) {
 }
 
 /// The well-formed notice with one thing wrong, or hardly more.
-fn broken(random: &mut Random, mut notice: Vec<u8>) -> Vec<u8> {
+pub fn broken(random: &mut Random, mut notice: Vec<u8>) -> Vec<u8> {
     match random.below(6) {
         0 => notice[random.below(8)] ^= 1 << random.below(8),
         1 => notice.push(random.byte()),

@@ -13,6 +13,8 @@ mod expressions;
 mod find;
 mod find_edges;
 mod inputs;
+mod many;
+mod many_edges;
 mod meter_corners;
 mod meters;
 mod notices;

@@ -2,7 +2,8 @@
 
 use crate::edges::EDGES;
 use crate::{
-    corners, find_edges, quorum_edges, size, spellings, ubf_edges, undecided_edges, wildcard,
+    corners, find_edges, many_edges, quorum_edges, size, spellings, ubf_edges, undecided_edges,
+    wildcard,
 };
 use reference::op::OPS;
 use std::collections::BTreeMap;
@@ -17,7 +18,7 @@ const MOST_NAMED: usize = 64;
 const RAREST: usize = 8;
 
 /// What must occur in a run of many cases.
-const NUMBERS: [(&str, &[u8]); 12] = [
+const NUMBERS: [(&str, &[u8]); 13] = [
     ("translate", &[0, 1, 2, 3, 4, 5, 6, 7, 8, 9, 10, 18]),
     ("check", &[0, 12]),
     ("run", &[0, 11, 12]),
@@ -30,6 +31,7 @@ const NUMBERS: [(&str, &[u8]); 12] = [
     ("quorum show", &[0, 11, 12, 19, 20]),
     ("ubf read", &[0, 13, 14, 15, 16, 22, 23]),
     ("ubf write", &[0, 11, 15, 23]),
+    ("run_many", &[0, 9, 11, 24]),
 ];
 const WORDS: [(&str, &[&str]); 12] = [
     (
@@ -48,6 +50,7 @@ const WORDS: [(&str, &[&str]); 12] = [
             "meter",
             "find",
             "undecided",
+            "many",
         ],
     ),
     ("verdict", &["True", "False", "Bottom"]),
@@ -99,6 +102,7 @@ impl Tally {
         let undecided = undecided_edges::names();
         let undecided = undecided.into_iter().map(|one| ("undecided", one));
         let told = OPS.iter().map(|op| ("entry of op", op.code().to_string()));
+        let many = many_edges::names().into_iter().map(|one| ("many", one));
         let all = numbers
             .chain(words)
             .chain(ops)
@@ -107,6 +111,7 @@ impl Tally {
             .chain(searches)
             .chain(undecided)
             .chain(told)
+            .chain(many)
             .chain(spellings);
         all.filter(|key| !self.counts.contains_key(key))
             .map(|(of, one)| format!("{of} {one}"))

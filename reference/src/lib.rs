@@ -7,6 +7,7 @@ pub mod compile;
 pub mod exact;
 pub mod grammar;
 pub mod judge;
+pub mod many;
 pub mod meaning;
 pub mod notice;
 pub mod op;
@@ -22,6 +23,7 @@ pub mod verdict;
 pub mod wildcard;
 
 pub use compile::{translate, Translation};
+pub use many::{run_many, Many};
 pub use meaning::meaning;
 pub use notice::{check_notice, find, read, write, Finding, Reading, Writing};
 pub use run::{run, Running};

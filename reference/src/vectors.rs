@@ -19,6 +19,7 @@
 //! - `06-run.txt`: as `run.txt`, of tables with integers beside reals and results beyond int64
 //! - `07-run.txt`: as `run.txt`, then the undecided entry; `07-quorum.txt`: as `03-quorum.txt`, each answer
 //!   with the entry at its end; `07-program.txt`: as `program.txt`, each `N` line with the entry at its end
+//! - `08-many.txt`: tables end to end, notice, verdict buffer's length, number, place, count, verdict bytes
 //! - `11-find.txt`: notice, name, index of the field that has it or `-`, names looked at
 //!
 //! Files without 07 in front are from before request 7, so that their answers of runs have no entry.
@@ -58,6 +59,7 @@ fn answer(file: &str, words: &[&str]) -> Option<(usize, String)> {
         ("03-states.txt", 8) => Some((4, without_last(&state(words)?))),
         ("05-read.txt", 5) => Some((2, ubf(words, crate::ubf::read)?)),
         ("05-write.txt", 5) => Some((2, ubf(words, crate::ubf::write)?)),
+        ("08-many.txt", 7) => Some((3, many(words)?)),
         ("11-find.txt", 4) => Some((2, find(words)?)),
         _ => None,
     }
@@ -183,6 +185,19 @@ fn ubf(words: &[&str], call: fn(&[u8], &mut [u8]) -> crate::Writing) -> Option<S
         answer.number,
         answer.place,
         hex(&buffer[..answer.length])
+    ))
+}
+
+/// Tables end to end, run on one notice.
+fn many(words: &[&str]) -> Option<String> {
+    let mut verdicts = vec![0; words[2].parse().ok()?];
+    let answer = crate::run_many(&bytes(words[0])?, &bytes(words[1])?, &mut verdicts);
+    Some(format!(
+        "{} {} {} {}",
+        answer.number,
+        answer.place,
+        answer.count,
+        hex(&verdicts[..answer.count])
     ))
 }
 

@@ -24,6 +24,7 @@ fn the_vectors_agree() {
         ("07-run.txt", 700),
         ("07-quorum.txt", 120),
         ("07-program.txt", 120),
+        ("08-many.txt", 350),
         ("11-find.txt", 500),
     ];
     for (file, cases) in files {

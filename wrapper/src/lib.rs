@@ -112,6 +112,16 @@ mod library {
             place: *mut usize,
             length: *mut usize,
         ) -> u8;
+        pub fn virentolex_run_many(
+            tables: *const u8,
+            tables_len: usize,
+            notice: *const u8,
+            notice_len: usize,
+            verdicts: *mut u8,
+            verdicts_len: usize,
+            place: *mut usize,
+            count: *mut usize,
+        ) -> u8;
     }
 }
 
@@ -126,6 +136,11 @@ pub const NOTICE_MAX: usize = 16_384;
 pub const DECISION_HEAD: usize = 528;
 /// The most bytes of a decision.
 pub const DECISION_MAX: usize = DECISION_HEAD + TABLE_MAX;
+
+/// The most tables of one call of `run_many`.
+pub const TABLES_MAX: usize = 64;
+/// The byte of `run_many` for a table that fails its check.
+pub const REFUSED: u8 = 3;
 
 /// The most bytes of a UBF(A) text that is written; one that is read may be longer.
 pub const UBF_TEXT_MAX: usize = 32_839;
@@ -169,6 +184,11 @@ impl Verdict {
             2 => Verdict::Bottom,
             _ => unreachable!("a verdict is 0, 1 or 2"),
         }
+    }
+
+    /// The verdict that a byte of `run_many` is; none for `REFUSED`, and for what is no such byte.
+    pub fn of_byte(byte: u8) -> Option<Verdict> {
+        (byte < REFUSED).then(|| Verdict::of_number(byte))
     }
 }
 
@@ -269,6 +289,15 @@ pub struct Converted {
     pub number: u8,
     pub place: usize,
     pub length: usize,
+}
+
+/// What running many tables answers: the place is that of 11, and else 0; the count is that of the
+/// tables, and of the verdict bytes, 0 if refused.
+#[derive(Debug, Clone, Copy, PartialEq, Eq)]
+pub struct Delivered {
+    pub number: u8,
+    pub place: usize,
+    pub count: usize,
 }
 
 /// Translates a subscription text to a table at the buffer's start. The bytes after the table stay,
@@ -595,6 +624,36 @@ pub fn ubf_write(notice: &[u8], text: &mut [u8]) -> Converted {
         number,
         place,
         length,
+    }
+}
+
+/// Runs up to `TABLES_MAX` tables, laid end to end, on one notice, which is checked once: 11, 24 for more
+/// tables, then 9 for a verdict buffer too short. Byte by byte from the buffer's start it is told what `run`
+/// would answer for a table: its verdict (`Verdict::of_byte`), or `REFUSED`. The bytes after them stay, and
+/// a refusal changes no byte.
+///
+/// A table ends where its length word says; if that passes the end, or 1 to 3 bytes are left, the rest
+/// counts as one refused table.
+pub fn run_many(tables: &[u8], notice: &[u8], verdicts: &mut [u8]) -> Delivered {
+    let (mut place, mut count) = (0, 0);
+    // SAFETY: each pointer and length come from one slice, an empty one's pointer is not null; the
+    // verdicts and the two results are borrowed here alone, so that they overlap nothing.
+    let number = unsafe {
+        library::virentolex_run_many(
+            tables.as_ptr(),
+            tables.len(),
+            notice.as_ptr(),
+            notice.len(),
+            verdicts.as_mut_ptr(),
+            verdicts.len(),
+            &mut place,
+            &mut count,
+        )
+    };
+    Delivered {
+        number,
+        place,
+        count,
     }
 }
 

@@ -281,6 +281,9 @@ fn empty_slices_are_answered() {
     assert_eq!(find(&EMPTY_NOTICE, b"").number, 0);
     assert_eq!(entry(&[], 0).number, 12);
     assert_eq!(write(&mut [], 0, b"", kind::STRING, b"").number, 11);
+    assert_eq!(run_many(&[], &[], &mut []).number, 11);
+    assert_eq!(run_many(&[], &OP42, &mut []), delivered(0, 0, 0));
+    assert_eq!(run_many(&OP_IS_42, &OP42, &mut []), delivered(9, 0, 0));
 }
 
 #[test]
@@ -329,6 +332,21 @@ fn an_empty_slice_may_have_a_null_pointer() {
         };
         assert_eq!((number, op, a, b, start, end), (refusal, 0, 0, 0, 0, 0));
     }
+    let (nothing, mut count) = (std::ptr::null_mut(), 9);
+    // SAFETY: as above.
+    let number = unsafe {
+        library::virentolex_run_many(
+            null,
+            0,
+            OP42.as_ptr(),
+            OP42.len(),
+            nothing,
+            0,
+            &mut place,
+            &mut count,
+        )
+    };
+    assert_eq!((number, place, count), (0, 0, 0));
 }
 
 /// A notice of string fields, their names rising.
@@ -749,4 +767,117 @@ fn refused_notices_of_doors_change_no_byte() {
         assert_eq!(text, vec![0xAA; room]);
     }
     assert_eq!(ubf_write(&EMPTY_NOTICE, &mut [0; 3]), converted(0, 0, 3));
+}
+
+fn delivered(number: u8, place: usize, count: usize) -> Delivered {
+    Delivered {
+        number,
+        place,
+        count,
+    }
+}
+
+/// The verdict bytes of tables laid end to end; each is what `run` answers for the table.
+fn many(tables: &[&[u8]], notice: &[u8]) -> Vec<u8> {
+    let mut verdicts = vec![0xAA; tables.len() + 2];
+    let d = run_many(&tables.concat(), notice, &mut verdicts);
+    assert_eq!(d, delivered(0, 0, tables.len()));
+    // "Bytes past the last verdict stay."
+    assert_eq!(verdicts.split_off(tables.len()), [0xAA; 2]);
+    for (table, byte) in tables.iter().zip(&verdicts) {
+        let r = run(table, notice);
+        assert_eq!(r.number, if *byte == REFUSED { 12 } else { 0 });
+        assert_eq!(
+            r.verdict,
+            Verdict::of_byte(*byte).unwrap_or(Verdict::Bottom)
+        );
+    }
+    verdicts
+}
+
+#[test]
+fn one_notice_and_many_subscriptions() {
+    let (no, undecided) = (table("Op == 41"), table("Staff != \"417\""));
+    let mut refused = OP_IS_42;
+    refused[4] = 3;
+    // "0 false, 1 true, 2 bottom, 3 table refused", in any order
+    let all: [&[u8]; 4] = [&no, &OP_IS_42, &undecided, &refused];
+    assert_eq!(many(&all, &OP42), [0, 1, 2, 3]);
+    assert_eq!(many(&all, &EMPTY_NOTICE), [2, 2, 2, 3]);
+    let again: [&[u8]; 5] = [&refused, &undecided, &OP_IS_42, &no, &OP_IS_42];
+    assert_eq!(many(&again, &OP42), [3, 2, 1, 0, 1]);
+    assert_eq!(many(&[], &OP42), [0; 0]);
+    let read: Vec<Option<Verdict>> = (0..=4).map(Verdict::of_byte).collect();
+    let (f, t, b) = (Verdict::False, Verdict::True, Verdict::Bottom);
+    assert_eq!(read, [Some(f), Some(t), Some(b), None, None]);
+}
+
+#[test]
+fn where_a_table_ends() {
+    let right = &OP_IS_42[..];
+    let word = |length: u32| length.to_le_bytes();
+    // a length word of 0, and others under that of any table: each is refused, and the walk goes on
+    let short = [&word(1)[..], &[7]].concat();
+    let header = [&word(6)[..], &[2, 0, 0, 0, 0, 0]].concat();
+    let tables: [&[u8]; 6] = [&word(0), right, &short, &word(0), &header, right];
+    assert_eq!(many(&tables, &OP42), [3, 1, 3, 3, 3, 1]);
+    // "or 1 to 3 bytes are left": zeros, and a right table's start
+    for left in 1..=3 {
+        assert_eq!(many(&[right, &[0; 3][..left]], &OP42), [1, 3]);
+        assert_eq!(many(&[right, &right[..left]], &OP42), [1, 3]);
+        assert_eq!(many(&[&right[..left]], &OP42), [3]);
+    }
+    // "if that passes the end .. the remainder counts as one refused table", whatever stands in it
+    for left in [4, 5, 10, 22, 47] {
+        assert_eq!(many(&[right, &right[..left]], &OP42), [1, 3]);
+    }
+    let mut both = [right, right].concat();
+    for (length, size) in [
+        (45, 48),
+        (93, 96),
+        (1 << 31, 96),
+        (u32::MAX - 3, 96),
+        (u32::MAX, 96),
+    ] {
+        both[..4].copy_from_slice(&word(length));
+        assert_eq!(many(&[right, &both[..size]], &OP42), [1, 3], "{length}");
+    }
+    // one that goes just to the end is one table, not two
+    both[..4].copy_from_slice(&word(92));
+    assert_eq!(many(&[&both], &OP42), [3]);
+    assert_eq!(many(&[right, &both, right], &OP42), [1, 3, 1]);
+}
+
+#[test]
+fn many_tables_are_refused_in_their_order() {
+    let mut cut = OP42;
+    cut[8] = 8;
+    let tables = |count: usize, rest: &[u8]| [&OP_IS_42.repeat(count), rest].concat();
+    // "11, then 24 for over 64 tables, then 9 if the verdict buffer is short"; "The remainder counts"
+    let cases: [(Vec<u8>, &[u8], usize, Delivered); 12] = [
+        (tables(65, &[]), &cut, 0, delivered(11, 8, 0)),
+        (tables(2, &[]), &cut, 1, delivered(11, 8, 0)),
+        (tables(0, &[]), &OP42[..18], 64, delivered(11, 0, 0)),
+        (tables(65, &[]), &OP42, 64, delivered(24, 0, 0)),
+        (tables(65, &[]), &OP42, 65, delivered(24, 0, 0)),
+        (tables(64, &[0]), &OP42, 65, delivered(24, 0, 0)),
+        (tables(64, &OP_IS_42[..47]), &OP42, 9, delivered(24, 0, 0)),
+        (vec![0; 4 * 70], &OP42, 100, delivered(24, 0, 0)),
+        (tables(64, &[]), &OP42, 63, delivered(9, 0, 0)),
+        (tables(63, &[0, 0, 0]), &OP42, 63, delivered(9, 0, 0)),
+        (tables(1, &[]), &OP42, 0, delivered(9, 0, 0)),
+        (tables(0, &[0]), &OP42, 0, delivered(9, 0, 0)),
+    ];
+    for (tables, notice, room, answer) in cases {
+        let mut verdicts = vec![0xAA; room];
+        assert_eq!(run_many(&tables, notice, &mut verdicts), answer);
+        assert_eq!(verdicts, vec![0xAA; room]);
+    }
+    for (rest, last) in [(&OP_IS_42[..], 1), (&[0; 4], 3), (&[0; 3], 3)] {
+        let mut verdicts = [0xAA; TABLES_MAX];
+        let answer = run_many(&tables(63, rest), &OP42, &mut verdicts);
+        assert_eq!(answer, delivered(0, 0, TABLES_MAX));
+        assert_eq!(verdicts[..63], [1; 63]);
+        assert_eq!(verdicts[63], last);
+    }
 }

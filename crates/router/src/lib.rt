@@ -14,6 +14,7 @@ ghost use Rattle.notice.specs.Search.{findOf};
 ghost use Rattle.notice.specs.Write.{field, writtenOf, writtenBytes};
 ghost use Rattle.interpreter.specs.Running.{runningOf};
 ghost use Rattle.quorum.specs.Showing.{openOf, openedBytes, showOf, shownBytes, Gives};
+ghost use Rattle.many.specs.Many.{manyOf, manyBytes};
 ghost use Rattle.ubf.specs.Answer.{readAnswer, readBytes, writeAnswer, writeBytes};
 use notice::Layout;
 
@@ -250,5 +251,23 @@ pub extern "C" fn virentolex_ubf_write(
     let a = ubf::write(notice, text);
     *place = a.place;
     *len = a.len;
+    a.number
+}
+
+// "A single call shall take up to 64 tables laid end to end and one notice, and write per table one byte: 0 false, 1 true, 2 bottom, 3 table refused." A refusal changes no byte.
+#[no_mangle]
+pub extern "C" fn virentolex_run_many<'a>(
+    tables: &'a [u8],
+    notice: &'a [u8],
+    verdicts: &mut [u8],
+    place: &mut usize,
+    count: &mut usize,
+) -> u8
+    ensures { λ r. ⌜ record { number = r; place = now (place .exit); count = now (count .exit) } ≡ manyOf (now (tables .entry)) (now (notice .entry)) (length (now (verdicts .entry))) ⌝ }
+    ensures { λ _. ⌜ now (verdicts .exit) ≡ manyBytes (now (tables .entry)) (now (notice .entry)) (now (verdicts .entry)) ⌝ }
+{
+    let a = many::run_many(tables, notice, verdicts);
+    *place = a.place;
+    *count = a.count;
     a.number
 }
