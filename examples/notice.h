@@ -38,11 +38,13 @@ static void show(const struct notice *n)
     }
 }
 
-/* Translates a subscription, and says how long its table is; 0, or the refusal's number. */
+/* Translates a subscription by the first edition, since none of the examples that use this shifts, and says
+ * how long its table is; 0, or the refusal's number. */
 static uint8_t translate(const char *text, uint8_t *table, size_t room, size_t *length)
 {
     size_t place;
-    uint8_t number = virentolex_translate((const uint8_t *)text, strlen(text),
+    uint8_t number = virentolex_translate(VIRENTOLEX_FIRST_EDITION,
+                                          (const uint8_t *)text, strlen(text),
                                           table, room, &place, length);
     if (number != 0)
         printf("%s: refused %d at %zu\n", text, number, place);

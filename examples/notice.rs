@@ -1,5 +1,5 @@
 //! Notices of string fields, for the examples.
-use virentolex::{kind, EMPTY_NOTICE, NOTICE_MAX, TABLE_MAX};
+use virentolex::{kind, Edition, EMPTY_NOTICE, NOTICE_MAX, TABLE_MAX};
 
 /// A notice of string fields.
 pub fn notice(fields: &[(&str, &str)]) -> Vec<u8> {
@@ -38,10 +38,11 @@ pub fn show(notice: &[u8]) -> String {
     shown.join(" ")
 }
 
-/// A subscription's table, and how long it is said; none if it is refused.
+/// A subscription's table by the first edition, since none of the examples that use this shifts, and how long
+/// it is said; none if it is refused.
 pub fn translate(text: &str) -> Option<Vec<u8>> {
     let mut table = vec![0; TABLE_MAX];
-    let t = virentolex::translate(text.as_bytes(), &mut table);
+    let t = virentolex::translate(Edition::First, text.as_bytes(), &mut table);
     if t.number != 0 {
         println!("{text}: refused {} at {}", t.number, t.place);
         return None;

@@ -117,7 +117,8 @@ static void tell(const char *text)
 static int why(const char *text, const char *const *notices)
 {
     size_t place;
-    uint8_t number = virentolex_translate((const uint8_t *)text, strlen(text),
+    uint8_t number = virentolex_translate(VIRENTOLEX_FIRST_EDITION,
+                                          (const uint8_t *)text, strlen(text),
                                           table, sizeof table, &place, &table_len);
     if (number != 0) {
         printf("%s: refused %d at %zu\n", text, number, place);

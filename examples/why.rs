@@ -9,7 +9,7 @@
 //! outside the width.
 use std::borrow::Cow;
 use std::os::unix::ffi::OsStringExt;
-use virentolex::{entry, Entry, Verdict, NOTICE_MAX, TABLE_MAX};
+use virentolex::{entry, Edition, Entry, Verdict, NOTICE_MAX, TABLE_MAX};
 
 /// The operators that can be undecided though all their operands are there.
 fn spelled(op: u16) -> &'static str {
@@ -100,7 +100,7 @@ fn tell(table: &[u8], text: &[u8]) {
 /// Tells of a subscription on notices.
 fn why(text: &[u8], notices: &[&[u8]]) {
     let mut table = vec![0; TABLE_MAX];
-    let t = virentolex::translate(text, &mut table);
+    let t = virentolex::translate(Edition::First, text, &mut table);
     let text = shown(text);
     if t.number != 0 {
         println!("{text}: refused {} at {}", t.number, t.place);

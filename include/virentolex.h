@@ -7,7 +7,7 @@
  * bytes, to keep its promise in crates/router/src/lib.rt; what stands here is that promise in plain
  * words. The numbers:
  *
- *    translating   10 text over 4,096 bytes
+ *    translating   25 edition other than 1 or 2       10 text over 4,096 bytes
  *                   1 a token has no legal form      3 a number or name outside its limits
  *                   6 nested too deep                2 grammar not kept
  *                   4 unknown function or wrong arguments
@@ -70,6 +70,11 @@ extern "C" {
 #define VIRENTOLEX_STRING 4 /* 0 to 1,024 bytes */
 #define VIRENTOLEX_OPAQUE 5 /* 0 to 1,024 bytes */
 
+/* The editions of a table, of which the first is of kind 2 and the second of kind 4: see
+ * virentolex_translate. */
+#define VIRENTOLEX_FIRST_EDITION 1
+#define VIRENTOLEX_SECOND_EDITION 2
+
 /* The most bytes of a text, of a table (10, 512 entries of 12, a pool of 4,096) and of a notice. */
 #define VIRENTOLEX_TEXT_MAX 4096
 #define VIRENTOLEX_TABLE_MAX 10250
@@ -92,20 +97,36 @@ extern "C" {
 #define VIRENTOLEX_UBF_TEXT_MAX 32839
 
 /*
- * Translates a subscription text to a table.
+ * Translates a subscription text to a table of an edition.
  *
- * Answers 0, or the first of 10, 1 or 3, 6, 2, 4, 18, 5, 7, 8, 9 that applies.
+ * The editions differ in the shifts << >> >>> alone, where the count is not 0 to the width less 1 (32 or
+ * 64 bits, the width of what is shifted):
+ *
+ *   VIRENTOLEX_FIRST_EDITION    the shift is bottom. The table is of kind 2, which every router takes.
+ *   VIRENTOLEX_SECOND_EDITION   the shift is by the count's remainder by the width, 0 to the width less
+ *                               1: -1 shifts an int32 by 31. The table is of kind 4, which routers not
+ *                               yet renewed refuse with 12.
+ *
+ * How to choose: name the second edition if the subscription is about doors with the newer firmware,
+ * which takes counts so, and if every router that is to run the table is renewed; else the first. A text
+ * without a shift means the same in both: name the first. A table keeps its edition, so that tables of
+ * both may be run, counted in decisions and laid end to end side by side; an old one need not be
+ * translated anew.
+ *
+ * Answers 0, or the first of 25, 10, 1 or 3, 6, 2, 4, 18, 5, 7, 8, 9 that applies.
  * *place   the place in the text that document 01 gives for 1, 2 and 3; else 0.
  * *length  the table's length, at most VIRENTOLEX_TABLE_MAX; 0 if refused.
- * buffer   after 0 its first *length bytes are the table that document 01 lays down for the text,
- *          and the bytes after it are as they were. After a refusal every byte is as it was.
+ * buffer   after 0 its first *length bytes are the table that document 01 lays down for the text, of the
+ *          edition's kind, and the bytes after it are as they were. After a refusal every byte is as it
+ *          was.
  */
-uint8_t virentolex_translate(const uint8_t *text, size_t text_len,
+uint8_t virentolex_translate(size_t edition, const uint8_t *text, size_t text_len,
                              uint8_t *buffer, size_t buffer_len,
                              size_t *place, size_t *length);
 
 /*
- * Checks a table, which is exactly the slice. Answers 0, or 12 if its layout or its check fails.
+ * Checks a table, which is exactly the slice. Answers 0, or 12 if its layout or its check fails. Both
+ * editions pass, here and wherever else a table is checked.
  * A table that virentolex_translate wrote passes.
  */
 uint8_t virentolex_check(const uint8_t *table, size_t table_len);
@@ -129,7 +150,7 @@ uint8_t virentolex_check_notice(const uint8_t *notice, size_t notice_len, size_t
  *
  * Numbers, by document 02's request 6: an integer and a real are compared by exact value. In arithmetic
  * with a real an integer is rounded to the nearest double, ties to even, and so is an integer result of
- * + - * / that int64 does not hold. A zero divisor gives bottom.
+ * + - * / that int64 does not hold. A zero divisor gives bottom. Shifts are those of the table's edition.
  */
 uint8_t virentolex_run(const uint8_t *table, size_t table_len,
                        const uint8_t *notice, size_t notice_len,

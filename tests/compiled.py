@@ -1,4 +1,4 @@
-"""The table of an accepted text, by document 01's "Grammar" and "Table", from the tokens of lexer_vectors.py; verdict_vectors.py holds it to the vectors of translation."""
+"""The table of an accepted text, by document 01's "Grammar" and "Table" and its edition's kind (document 02, request 9), from the tokens of lexer_vectors.py; verdict_vectors.py holds it to the vectors of translation."""
 import struct
 import sys
 
@@ -67,8 +67,8 @@ class Text:
         return entries + [(op, arguments - 1 if op >= 56 else 0, 0)]
 
 
-def table_of(text):
+def table_of(text, edition=1):
     t = Text(text)
     entries = t.level()
-    body = struct.pack("<HHH", 2, len(entries), len(t.pool)) + b"".join(struct.pack("<HHQ", *e) for e in entries) + t.pool
+    body = struct.pack("<HHH", 2 * edition, len(entries), len(t.pool)) + b"".join(struct.pack("<HHQ", *e) for e in entries) + t.pool
     return struct.pack("<I", len(body)) + body

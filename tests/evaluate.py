@@ -1,4 +1,4 @@
-"""A run of a table on a notice, both well-formed, by document 01's rule of each entry and the values of value_vectors.py, and its first undecided entry, by document 02's request 7. Run vectors are held to it."""
+"""A run of a table on a notice, both well-formed, by document 01's rule of each entry, the values of value_vectors.py and the table's edition (document 02, request 9), and its first undecided entry, by request 7. Run vectors are held to it."""
 import struct
 
 import number_vectors as numbers
@@ -7,6 +7,8 @@ import value_vectors as values
 KINDS = {1: "<i", 2: "<q", 3: "<d"}
 # "or 65535 if none did"
 NO_ENTRY = 65535
+# "Tables of kind 4 shall be second edition ..; kind 2 keeps the first."
+EDITIONS = {2: 1, 4: 2}
 
 
 def fields(notice):
@@ -24,6 +26,7 @@ def fields(notice):
 def run(table, notice):
     """The verdict, the steps and the first undecided entry."""
     count, pool = struct.unpack_from("<H", table, 6)[0], table[10 + 12 * struct.unpack_from("<H", table, 6)[0]:]
+    edition = EDITIONS[struct.unpack_from("<H", table, 4)[0]]
     named, stack, at, steps, undecided = fields(notice), [], 0, 0, NO_ENTRY
     while at < count:
         op, a, b = struct.unpack_from("<HHQ", table, 10 + 12 * at)
@@ -38,7 +41,7 @@ def run(table, notice):
             stack.append(named.get(pool[b:b + a]))
         else:
             n = a + 1 if op >= 56 else 2 if 16 <= op <= 37 or 41 <= op <= 43 else 1
-            stack[-n:] = [values.give(op, stack[-n:])]
+            stack[-n:] = [values.give(op, stack[-n:], edition)]
         # "the number of the first visited entry that left bottom on the stack, counted from 0"
         if undecided == NO_ENTRY and any(x is None or x == values.BOTTOM for x in stack):
             undecided = visited

@@ -82,6 +82,17 @@ def delivered():
         yield written(full)
 
 
+def editions():
+    """Document 02, request 9: "all that runs or keeps tables takes both". The tables are those of `Op >> 33 == 21`: bottom by the first edition, true by the second."""
+    body = lambda kind: struct.pack("<HHH", kind, 5, 2) + b"".join(struct.pack("<HHQ", *e) for e in ((5, 2, 0), (1, 0, 33), (17, 0, 0), (1, 0, 21), (32, 0, 0))) + b"Op"
+    first, second = (struct.pack("<I", len(body(kind))) + body(kind) for kind in (2, 4))
+    for parts in ([second], [first, second], [second, first, TRUE, second], [second] * 64):
+        for notice in (OP42, E):
+            yield written(parts, notice)
+    yield written([second, Refused(first[:4] + b"\x06" + first[5:]), second])
+    assert byte_of(first, OP42) == 2 and byte_of(second, OP42) == 1
+
+
 def refused():
     """Nothing is written."""
     many = b"".join(([TRUE, FALSE, BOTTOM] * 22)[:64])
@@ -103,7 +114,7 @@ def refused():
 
 def main(vectors=Path(__file__).resolve().with_name("vectors")):
     here = Path(__file__).resolve().parent.parent / "crates" / "many_test"
-    rows = [*vectors_of((Path(vectors) / "08-many.txt").read_text().splitlines()), *delivered(), *refused()]
+    rows = [*vectors_of((Path(vectors) / "08-many.txt").read_text().splitlines()), *delivered(), *editions(), *refused()]
     (here / "stdin").write_bytes(b"".join(struct.pack("<I", len(s)) + s for row in rows for s in row[:3]))
     (here / "stdout").write_text("".join(row[3] + "\n" for row in rows))
 

@@ -2,7 +2,7 @@
 """Writes crates/number_test/stdin and stdout: the operators on numbers by Python's integers, fractions and floats.
 
 A number is None (bottom) or a pair of a kind (1 int32, 2 int64, 3 real64) and an int or a float. The rules are those of document 01, "Meaning", and of
-document 02, request 6.
+document 02, requests 6 and 9.
 """
 import math
 import operator
@@ -96,14 +96,19 @@ def complement(a):
     return (a[0], ~a[1]) if is_integer(a) else BOTTOM
 
 
-def shift(op, a, b):
-    if not (is_integer(a) and is_integer(b)) or not 0 <= b[1] < WIDTH[a[0]]:
+def shift(op, a, b, edition=1):
+    """The first edition: a count outside the width gives bottom. The second: "the count's remainder by the width, 0 to width less 1", which Python's `%` is."""
+    if not (is_integer(a) and is_integer(b)):
         return BOTTOM
+    width = WIDTH[a[0]]
+    if edition == 1 and not 0 <= b[1] < width:
+        return BOTTOM
+    count = b[1] % width
     if op == "<<":
-        return signed(a[0], a[1] << b[1])
+        return signed(a[0], a[1] << count)
     if op == ">>":
-        return (a[0], a[1] >> b[1])
-    return signed(a[0], a[1] % (1 << WIDTH[a[0]]) >> b[1])
+        return (a[0], a[1] >> count)
+    return signed(a[0], a[1] % (1 << width) >> count)
 
 
 def compare(test, a, b):
@@ -262,6 +267,21 @@ def beyond_cases(rng):
         yield bytes([group, GROUPS[group].index(op), ka, kb]) + struct.pack("<QQ", va, vb), answer(op, a, b)
 
 
+def second_edition(rng):
+    """Request 9: shifts of the second edition, which are group 8; counts within the width, and outside it on both sides, to both ends of both types."""
+    small, large, reals = edges()
+    left = [(INT32, z) for z in (1, -1, 42, -(2**31), 2**31 - 1)] + [(INT64, z) for z in (1, -1, 42, -(2**63), 2**63 - 1, 0x0123456789ABCDEF)]
+    counts = [0, 1, 28, 31, 32, 33, 63, 64, 65, 95, 96, 127, 128, -1, -2, -31, -32, -33, -63, -64, -65, 2**31 - 1, -(2**31)]
+    far = [2**31, 2**32 - 1, 2**32, 2**32 + 1, 2**32 + 63, -(2**32) - 1, -(2**32) - 33, 2**63 - 1, 2**63 - 33, -(2**63), 1 - 2**63]
+    for code, op in enumerate(GROUPS[3]):
+        pairs = [(a, (kind, k)) for a in left for kind in (INT32, INT64) for k in counts] + [(a, (INT64, k)) for a in left for k in far]
+        pairs += [(rng.choice(small + large), rng.choice(small + large)) for _ in range(60)]
+        pairs += [(rng.choice(reals), (INT32, 1)), ((INT32, 1), rng.choice(reals)), ((INT64, 1), (REAL, 64.0)), (None, (INT32, 40)), ((INT64, 1), None), (None, None)]
+        for a, b in pairs:
+            (ka, va), (kb, vb) = raw(a), raw(b)
+            yield bytes([8, code, ka, kb]) + struct.pack("<QQ", va, vb), show(shift(op, a, b, 2))
+
+
 def literals(rng):
     """A literal's value by Python's own reading of the decimal, which is rounded once."""
     cases = [(10, 22), (1, 22), (1, -22), (0, 0), (0, 22), (0, -22), (999999999999999, 22), (999999999999999, -22), (1, -1), (3, -1), (123456789012345, -7), (42, 0), (9007199254740, 3)]
@@ -285,7 +305,7 @@ def patterns(rng):
 def main():
     here = Path(__file__).resolve().parent.parent / "crates" / "number_test"
     rng = random.Random(4)
-    cases = [*operators(rng), *literals(rng), *patterns(rng), *beyond_cases(random.Random(6))]
+    cases = [*operators(rng), *literals(rng), *patterns(rng), *beyond_cases(random.Random(6)), *second_edition(random.Random(9))]
     (here / "stdin").write_bytes(b"".join(struct.pack("<I", len(part)) + part for part, _ in cases))
     (here / "stdout").write_text("".join(row + "\n" for _, row in cases))
 

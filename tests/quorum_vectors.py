@@ -156,6 +156,24 @@ def undecided():
     do(b"s", 0, notice_of(Console=b"yard")[:-1], "11 0 8 1 65535")
 
 
+def editions():
+    """Document 02, request 9: "all that runs or keeps tables takes both". The table is that of `Level >> 33 == 2`: of kind 2 it gives bottom, of kind 4 true where Level is 4 or 5."""
+    entries = [(5, 5, 0), (1, 0, 33), (17, 0, 0), (1, 0, 2), (32, 0, 0)]
+    for kind, answers in ((2, ("0 0 0 0 2", "0 0 0 0 2", "0 0 0 0 2", "0 0 0 0 0")), (4, ("0 0 1 0 65535", "0 0 2 1 65535", "0 0 2 1 65535", "0 0 2 1 0"))):
+        body = struct.pack("<HHH", kind, len(entries), 5) + b"".join(struct.pack("<HHQ", *e) for e in entries) + b"Level"
+        table = struct.pack("<I", len(body)) + body
+        fresh(HEAD + len(table))
+        do(b"o", 2, table, "0 0 0 0 65535")
+        for fields, answer in zip((dict(Level=4, Staff=b"0"), dict(Level=5, Staff=b"1"), dict(Level=6, Staff=b"2"), dict(Staff=b"3")), answers):
+            do(b"s", 0, notice_of(**fields), with_entry(table, notice_of(**fields), answer))
+        # of another kind it is no table, at the opening and at a notice
+        other = table[:4] + bytes([kind + 1]) + table[5:]
+        fresh(HEAD + len(table))
+        do(b"o", 2, other, opened(NONE))
+        do(b"b", 0, state(other, 2, []))
+        do(b"s", 0, notice_of(Level=4, Staff=b"0"), "12 0 0 0 65535")
+
+
 def main(vectors=Path(__file__).resolve().with_name("vectors")):
     here = Path(__file__).resolve().parent.parent / "crates" / "quorum_test"
     for line in rows(vectors, "03-quorum.txt") + rows(vectors, "07-quorum.txt"):
@@ -164,6 +182,7 @@ def main(vectors=Path(__file__).resolve().with_name("vectors")):
         made_by_hand(line)
     layout()
     undecided()
+    editions()
     (here / "stdin").write_bytes(b"".join(struct.pack("<I", len(s)) + s for s in cases))
     (here / "stdout").write_text("".join(a + "\n" for a in lines))
 

@@ -1,5 +1,5 @@
 #!/usr/bin/env python3
-"""run_vectors.py [VECTORS]: writes crates/interpreter_test/stdin and stdout from VECTORS/run.txt, 01-run.txt, 02-run.txt, 06-run.txt and 07-run.txt, document 01's own runs, and runs at the limits that the documents name.
+"""run_vectors.py [VECTORS]: writes crates/interpreter_test/stdin and stdout from VECTORS/run.txt, 01-run.txt, 02-run.txt, 06-run.txt, 07-run.txt and 09-run.txt, document 01's own runs, and runs at the limits that the documents name.
 
 A vector's answer is its own, and is held to evaluate.py. Those of the other cases follow from the documents' sentences, which are named beside them. Where an answer does not name the undecided entry, as in the vectors from before
 request 7, it is that of evaluate.py."""
@@ -14,8 +14,8 @@ E = bytes.fromhex("0400000001000000")
 NAME, NUMBER, EQUAL, NOT = (5, 2, 0), (1, 0, 42), (32, 0, 0), (40, 0, 0)
 
 
-def table(entries, pool=b"Op"):
-    body = struct.pack("<HHH", 2, len(entries), len(pool)) + b"".join(struct.pack("<HHQ", *e) for e in entries) + pool
+def table(entries, pool=b"Op", kind=2):
+    body = struct.pack("<HHH", kind, len(entries), len(pool)) + b"".join(struct.pack("<HHQ", *e) for e in entries) + pool
     return struct.pack("<I", len(body)) + body
 
 
@@ -146,10 +146,39 @@ def undecided():
         yield runs([one] + [(8, 0, 0)] * (last - 2) + [text, EQUAL], "bottom %d %d" % (last + 1, last))
 
 
+def editions():
+    # document 02, request 9: "takes the count's remainder by the width, 0 to width less 1, so -1 shifts an int32 by 31"; document 01: "the count must be 0 to width less 1, else bottom"
+    short, long = lambda z: (1, 0, z % 2**64), lambda z: (2, 0, z % 2**64)
+    for left, op, count, result in (
+            (short(1), 16, short(-1), short(-(2**31))), (short(-1), 18, short(-1), short(1)), (short(-(2**31)), 17, short(-1), short(-1)), (NAME, 17, short(33), short(21)), (NAME, 16, short(32), short(42)),
+            (NAME, 16, short(-32), short(42)), (NAME, 17, short(-31), short(21)), (NAME, 17, short(-33), short(0)), (NAME, 16, short(2**31 - 1), short(0)), (NAME, 16, short(-(2**31)), short(42)),
+            (NAME, 16, long(2**32 + 1), short(84)), (NAME, 16, long(-(2**32) - 31), short(84)), (NAME, 17, long(-(2**63)), short(42)), (NAME, 18, long(2**63 - 1), short(0)),
+            (long(1), 16, short(-1), long(-(2**63))), (long(-1), 18, short(-1), long(1)), (long(-(2**63)), 17, long(65), long(-(2**62))), (long(3), 16, long(2**32 + 2), long(12)), (long(3), 16, long(-(2**63)), long(3)),
+            (long(-1), 18, short(2**31 - 1), long(1)), (long(5), 18, short(64), long(5))):
+        entries = [left, count, (op, 0, 0), result, EQUAL]
+        yield table(entries, kind=4), OP42, "0 0 true 5 65535"
+        yield table(entries), OP42, "0 0 bottom 5 2"
+    # within the width both are the same, and so is a count that is no integer, or missing
+    for count in (0, 1, 5, 31):
+        for kind in (2, 4):
+            yield table([NAME, short(count), (16, 0, 0), short((42 << count) % 2**32 - (2**32 if (42 << count) % 2**32 >= 2**31 else 0)), EQUAL], kind=kind), OP42, "0 0 true 5 65535"
+            yield table([long(2**40), long(count), (17, 0, 0), long(2 ** (40 - count)), EQUAL], kind=kind), OP42, "0 0 true 5 65535"
+    for kind in (2, 4):
+        yield table([NAME, (3, 0, 0), (16, 0, 0), NUMBER, EQUAL], kind=kind), OP42, "0 0 bottom 5 2"
+        yield table([NUMBER, NAME, (16, 0, 0), NUMBER, EQUAL], kind=kind), E, "0 0 bottom 5 1"
+        # no other operator: "differ in the three shifts alone"
+        yield table([NAME, short(0), (23, 0, 0), NUMBER, EQUAL], kind=kind), OP42, "0 0 bottom 5 2"
+        yield table([NAME, short(-1), (22, 0, 0), short(-42), EQUAL], kind=kind), OP42, "0 0 true 5 65535"
+    # "Routers not yet renewed refuse kind 4 with 12.": others are refused
+    for kind in (0, 1, 3, 5, 6, 258, 260, 1024):
+        yield table([NAME, NUMBER, EQUAL], kind=kind), OP42, "12 0 bottom 0 65535"
+    yield table([NAME, NUMBER, EQUAL], kind=4), OP42[:-1], "11 0 bottom 0 65535"
+
+
 def main(vectors=Path(__file__).resolve().with_name("vectors")):
     here = Path(__file__).resolve().parent.parent / "crates" / "interpreter_test"
-    rows = [*cases(), *wildcards(), *sizes(), *meters(), *undecided()]
-    for name in ("run.txt", "01-run.txt", "02-run.txt", "06-run.txt", "07-run.txt"):
+    rows = [*cases(), *wildcards(), *sizes(), *meters(), *undecided(), *editions()]
+    for name in ("run.txt", "01-run.txt", "02-run.txt", "06-run.txt", "07-run.txt", "09-run.txt"):
         for line in (Path(vectors) / name).read_text().splitlines():
             t, notice, *answer = line.split()
             rows.append((evaluate.plain(t), evaluate.plain(notice), " ".join(answer)))

@@ -1,5 +1,5 @@
 #!/usr/bin/env python3
-"""table_vectors.py [VECTORS]: writes crates/table_test/stdin and stdout from the tables of VECTORS/run.txt, 01-run.txt and 01-check.txt, document 01's 48-byte table, and tables at the limits that the documents name; then entries of some of them by their numbers.
+"""table_vectors.py [VECTORS]: writes crates/table_test/stdin and stdout from the tables of VECTORS/run.txt, 01-run.txt, 01-check.txt, 09-run.txt and 09-check.txt, document 01's 48-byte table, and tables at the limits that the documents name; then entries of some of them by their numbers.
 
 A vector says whether its table is refused by 12. What a table holds is read by struct."""
 import struct
@@ -133,6 +133,22 @@ def wildcards():
     yield table([name, (4, 4, 1), (60, 1, 0)], b"a[b]"), False
 
 
+def editions():
+    """Document 02, request 9: "Tables of kind 4 shall be second edition ..; kind 2 keeps the first." """
+    shifts = [(5, 2, 0), (1, 0, 33), (17, 0, 0), (1, 0, 21), (32, 0, 0)]
+    for kind in (*range(16), 258, 260, 512, 514, 516, 1024, 1026, 32770, 32772, 65535):
+        yield table(shifts, b"Op", kind=kind), kind in (2, 4)
+    # a table of kind 4 that fails as one of kind 2 does
+    yield table(shifts[:-1], b"Op", kind=4), False
+    yield table(shifts, b"Op", kind=4, word=1), False
+    yield table(shifts, b"Op", kind=4)[:-1], False
+    yield table([], kind=4), False
+    # and one at each limit
+    yield table([(1, 0, 1)] * 32 + [(25, 0, 0)] * 30 + [(32, 0, 0)] + [(40, 0, 0)] * 449, b"O" * 4096, kind=4), True
+    yield table([(1, 0, 1)] * 33 + [(25, 0, 0)] * 31 + [(32, 0, 0)], kind=4), False
+    yield table([(5, 2, 0), (4, 2, 2), (60, 1, 0)], b"Op[]", kind=4), False
+
+
 def reading(t):
     n, p = struct.unpack_from("<HH", t, 6)
     fields = "".join("%d %d %d " % struct.unpack_from("<HHQ", t, 10 + 12 * i) for i in range(n))
@@ -145,7 +161,8 @@ def asked():
     fits = table([(5, 4, 3), (4, 2, 1), (4, 0, 7), (60, 2, 0)], b"xT*User")
     most = table([(5, 64, 4032), (4, 4096, 0), (32, 0, 0)] + [(40, 0, 0)] * 509, b"n" * 4096)
     wide = table([(1, 0, 2**64 - 1), (3, 0, 2**64 - 1), (32, 0, 0)])
-    for t, ks in ((op42, (0, 1, 2, 3, 4, 2**32, 2**64 - 1)), (fits, range(5)), (most, (0, 1, 511, 512)), (wide, range(4))):
+    second = table([(5, 2, 0), (1, 0, 33), (17, 0, 0), (1, 0, 21), (32, 0, 0)], b"Op", kind=4)
+    for t, ks in ((op42, (0, 1, 2, 3, 4, 2**32, 2**64 - 1)), (fits, range(5)), (most, (0, 1, 511, 512)), (wide, range(4)), (second, range(6))):
         yield from ((t, True, k) for k in ks)
     for t in (b"", op42[:-1]):
         yield from ((t, False, k) for k in (0, 3, 2**64 - 1))
@@ -167,8 +184,8 @@ def framed(part):
 
 def main(vectors=Path(__file__).resolve().with_name("vectors")):
     here = Path(__file__).resolve().parent.parent / "crates" / "table_test"
-    cases = [*limits(), *wildcards()]
-    for name, at in (("run.txt", 2), ("01-run.txt", 2), ("01-check.txt", 1)):
+    cases = [*limits(), *wildcards(), *editions()]
+    for name, at in (("run.txt", 2), ("01-run.txt", 2), ("01-check.txt", 1), ("09-run.txt", 2), ("09-check.txt", 1)):
         for line in (Path(vectors) / name).read_text().splitlines():
             words = line.split()
             cases.append((bytes.fromhex(words[0]) if words[0] != "-" else b"", words[at] != "12"))

@@ -1,7 +1,8 @@
 #!/usr/bin/env python3
-"""translator_vectors.py [VECTORS]: writes crates/translator_test/stdin and stdout from translate.txt and 01-translate.txt in the folder VECTORS, document 01's own examples, and texts at the limits that it and document 02 name.
+"""translator_vectors.py [VECTORS]: writes crates/translator_test/stdin and stdout from translate.txt, 01-translate.txt and 09-translate.txt in the folder VECTORS, document 01's own examples, and texts at the limits that it and document 02 name.
 
-A vector's answer is its own. A vector with a buffer of 65,536 bytes is asked again with none, and one with a table also with a buffer of the table's length and with one byte less: "9 | lent buffer shorter than the table", the
+A case is two parts: the buffer's length and the edition's number, then the text. The examples and limits are asked of both editions and the vectors from before request 9 of the two by turns; the second has the answers of the first but
+for the table's kind. A vector's answer is its own. A vector with a buffer of 65,536 bytes is asked again with none, and one with a table also with a buffer of the table's length and with one byte less: "9 | lent buffer shorter than the table", the
 last of the refusals. The answers of the other cases follow from the documents' sentences, which are named beside them."""
 import struct
 import sys
@@ -27,6 +28,28 @@ def accepted(text, written, rooms=(LARGE,)):
 def refused(text, number, place=0):
     for room in (LARGE, 0):
         yield text, room, number, place, b""
+
+
+def by_edition(edition, rows):
+    """The rows, whose tables are the first edition's: "Tables of kind 4 shall be second edition". """
+    kind = struct.pack("<H", 2 * edition)
+    for text, room, number, place, written in rows:
+        yield edition, text, room, number, place, written[:4] + kind + written[6:] if written else b""
+
+
+def editions():
+    # document 02, request 9: "25 for an edition other than 1 or 2, before 10", whatever the text and the buffer
+    refusals = [b"[", b"2147483648", b"(" * 25, b"", b"f(a) + 1", b"wildcard (a, '[')", b"1", b"!!(" + b" ^^ ".join([b"1 == 1"] * 128) + b")", sum_of(15, b"1 + 1 * 1", [])[0]]
+    # among them numbers whose lowest byte, two bytes or four are 1 or 2
+    for edition in (0, 3, 255, 257, 258, 65537, 2**32 + 1, 2**32 + 2, 2**63, 2**64 - 1):
+        for text in (b"Op == 42", b" " * 4097, *refusals):
+            for room in (LARGE, 0):
+                yield edition, text, room, 25, 0, b""
+    # the three shifts, whose entries are the same in both
+    shifts = [(5, 1, 0), (1, 0, 2**64 - 1), (16, 0, 0), (1, 0, 33), (17, 0, 0), (2, 0, 2**63), (18, 0, 0), ONE, EQUAL]
+    rows = [*accepted(b"a << -1 >> 33 >>> -9223372036854775808L == 1", table(shifts, b"a"))]
+    for edition in (1, 2):
+        yield from by_edition(edition, rows)
 
 
 def examples():
@@ -120,26 +143,29 @@ def wildcards():
 
 
 def asked(path):
-    for line in path.read_text().split("\n"):
+    for turn, line in enumerate(path.read_text().split("\n")):
         if not line:
             continue
-        text, room, number, place, written = line.split()
+        *edition, text, room, number, place, written = line.split()
         text, written = (b"" if s == "-" else bytes.fromhex(s) for s in (text, written))
         room, number, place = int(room), int(number), int(place)
         if number == 0:
-            yield from accepted(text, written, (room,))
+            rows = accepted(text, written, (room,))
         else:
-            yield text, room, number, place, b""
-            yield text, 0, number, place, b""
+            rows = (text, room, number, place, b""), (text, 0, number, place, b"")
+        yield from ((int(*edition), *row) for row in rows) if edition else by_edition(1 + turn % 2, rows)
 
 
 def main(vectors=Path(__file__).resolve().with_name("vectors")):
     here = Path(__file__).resolve().parent.parent / "crates" / "translator_test"
     path = Path(vectors)
-    rows = [*examples(), *names(), *limits(), *wildcards(), *asked(path / "translate.txt"), *asked(path / "01-translate.txt")]
+    own = [*examples(), *names(), *limits(), *wildcards()]
+    rows = [*by_edition(1, own), *by_edition(2, own), *editions()]
+    for name in ("translate.txt", "01-translate.txt", "09-translate.txt"):
+        rows += asked(path / name)
     part = lambda s: struct.pack("<I", len(s)) + s
-    (here / "stdin").write_bytes(b"".join(part(struct.pack("<I", room)) + part(text) for text, room, *_ in rows))
-    (here / "stdout").write_text("".join("%d %d %d %s kept\n" % (number, place, len(t), t.hex() or "-") for _, _, number, place, t in rows))
+    (here / "stdin").write_bytes(b"".join(part(struct.pack("<IQ", room, edition)) + part(text) for edition, text, room, *_ in rows))
+    (here / "stdout").write_text("".join("%d %d %d %s kept\n" % (number, place, len(t), t.hex() or "-") for *_, number, place, t in rows))
 
 
 main(*sys.argv[1:])

@@ -2,7 +2,8 @@
 """Writes crates/value_test/stdin and stdout: what the ops of tables give on values, by Python's integers, floats, bytes, UTF-8 decoder and regular expressions.
 
 A value is None (bottom) or a pair of a field's kind (1 int32, 2 int64, 3 real64, 4 string, 5 opaque) and an int, a float or bytes. A truth value is
-"true", "bottom" or "false". The rules are those of document 01, "Meaning" and "Table", and of document 02, requests 1 and 2; numbers are those of number_vectors.py.
+"true", "bottom" or "false". The rules are those of document 01, "Meaning" and "Table", and of document 02, requests 1, 2 and 9; numbers are those of number_vectors.py.
+An op to run has 256 added for the second edition.
 """
 import itertools
 import math
@@ -142,16 +143,16 @@ def many(op, first, later):
     return truth(any(fits(op, first[1], w[1]) for w in later))
 
 
-def combine(op, v, w):
+def combine(op, v, w, edition):
     a, b = number(v), number(w)
     if op in numbers.EXACT:
         return numbers.arithmetic(op, a, b)
     if op in ("&", "^", "|"):
         return numbers.bitwise(op, a, b)
-    return numbers.shift(op, a, b)
+    return numbers.shift(op, a, b, edition)
 
 
-def give(op, xs):
+def give(op, xs, edition=1):
     if op == 0:
         return xs[0]
     if op == 6:
@@ -161,7 +162,7 @@ def give(op, xs):
     if op == 8:
         return numbers.complement(number(xs[0]))
     if op in COMBINE:
-        return combine(COMBINE[op], *xs)
+        return combine(COMBINE[op], *xs, edition)
     if op == 32:
         return equal(*xs)
     if op == 33:
@@ -230,10 +231,10 @@ class Cases:
         op, a, b, v = operand
         return (op + 256, a, b, fold(v))
 
-    def add(self, op, *operands):
-        entries = [(o, a, b) for o, a, b, _ in operands] + [(op, len(operands) - 1 if op >= 56 else 0, 0)]
+    def add(self, op, *operands, edition=1):
+        entries = [(o, a, b) for o, a, b, _ in operands] + [(op + 256 * (edition == 2), len(operands) - 1 if op >= 56 else 0, 0)]
         self.parts.append(b"".join(struct.pack("<HHQ", *e) for e in entries))
-        self.rows.append(show(give(op, [v for *_, v in operands])))
+        self.rows.append(show(give(op, [v for *_, v in operands], edition)))
 
 
 def values(c):
@@ -284,6 +285,7 @@ def all_cases(rng):
         c.add(59, gone[0], x)
     wildcards(c, rng, every, strings)
     sizes(c)
+    editions(c, random.Random(9), every)
     return c
 
 
@@ -313,6 +315,26 @@ def sizes(c):
             c.add(7, x)
             c.add(7, c.folded(x))
         c.add(7, c.named(b"O%d" % i, (OPAQUE, s)))
+
+
+def editions(c, rng, every):
+    """Document 02, request 9: "Tables of kind 4 shall be second edition and differ in the three shifts alone". """
+    left = [c.literal(v) for v in ((INT32, 1), (INT32, -42), (INT32, 2**31 - 1), (INT64, -1), (INT64, 2**62 + 5))] + [c.named(b"I", (INT32, -5)), c.named(b"Gone")]
+    counts = [c.literal((INT32, k)) for k in (0, 31, 32, 33, 63, 64, -1, -32, -33, 2**31 - 1, -(2**31))]
+    counts += [c.literal((INT64, k)) for k in (5, 40, 64, -1, 2**32 + 5, -(2**32) - 5, 2**63 - 1, -(2**63))] + [c.literal((REAL, 1.0)), c.named(b"Gone")]
+    for edition in (1, 2):
+        for op in (16, 17, 18):
+            for x, y in itertools.product(left, counts):
+                c.add(op, x, y, edition=edition)
+    for op in (*COMBINE, 32, 33, *ORDER):
+        for _ in range(25):
+            c.add(op, rng.choice(every), rng.choice(every), edition=2)
+    for op in (6, 7, 8, *range(48, 55)):
+        for x in rng.sample(every, 6):
+            c.add(op, x, edition=2)
+    for op in range(56, 60):
+        for _ in range(12):
+            c.add(op, *(rng.choice(every) for _ in range(rng.randrange(2, 10))), edition=2)
 
 
 def main():

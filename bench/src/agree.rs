@@ -3,6 +3,7 @@
 use crate::hostile;
 use crate::load::{self, Dice};
 use crate::meters;
+use crate::shifts;
 use bench::{expert, ours, translate};
 
 const TOKENS: [&str; 64] = [
@@ -219,14 +220,19 @@ pub fn agree(cases: usize) {
             );
         }
         same_run(&meters::any(&mut dice));
+        same_run(&shifts::any(&mut dice));
         let t = text(&mut dice);
         let room = if dice.next(50) == 0 {
             dice.next(600)
         } else {
             10250
         };
-        let a = ours::translate(&t, &mut x[..room]);
-        let b = translate::translate(&t, &mut y[..room]);
+        let edition = match dice.next(100) {
+            0 => [0, 3, 257, usize::MAX][dice.next(4)],
+            _ => 1 + dice.next(2),
+        };
+        let a = ours::translate(edition, &t, &mut x[..room]);
+        let b = translate::translate(edition, &t, &mut y[..room]);
         assert_eq!(a, b, "{}", String::from_utf8_lossy(&t));
         assert_eq!(x, y, "{}", String::from_utf8_lossy(&t));
         if a.0 != 0 {

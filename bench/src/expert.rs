@@ -70,6 +70,10 @@ pub enum Ins {
     Shl,
     Sar,
     Shr,
+    // the second edition's (document 02, request 9)
+    ShlAny,
+    SarAny,
+    ShrAny,
     BitAnd,
     BitXor,
     BitOr,
@@ -171,12 +175,19 @@ fn check_decode<const DECODE: bool>(table: &[u8], code: &mut Code) -> usize {
     if table.len() < 10 {
         return 0;
     }
-    let (n, pool_len) = unsafe {
-        if u32_at(table, 0) as usize + 4 != table.len() || u16_at(table, 4) != 2 {
+    let (kind, n, pool_len) = unsafe {
+        if u32_at(table, 0) as usize + 4 != table.len() {
             return 0;
         }
-        (u16_at(table, 6) as usize, u16_at(table, 8) as usize)
+        (
+            u16_at(table, 4),
+            u16_at(table, 6) as usize,
+            u16_at(table, 8) as usize,
+        )
     };
+    if kind != 2 && kind != 4 {
+        return 0;
+    }
     if n == 0 || n > 512 || pool_len > 4096 || 10 + 12 * n + pool_len != table.len() {
         return 0;
     }
@@ -272,6 +283,10 @@ fn check_decode<const DECODE: bool>(table: &[u8], code: &mut Code) -> usize {
             8 => {
                 one_value!(1);
                 Ins::Complement
+            }
+            16..=18 if kind == 4 => {
+                two!(3, 1);
+                [Ins::ShlAny, Ins::SarAny, Ins::ShrAny][op as usize - 16]
             }
             16..=26 => {
                 two!(3, 1);
@@ -801,6 +816,24 @@ fn shift(
     }
 }
 
+/// The same by the count's remainder by the width, which a shift of the machine takes by itself.
+#[inline(always)]
+fn shift_any(
+    x: Slot,
+    y: Slot,
+    small: impl Fn(i32, u32) -> i32,
+    large: impl Fn(i64, u32) -> i64,
+) -> Slot {
+    let Some(k) = as_int(y) else {
+        return Slot::Missing;
+    };
+    match x {
+        Slot::Int32(a) => Slot::Int32(small(a, k as u32)),
+        Slot::Int64(a) => Slot::Int64(large(a, k as u32)),
+        _ => Slot::Missing,
+    }
+}
+
 // ---- the run
 
 /// The undecided entry where there is none.
@@ -943,6 +976,18 @@ unsafe fn run_by(p: &Program, notice: &[u8], find: impl Fn(&[u8]) -> Slot) -> (u
                     y,
                     |a, k| (a as u32 >> k) as i32,
                     |a, k| (a as u64 >> k) as i64
+                )
+            ),
+            Ins::ShlAny => binary!(x, y, shift_any(x, y, i32::wrapping_shl, i64::wrapping_shl)),
+            Ins::SarAny => binary!(x, y, shift_any(x, y, i32::wrapping_shr, i64::wrapping_shr)),
+            Ins::ShrAny => binary!(
+                x,
+                y,
+                shift_any(
+                    x,
+                    y,
+                    |a, k| (a as u32).wrapping_shr(k) as i32,
+                    |a, k| (a as u64).wrapping_shr(k) as i64
                 )
             ),
             Ins::BitAnd => binary!(x, y, bitwise(x, y, |a, b| a & b)),

@@ -83,7 +83,7 @@ fn main() {
         from += 4 + len;
         match u16::from_le_bytes([record[4], record[5]]) {
             3 => {
-                let (number, place, length) = translate::translate(&record[6..], &mut table);
+                let (number, place, length) = translate::translate(1, &record[6..], &mut table);
                 held = length;
                 if held > 0 {
                     expert::decode(&table[..held], &mut code);

@@ -35,6 +35,12 @@ pub fn table(entries: &[Entry], pool: &[u8]) -> Vec<u8> {
     all
 }
 
+/// The table with another kind: 4 is the second edition's (document 02, request 9).
+pub fn of_kind(kind: u16, mut table: Vec<u8>) -> Vec<u8> {
+    table[4..6].copy_from_slice(&kind.to_le_bytes());
+    table
+}
+
 /// The group, which leaves one truth value, as often as it fits into 512 entries, joined so that nothing is passed over.
 pub fn often(group: &[Entry]) -> Vec<Entry> {
     times(group, 513 / (group.len() + 1))

@@ -12,6 +12,7 @@ mod many;
 mod meters;
 mod program;
 mod quorum;
+mod shifts;
 mod strings;
 mod worst;
 
@@ -19,9 +20,10 @@ use bench::{expert, ours, translate};
 use clock::{compare, Pace};
 use std::hint::black_box;
 
+/// The table of the first edition.
 fn table_of(text: &str) -> Vec<u8> {
     let mut table = vec![0u8; 10250];
-    let (number, _, length) = ours::translate(text.as_bytes(), &mut table);
+    let (number, _, length) = ours::translate(1, text.as_bytes(), &mut table);
     assert_eq!(number, 0, "{text}");
     table.truncate(length);
     table
@@ -206,20 +208,20 @@ fn translation(pace: Pace) {
         let text = text.as_bytes();
         let (mut x, mut y) = (vec![0u8; 10250], vec![0u8; 10250]);
         assert_eq!(
-            ours::translate(text, &mut x),
-            translate::translate(text, &mut y)
+            ours::translate(1, text, &mut x),
+            translate::translate(1, text, &mut y)
         );
         assert_eq!(x, y);
         let entries = entries_of(&x);
         let (a, b, r) = compare(
             &mut |times| {
                 for _ in 0..times {
-                    black_box(ours::translate(black_box(text), black_box(&mut x)));
+                    black_box(ours::translate(1, black_box(text), black_box(&mut x)));
                 }
             },
             &mut |times| {
                 for _ in 0..times {
-                    black_box(translate::translate(black_box(text), black_box(&mut y)));
+                    black_box(translate::translate(1, black_box(text), black_box(&mut y)));
                 }
             },
             pace,
@@ -277,5 +279,6 @@ fn main() {
     strings::rows(pace);
     doors::rows(pace);
     meters::rows(pace);
+    shifts::rows(pace);
     program::rates(records);
 }

@@ -3,6 +3,7 @@
 mod c {
     extern "C" {
         pub fn virentolex_translate(
+            edition: usize,
             text: *const u8,
             text_len: usize,
             buffer: *mut u8,
@@ -106,11 +107,12 @@ mod c {
 }
 
 /// Number, place and table length.
-pub fn translate(text: &[u8], buffer: &mut [u8]) -> (u8, usize, usize) {
+pub fn translate(edition: usize, text: &[u8], buffer: &mut [u8]) -> (u8, usize, usize) {
     let (mut place, mut length) = (0, 0);
     // SAFETY: each pointer is lent with its length for the call
     let number = unsafe {
         c::virentolex_translate(
+            edition,
             text.as_ptr(),
             text.len(),
             buffer.as_mut_ptr(),

@@ -552,8 +552,11 @@ impl Parser<'_> {
     }
 }
 
-/// Number, place and table length. A refusal changes no byte of the buffer.
-pub fn translate(text: &[u8], out: &mut [u8]) -> (u8, usize, usize) {
+/// Number, place and table length. A refusal changes no byte of the buffer. The editions' tables differ in their kinds (document 02, request 9).
+pub fn translate(edition: usize, text: &[u8], out: &mut [u8]) -> (u8, usize, usize) {
+    if edition != 1 && edition != 2 {
+        return (25, 0, 0);
+    }
     if text.len() > 4096 {
         return (10, 0, 0);
     }
@@ -635,7 +638,7 @@ pub fn translate(text: &[u8], out: &mut [u8]) -> (u8, usize, usize) {
         return (9, 0, 0);
     }
     out[0..4].copy_from_slice(&(len as u32 - 4).to_le_bytes());
-    out[4..6].copy_from_slice(&2u16.to_le_bytes());
+    out[4..6].copy_from_slice(&(2 * edition as u16).to_le_bytes());
     out[6..8].copy_from_slice(&(p.count as u16).to_le_bytes());
     out[8..10].copy_from_slice(&(p.pool_len as u16).to_le_bytes());
     // SAFETY: as many bytes were written, and the buffer has room for them

@@ -962,13 +962,13 @@ fn translation(row: (&'static str, String, String, &'static str, String, u8)) ->
     family(name, move |k| {
         let text = repeated(&head, &unit, part, &tail, 2048 * k);
         let mut buffer = vec![0; 10250];
-        let answer = ours::translate(text.as_bytes(), &mut buffer).0;
+        let answer = ours::translate(1, text.as_bytes(), &mut buffer).0;
         // half as many entries may pass where the whole does not
         assert!(answer == number || k == 1, "{name}: {answer}");
         Case {
             number: answer,
             bytes: text.len(),
-            call: Box::new(move || ours::translate(text.as_bytes(), &mut buffer).0),
+            call: Box::new(move || ours::translate(1, text.as_bytes(), &mut buffer).0),
         }
     })
 }

@@ -4,12 +4,15 @@
 use crate::about::About;
 use crate::corners::Watch;
 use crate::random::Random;
+use crate::shift_edges::Shifts;
 use crate::tally::Tally;
 use crate::undecided_edges::Trace;
-use crate::{edges, inputs, notices, operations, program, spellings, tables, texts, words};
+use crate::{
+    edges, editions, inputs, notices, operations, program, spellings, tables, texts, words,
+};
 use reference::compile::Entry;
 use reference::value::Slot;
-use reference::Truth;
+use reference::{Edition, Truth};
 use std::collections::BTreeSet;
 use std::fmt::{Debug, Formatter};
 
@@ -80,7 +83,7 @@ pub fn entry_number(undecided: Option<usize>) -> usize {
 }
 
 /// The kinds in turn, by the case's number.
-const KINDS: [&str; 27] = [
+const KINDS: [&str; 28] = [
     "text",
     "table",
     "notice",
@@ -108,6 +111,7 @@ const KINDS: [&str; 27] = [
     "find",
     "undecided",
     "many",
+    "shift",
 ];
 /// So many operators are tried in one case of theirs.
 const OPERATORS: usize = 20;
@@ -138,6 +142,7 @@ impl Case<'_> {
             "find" => self.find(),
             "undecided" => self.undecided(),
             "many" => self.many(),
+            "shift" => self.shift(),
             "operator" => (0..OPERATORS).try_for_each(|_| self.operator()),
             _ => self.program(),
         }
@@ -151,37 +156,55 @@ impl Case<'_> {
         }
     }
 
-    /// A text with buffers of each size, and demand 3 if it is accepted, on a notice that it is about
-    /// and on another.
+    /// A text by one edition with buffers of each size, and demand 3 if it is accepted, on a notice that it
+    /// is about and on another; and by no edition.
     fn text(&mut self) -> Outcome {
         let notice = notices::well_formed(&mut self.random);
         let about = self.about(&notice);
         let text = texts::text(&mut self.random, &about);
         self.count("edge", edges::of_text(&text));
-        let table = reference::compile::table_of(&text);
+        let edition = editions::any(&mut self.random);
+        let table = reference::compile::table_of(edition.number(), &text);
         let length = table.as_ref().map_or(64, Vec::len);
         let larger = length + self.random.between(1, 300);
         for room in [length, length - 1, 0, larger] {
-            self.translation(&text, room)?;
+            self.translation(edition.number(), &text, room)?;
         }
+        let (other, less) = (editions::other(&mut self.random), self.random.below(2));
+        self.translation(other, &text, length - less)?;
         self.count("spelling", spellings::of_text(&text));
         let Ok(table) = table else {
             return Ok(());
         };
-        self.demand_3(&text, &table, &notice)?;
+        self.demand_3(edition, &text, &table, &notice)?;
         let other = notices::well_formed(&mut self.random);
-        self.demand_3(&text, &table, &other)
+        self.demand_3(edition, &text, &table, &other)
+    }
+
+    /// A text that is accepted, by each edition on the notice, and by no edition.
+    pub fn both_editions(&mut self, text: &[u8], notice: &[u8]) -> Outcome {
+        for edition in editions::EDITIONS {
+            let table = reference::compile::table_of(edition.number(), text)
+                .map_err(|refusal| format!("{:?}: {refusal:?}", Hex(text.to_vec())))?;
+            self.translation(edition.number(), text, table.len())?;
+            self.demand_3(edition, text, &table, notice)?;
+        }
+        let other = editions::other(&mut self.random);
+        self.translation(other, text, 64)
     }
 
     /// One translation; the whole buffer and its guards are compared.
-    pub fn translation(&mut self, text: &[u8], room: usize) -> Outcome {
+    pub fn translation(&mut self, edition: usize, text: &[u8], room: usize) -> Outcome {
         let mut lent = patterned(room, self.random.below(256));
         let mut meant = lent.clone();
-        let library = virentolex::translate(text, &mut lent[GUARD..GUARD + room]);
-        let reference = reference::translate(text, &mut meant[GUARD..GUARD + room]);
+        let library = virentolex::translate_numbered(edition, text, &mut lent[GUARD..GUARD + room]);
+        let reference = reference::translate(edition, text, &mut meant[GUARD..GUARD + room]);
         self.tally.count("translate", reference.number);
+        if reference.number == 25 {
+            self.count("edition", editions::of_refused(edition, text, room));
+        }
         same(
-            &format!("translate, buffer of {room} bytes within guards of {GUARD}: number, place, length, bytes after"),
+            &format!("translate, edition {edition}, buffer of {room} bytes within guards of {GUARD}: number, place, length, bytes after"),
             &[("text", text)],
             (library.number, library.place, library.length, Hex(lent)),
             (reference.number, reference.place, reference.length, Hex(meant)),
@@ -190,7 +213,13 @@ impl Case<'_> {
 
     /// The letter, number 3, of an accepted text and a well-formed notice. The table is the library's
     /// own, since the translations have agreed.
-    pub fn demand_3(&mut self, text: &[u8], table: &[u8], notice: &[u8]) -> Outcome {
+    pub fn demand_3(
+        &mut self,
+        edition: Edition,
+        text: &[u8],
+        table: &[u8],
+        notice: &[u8],
+    ) -> Outcome {
         let inputs = [("text", text), ("table", table), ("notice", notice)];
         same(
             "check of the text's table",
@@ -199,16 +228,18 @@ impl Case<'_> {
             0,
         )?;
         let library = virentolex::run(table, notice);
-        let meaning = reference::meaning(text, notice);
+        let meaning = reference::meaning(edition.number(), text, notice);
         same(
-            "demand 3: number, place, verdict; the reference is the meaning with nothing skipped",
+            &format!("demand 3, {edition:?} edition: number, place, verdict; the reference is the meaning with nothing skipped"),
             &inputs,
             (library.number, library.place, Some(truth(library.verdict))),
             (0, 0, meaning),
         )?;
         let steps = self.running(table, notice)?;
-        self.tally
-            .count("demand 3", format!("{:?}", truth(library.verdict)));
+        let verdict = truth(library.verdict);
+        self.tally.count("demand 3", format!("{verdict:?}"));
+        let met = editions::ran("demand 3", edition, verdict);
+        self.tally.count("edition", met);
         self.count_skips("text runs", table, steps);
         Ok(())
     }
@@ -217,9 +248,11 @@ impl Case<'_> {
     pub fn running(&mut self, table: &[u8], notice: &[u8]) -> Result<usize, String> {
         let mut watch = Watch::of(table, notice);
         let mut trace = Trace::default();
+        let mut shifts = Shifts::of(table);
         let mut show = |at: usize, entry: &Entry, stack: &[Slot]| {
             watch.see(entry, stack);
             trace.see(at, entry, stack);
+            shifts.see(entry, stack);
         };
         let library = virentolex::run(table, notice);
         let reference = reference::run::run_shown(table, notice, &mut show);
@@ -248,7 +281,12 @@ impl Case<'_> {
                 .count("verdict", format!("{:?}", reference.verdict));
             self.count_ops(table);
         }
+        if let (0, Some(edition)) = (reference.number, editions::of_table(table)) {
+            let met = editions::ran("run", edition, reference.verdict);
+            self.tally.count("edition", met);
+        }
         self.count("corner", watch.met);
+        self.count("shift", shifts.met);
         Ok(reference.steps)
     }
 
@@ -273,6 +311,7 @@ impl Case<'_> {
     pub fn checking(&mut self, table: &[u8]) -> Result<u8, String> {
         let reference = reference::check(table);
         self.tally.count("check", reference);
+        self.count("edition", editions::of_check(table, reference));
         same(
             "check",
             &[("table", table)],
@@ -300,9 +339,10 @@ impl Case<'_> {
 
     /// One operator on numbers near the limits, or on strings.
     fn operator(&mut self) -> Outcome {
+        let edition = editions::any(&mut self.random);
         let table = match self.random.below(4) {
-            0 => operations::on_strings(&mut self.random),
-            _ => operations::on_numbers(&mut self.random),
+            0 => operations::on_strings(&mut self.random, edition),
+            _ => operations::on_numbers(&mut self.random, edition),
         };
         self.count("edge", edges::of_entries(&table));
         self.running(&table, &virentolex::EMPTY_NOTICE).map(|_| ())
@@ -501,6 +541,7 @@ impl Case<'_> {
                 ["N", "0", verdict, _, _, "65535"] => format!("N {verdict}"),
                 ["N", "0", verdict, ..] => format!("N {verdict}, an entry"),
                 ["N", number, ..] => format!("N {number}"),
+                ["X", "4"] => "X 4".to_string(),
                 _ => words[0].to_string(),
             };
             self.tally.count("line", what);
@@ -537,6 +578,7 @@ mod tests {
                 "operator",
                 "program",
                 "quorum",
+                "shift",
                 "size",
                 "table",
                 "text",

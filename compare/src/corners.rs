@@ -35,7 +35,6 @@ const EQUALS: &[Op] = &[Op::Equals];
 const DIVIDE: &[Op] = &[Op::Divide];
 const DIVISIONS: &[Op] = &[Op::Divide, Op::Rest];
 const ENDS: &[Op] = &[Op::Times, Op::Plus, Op::Minus];
-const SHIFTS: &[Op] = &[Op::ShiftLeft, Op::ShiftRight, Op::ShiftZeros];
 const BITS: &[Op] = &[Op::BitAnd, Op::BitXor, Op::BitOr];
 const SAME: &[Op] = &[Op::Equal, Op::Unequal];
 const ORDERS: &[Op] = &[Op::Less, Op::LessEqual, Op::Greater, Op::GreaterEqual];
@@ -91,9 +90,9 @@ const TESTS: &[Op] = &[
 ];
 const MATCHES: &[Op] = &[Op::Begins, Op::Contains, Op::Ends];
 
-/// Corners of numbers. 1,023 and 1,024 are sizes of strings and opaque values: no generator of numbers
+/// Corners of numbers; counts of shifts are told by `shift_edges`. 1,023 and 1,024 are sizes of strings and opaque values: no generator of numbers
 /// has them.
-const NUMBERS: [Corner; 37] = [
+const NUMBERS: [Corner; 30] = [
     ("NaN", REALS, |v| v.beside_number(is_nan)),
     ("NaN and NaN", COMPARES, |v| v.both(is_nan)),
     ("NaN", NAN, |v| v.is(is_nan)),
@@ -121,15 +120,6 @@ const NUMBERS: [Corner; 37] = [
     ("-2^53 and a real", REALS, |v| v.beside_real(-(1 << 53))),
     ("-2^53 - 1 and a real", REALS, |v| {
         v.beside_real(-(1 << 53) - 1)
-    }),
-    ("int32 by 31", SHIFTS, |v| v.shift(32, 31)),
-    ("int32 by 32", SHIFTS, |v| v.shift(32, 32)),
-    ("int32 by -1", SHIFTS, |v| v.shift(32, -1)),
-    ("int64 by 63", SHIFTS, |v| v.shift(64, 63)),
-    ("int64 by 64", SHIFTS, |v| v.shift(64, 64)),
-    ("int64 by -1", SHIFTS, |v| v.shift(64, -1)),
-    ("by 2^32", SHIFTS, |v| {
-        v.shift(32, 1 << 32) || v.shift(64, 1 << 32)
     }),
     ("least int32 by -1", DIVISIONS, |v| {
         v.sides(is_least_32, is_minus_one)
@@ -324,7 +314,7 @@ mod tests {
 
     /// The corners that the text's run meets.
     fn met(text: &str, fields: &[Field]) -> Vec<String> {
-        let (table, notice) = (table_of(text.as_bytes()).unwrap(), rendered(fields));
+        let (table, notice) = (table_of(1, text.as_bytes()).unwrap(), rendered(fields));
         let mut watch = Watch::of(&table, &notice);
         let answer = run_shown(&table, &notice, &mut |_, entry, stack| {
             watch.see(entry, stack)
@@ -345,9 +335,6 @@ mod tests {
     fn corners_of_numbers() {
         let has =
             |text: &str, corner: &str| assert!(met(text, &[]).contains(&corner.into()), "{text}");
-        has("1 << 31 == 0", "ShiftLeft: int32 by 31");
-        has("1L >>> 64 == 0", "ShiftZeros: int64 by 64");
-        has("1 >> -1 == 0", "ShiftRight: int32 by -1");
         has("1.0 < 9007199254740993L", "Less: 2^53 + 1 and a real");
         has("-2147483648 / -1 == 0", "Divide: least int32 by -1");
         has("2147483647 + 1 == 0", "Plus: to one over int32");

@@ -2,6 +2,7 @@
 //! hand.
 
 use crate::about::About;
+use crate::editions;
 use crate::notices::{self, Field};
 use crate::random::Random;
 use crate::texts::damaged;
@@ -37,7 +38,7 @@ pub fn people(random: &mut Random) -> Vec<Vec<u8>> {
 }
 
 /// Texts that hold of many of the notices below, and not of all.
-const TEXTS: [&str; 12] = [
+const TEXTS: [&str; 13] = [
     "1 == 1",
     "Op == 42",
     "Op == 42",
@@ -50,6 +51,8 @@ const TEXTS: [&str; 12] = [
     "gone == 1 || Op == 42",
     "Op > 'x' || Op != 41",
     "gone == 1 && Op == 41",
+    // true by the second edition, bottom by the first
+    "Op >> 33 == 21",
 ];
 
 /// A table: most often that of a text above, else one about a notice, or any, damaged ones too.
@@ -63,7 +66,10 @@ pub fn table(random: &mut Random, people: &[Vec<u8>]) -> Vec<u8> {
             let about = About::of(&sent(random, people));
             tables::translated(random, &about)
         }
-        _ => table_of(random.pick(&TEXTS).as_bytes()).expect("it is accepted"),
+        _ => {
+            let edition = editions::any(random).number();
+            table_of(edition, random.pick(&TEXTS).as_bytes()).expect("it is accepted")
+        }
     }
 }
 
@@ -258,7 +264,7 @@ mod tests {
     fn people_are_all_different_and_right() {
         let mut random = Random::of_case(1, 1);
         let people = people(&mut random);
-        let table = table_of(b"1 == 1").unwrap();
+        let table = table_of(1, b"1 == 1").unwrap();
         let right = |values: &[Vec<u8>]| {
             let (table, values) = (table.clone(), values.to_vec());
             let decision = Decision {

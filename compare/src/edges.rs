@@ -364,7 +364,7 @@ mod tests {
     #[test]
     fn edges_of_entries() {
         let text = |count: usize| format!("equals(a{})", ",1".repeat(count));
-        let table = reference::compile::table_of(text(8).as_bytes()).unwrap();
+        let table = reference::compile::table_of(1, text(8).as_bytes()).unwrap();
         assert_eq!(of_entries(&table), ["table with op 59 of 8"]);
         let entry = table[22..34].to_vec();
         let mut over = with_a(&table, 9, 9);

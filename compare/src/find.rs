@@ -2,6 +2,7 @@
 //! answer, and now and then what a run finds under the name.
 
 use crate::cases::{same, Case, Outcome};
+use crate::editions;
 use crate::find_edges;
 use crate::notices::{self, rendered, with_length, Field};
 use crate::operations::pushed;
@@ -12,6 +13,7 @@ use crate::words;
 use reference::notice::{fields, name_right, value_of, Finding};
 use reference::op::Op;
 use reference::value::Value;
+use reference::Edition;
 
 /// So many names are sought in one case.
 const SOUGHT: usize = 16;
@@ -164,7 +166,8 @@ impl Case<'_> {
             let name = sought(&mut self.random, &names);
             self.finding(&notice, &name)?;
             if name_right(&name) && self.random.once_in(RUN_EACH) {
-                self.running(&table_about(&notice, &name), &notice)?;
+                let edition = editions::any(&mut self.random);
+                self.running(&table_about(edition, &notice, &name), &notice)?;
             }
         }
         Ok(())
@@ -191,7 +194,7 @@ impl Case<'_> {
 }
 
 /// The table that asks whether the field of the name has its value, or, if that is no number, is there.
-fn table_about(notice: &[u8], name: &[u8]) -> Vec<u8> {
+fn table_about(edition: Edition, notice: &[u8], name: &[u8]) -> Vec<u8> {
     let mut draft = Draft {
         entries: vec![(Op::Name.code(), name.len() as u16, 0)],
         pool: name.to_vec(),
@@ -203,7 +206,7 @@ fn table_about(notice: &[u8], name: &[u8]) -> Vec<u8> {
         }
         _ => draft.entries.push((Op::Require.code(), 0, 0)),
     }
-    laid_out(&draft)
+    laid_out(edition, &draft)
 }
 
 #[cfg(test)]

@@ -1,8 +1,10 @@
 //! Standard inputs of the program `verdict`.
 
 use crate::about::About;
+use crate::edges::word;
 use crate::notices;
 use crate::random::Random;
+use crate::tables;
 use crate::texts;
 
 /// Any input: records, and now and then a bad or cut one at the end.
@@ -55,6 +57,11 @@ fn record(random: &mut Random) -> Vec<u8> {
             let kind = random.pick(&[0, 2, 4, 5, 255, 256, 257, 259, 65535]);
             let length = random.pick(&[0, 1, 7, 16378]);
             of_kind(kind, &random.bytes(length))
+        }
+        // a table is a record of another kind
+        1 if random.once_in(3) => {
+            let table = tables::translated(random, &About::nothing());
+            of_kind(word(&table, 4) as u16, &table[6..])
         }
         1 | 2 => of_kind(3, &texts::text(random, &About::nothing())),
         3 => of_kind(3, &texts::valid(random, &About::nothing())),

@@ -5,7 +5,7 @@
 use crate::about::About;
 use crate::cases::{patterned, same, Case, Hex, Outcome, GUARD};
 use crate::random::Random;
-use crate::{find, many_edges, notices, tables};
+use crate::{editions, find, many_edges, notices, tables};
 use reference::many::{parts, Many};
 
 /// So many tables are laid end to end, the remainder counted.
@@ -183,6 +183,7 @@ impl Case<'_> {
         }
         let of_table = many_edges::of_tables(tables, notice, verdicts);
         self.count("many", of_table);
+        self.count("edition", editions::of_many(&parts(tables)));
         let alone: Vec<u8> = parts(tables)
             .into_iter()
             .map(|part| byte_of(virentolex::run(part.bytes(), notice)))
@@ -224,7 +225,7 @@ mod tests {
 
     fn three() -> Vec<u8> {
         let texts = [&b"Op == 42"[..], b"a == 1", b"Level > 3"];
-        texts.map(|text| table_of(text).unwrap()).concat()
+        texts.map(|text| table_of(1, text).unwrap()).concat()
     }
 
     /// Any byte of three tables changed to any other.
@@ -253,8 +254,8 @@ mod tests {
     #[test]
     fn every_list_of_short_ones() {
         let of: [&[u8]; 7] = [
-            &table_of(b"Op > 1").unwrap(),
-            &table_of(b"1 > a").unwrap(),
+            &table_of(1, b"Op > 1").unwrap(),
+            &table_of(1, b"1 > a").unwrap(),
             &[0; 4],
             &[2, 0, 0, 0, 9, 9],
             &[0, 0],

@@ -231,7 +231,7 @@ mod tests {
 
     #[test]
     fn edges_of_tables() {
-        let right = &table_of(b"1 == 1").unwrap()[..];
+        let right = &table_of(1, b"1 == 1").unwrap()[..];
         let has = |tables: &[&[u8]], verdicts: &[u8], edge: &str| {
             let all = met_by(tables, verdicts);
             assert!(all.contains(&edge.to_string()), "{edge}: {all:?}");
@@ -259,7 +259,7 @@ mod tests {
 
     #[test]
     fn edges_of_calls() {
-        let right = table_of(b"1 == 1").unwrap();
+        let right = table_of(1, b"1 == 1").unwrap();
         let edges = |count: usize, rest: &[u8], notice: &[u8], room| {
             of_call(&[&right.repeat(count), rest].concat(), notice, room)
         };

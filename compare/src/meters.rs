@@ -2,12 +2,14 @@
 //! 6), in tables and in texts. Where they lie is told by the corners of the ops.
 
 use crate::cases::{Case, Outcome};
+use crate::editions;
 use crate::notices::{rendered, Field};
 use crate::operations::{pushed, told, whole};
 use crate::random::Random;
 use crate::tables::{laid_out, Draft};
 use reference::op::Op;
 use reference::value::{binary, Slot, Value};
+use reference::Edition;
 
 /// So many tables are tried in one case, and an eighth as many texts.
 const TRIED: usize = 40;
@@ -37,9 +39,10 @@ impl Case<'_> {
     /// A table of one operator on two numbers.
     fn meter_table(&mut self) -> Outcome {
         let (op, left, right) = numbers(&mut self.random);
+        let edition = editions::any(&mut self.random);
         let table = match op {
-            Op::Equals => equals(&mut self.random, &left, &right),
-            _ => told(&mut self.random, op, left, right),
+            Op::Equals => equals(&mut self.random, edition, &left, &right),
+            _ => told(&mut self.random, edition, op, left, right),
         };
         self.running(&table, &virentolex::EMPTY_NOTICE).map(|_| ())
     }
@@ -51,7 +54,8 @@ impl Case<'_> {
         let mut fields = vec![field("m", &left), field("n", &right)];
         let text = match ARITHMETIC.iter().find_map(spelled) {
             Some(operator) => {
-                if let Slot::Value(Some(value)) = binary(op, Some(left), Some(right)) {
+                let result = binary(Edition::First, op, Some(left), Some(right));
+                if let Slot::Value(Some(value)) = result {
                     fields.push(field("r", &value));
                 }
                 let comparison = self.random.pick(&COMPARISONS).1;
@@ -62,14 +66,12 @@ impl Case<'_> {
                 None => "equals (m, 1, n, 'n')".to_string(),
             },
         };
-        let table = reference::compile::table_of(text.as_bytes()).expect("a right text");
-        self.translation(text.as_bytes(), table.len())?;
-        self.demand_3(text.as_bytes(), &table, &rendered(&fields))
+        self.both_editions(text.as_bytes(), &rendered(&fields))
     }
 }
 
 /// `equals` with the value as one of 1 to 8.
-fn equals(random: &mut Random, first: &Value, value: &Value) -> Vec<u8> {
+fn equals(random: &mut Random, edition: Edition, first: &Value, value: &Value) -> Vec<u8> {
     let count = random.pick(&[1, 1, 2, 8]);
     let at = random.below(count);
     let mut entries = vec![pushed(first)];
@@ -81,10 +83,11 @@ fn equals(random: &mut Random, first: &Value, value: &Value) -> Vec<u8> {
     }
     entries.push((Op::Equals.code(), count as u16, 0));
     let pool = Vec::new();
-    laid_out(&Draft { entries, pool })
+    laid_out(edition, &Draft { entries, pool })
 }
 
-fn field(name: &str, value: &Value) -> Field {
+/// A field of the value.
+pub fn field(name: &str, value: &Value) -> Field {
     let (kind, value) = match value {
         Value::Int32(n) => (1, n.to_le_bytes().to_vec()),
         Value::Int64(n) => (2, n.to_le_bytes().to_vec()),

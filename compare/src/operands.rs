@@ -108,8 +108,12 @@ pub fn is_least_64(slot: &Slot) -> bool {
     whole(slot) == Some(i64::MIN)
 }
 
+pub fn is_negative(slot: &Slot) -> bool {
+    whole(slot).is_some_and(|n| n < 0)
+}
+
 pub fn is_negative_32(slot: &Slot) -> bool {
-    is_int32(slot) && whole(slot).is_some_and(|n| n < 0)
+    is_int32(slot) && is_negative(slot)
 }
 
 pub fn is_minus_one(slot: &Slot) -> bool {
@@ -177,12 +181,6 @@ impl Visit<'_> {
     pub fn wholes(&self, one: i64, other: i64) -> bool {
         let sides = (whole(&self.operands[0]), whole(&self.operands[1]));
         sides == (Some(one), Some(other)) || sides == (Some(other), Some(one))
-    }
-
-    /// A left side of the width, and the count.
-    pub fn shift(&self, width: u32, count: i64) -> bool {
-        let wide = if width == 32 { is_int32 } else { is_int64 };
-        wide(&self.operands[0]) && whole(&self.operands[1]) == Some(count)
     }
 
     /// Two integers of the width whose exact result is so far over an end of it.

@@ -1,30 +1,32 @@
 //! Tables of one operator, on numbers or strings where its rule turns.
 
 use crate::random::Random;
+use crate::shift_edges::SHIFTS;
 use crate::tables::{laid_out, Draft};
 use crate::words;
 use reference::op::{Op, OPS};
 use reference::utf8::characters;
 use reference::value::{binary, unary, Slot, Value};
+use reference::Edition;
 
 /// One operator on numbers near the limits, and what its result is told by: that it is there, its type,
 /// or its value by the reference.
-pub fn on_numbers(random: &mut Random) -> Vec<u8> {
+pub fn on_numbers(random: &mut Random, edition: Edition) -> Vec<u8> {
     let (op, left, right) = match random.below(2) {
         0 => corner(random),
         _ => (random.pick(&OPS[5..25]), number(random), number(random)),
     };
-    told(random, op, left, right)
+    told(random, edition, op, left, right)
 }
 
 /// The table of the operator on the numbers, with what its result is told by.
-pub fn told(random: &mut Random, op: Op, left: Value, right: Value) -> Vec<u8> {
+pub fn told(random: &mut Random, edition: Edition, op: Op, left: Value, right: Value) -> Vec<u8> {
     let mut entries = vec![pushed(&left)];
     let result = if op.code() <= Op::Complement.code() {
         unary(op, Some(left))
     } else {
         entries.push(pushed(&right));
-        binary(op, Some(left), Some(right))
+        binary(edition, op, Some(left), Some(right))
     };
     entries.push((op.code(), 0, 0));
     match result {
@@ -36,10 +38,9 @@ pub fn told(random: &mut Random, op: Op, left: Value, right: Value) -> Vec<u8> {
         Slot::Truth(_) => (),
     }
     let pool = Vec::new();
-    laid_out(&Draft { entries, pool })
+    laid_out(edition, &Draft { entries, pool })
 }
 
-const SHIFTS: [Op; 3] = [Op::ShiftLeft, Op::ShiftRight, Op::ShiftZeros];
 const DIVISIONS: [Op; 2] = [Op::Divide, Op::Rest];
 const REALS: [f64; 11] = [
     f64::NAN,
@@ -147,9 +148,9 @@ fn at_end(random: &mut Random) -> (Op, Value, Value) {
 }
 
 /// An op on strings, or a name near its limit.
-pub fn on_strings(random: &mut Random) -> Vec<u8> {
+pub fn on_strings(random: &mut Random, edition: Edition) -> Vec<u8> {
     if random.once_in(20) {
-        return long_name(random);
+        return long_name(random, edition);
     }
     let first = string(random);
     let mut draft = Draft::default();
@@ -159,17 +160,18 @@ pub fn on_strings(random: &mut Random) -> Vec<u8> {
         2 => compared(random, &mut draft, &first),
         _ => matched(random, &mut draft, &first),
     }
-    laid_out(&draft)
+    laid_out(edition, &draft)
 }
 
 /// A test of a name of 63 to 65 bytes; 65 are refused.
-fn long_name(random: &mut Random) -> Vec<u8> {
+fn long_name(random: &mut Random, edition: Edition) -> Vec<u8> {
     let length = random.between(63, 65);
     let test = random.pick(&OPS[31..38]);
-    laid_out(&Draft {
+    let draft = Draft {
         entries: vec![(Op::Name.code(), length as u16, 0), (test.code(), 0, 0)],
         pool: vec![b'n'; length],
-    })
+    };
+    laid_out(edition, &draft)
 }
 
 /// A string of any length that a pool holds beside others.

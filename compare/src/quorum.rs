@@ -2,7 +2,7 @@
 //! hand; each answer, every byte of the buffer and its guards, and the count from the history.
 
 use crate::cases::{entry_number, patterned, same, Case, Hex, Outcome, GUARD};
-use crate::{decisions, quorum_edges};
+use crate::{decisions, editions, quorum_edges};
 use reference::quorum::{self, Decision, Shown};
 
 /// A lent buffer between its guards; the decision that was opened in it, kept apart from its bytes;
@@ -175,6 +175,11 @@ impl Case<'_> {
             (shown(library), Hex(lent.bytes.clone())),
             (reference, Hex(meant)),
         )?;
+        if let Some(decision) = &lent.kept {
+            let counts = reference.number == 0 && reference.count > 0;
+            let met = editions::of_shown(&decision.table, reference.number, counts);
+            self.count("edition", met);
+        }
         lent.tell(notice, shown(library))
     }
 
@@ -200,7 +205,7 @@ mod tests {
     /// Any byte of a decision, and the one past it, changed to any other.
     #[test]
     fn every_byte_of_a_decision() {
-        let mut decision = Decision::open(&table_of(b"1 == 1").unwrap(), 3).unwrap();
+        let mut decision = Decision::open(&table_of(1, b"1 == 1").unwrap(), 3).unwrap();
         decision.values = [&b"417"[..], b"41", &[b'4'; 64]].map(<[u8]>::to_vec).into();
         let size = quorum::HEAD + decision.table.len();
         let mut bytes = patterned(size + 1, 0);

@@ -313,7 +313,7 @@ mod tests {
 
     fn decision(values: &[&[u8]]) -> Decision {
         Decision {
-            table: table_of(b"1 == 1").unwrap(),
+            table: table_of(1, b"1 == 1").unwrap(),
             needed: 2,
             values: values.iter().map(|value| value.to_vec()).collect(),
         }
@@ -321,7 +321,7 @@ mod tests {
 
     #[test]
     fn edges_of_openings() {
-        let table = table_of(b"1 == 1").unwrap();
+        let table = table_of(1, b"1 == 1").unwrap();
         let room = HEAD + table.len();
         let edges = |buffer, table, needed| of_opening(buffer, table, needed, false);
         assert_eq!(edges(0, b"", 0), ["opening with 12 and 21"]);
@@ -356,7 +356,7 @@ mod tests {
         assert_eq!(edges(&eight, b"h"), ["again", "again with 8 counted"]);
         assert_eq!(edges(&eight, b"i"), ["a ninth", "decided with 20"]);
         let mut undecided = decision(&[]);
-        undecided.table = table_of(b"gone == 1 || 1 == 1").unwrap();
+        undecided.table = table_of(1, b"gone == 1 || 1 == 1").unwrap();
         assert_eq!(
             of_notice(&undecided, &notice_of(b"ab")),
             [

@@ -4,6 +4,7 @@
 
 use crate::cases::{Case, Outcome};
 use crate::characters;
+use crate::editions;
 use crate::expressions::COMPARISONS;
 use crate::notices::{rendered, Field};
 use crate::operations::{push_string, pushed};
@@ -84,7 +85,8 @@ impl Case<'_> {
         draft.entries.push((Op::Size.code(), 0, 0));
         self.told_by(&mut draft, &value);
         let notice = rendered(std::slice::from_ref(&field));
-        self.running(&laid_out(&draft), &notice)?;
+        let edition = editions::any(&mut self.random);
+        self.running(&laid_out(edition, &draft), &notice)?;
         let told = match (literal, where_it_is(&field), folded) {
             (true, _, false) => "literal",
             (true, _, true) => "folded literal",
@@ -146,11 +148,8 @@ impl Case<'_> {
             2 => format!("{beside} {comparison} size (s) && require (s)"),
             _ => format!("size (s) {comparison} {beside}"),
         };
-        let table = reference::compile::table_of(text.as_bytes())
-            .map_err(|refusal| format!("{text}: {refusal:?}"))?;
-        self.translation(text.as_bytes(), table.len())?;
         let notice = rendered(std::slice::from_ref(&field));
-        self.demand_3(text.as_bytes(), &table, &notice)?;
+        self.both_editions(text.as_bytes(), &notice)?;
         self.count_size(&format!("text: {}", where_it_is(&field)), &value);
         Ok(())
     }

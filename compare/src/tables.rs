@@ -1,10 +1,12 @@
 //! Tables: those of texts, made by hand of random entries, and damaged ones.
 
 use crate::about::{self, About};
+use crate::editions;
 use crate::random::Random;
 use crate::texts;
 use crate::words;
 use reference::op::{Op, OPS};
+use reference::Edition;
 
 /// A table before it is laid out; ops need not be known ones.
 #[derive(Default)]
@@ -15,6 +17,7 @@ pub struct Draft {
 
 /// Any table, to be run on the notice.
 pub fn table(random: &mut Random, about: &About) -> Vec<u8> {
+    let edition = editions::any(random);
     match random.below(10) {
         0 => {
             let length = random.below(60);
@@ -28,24 +31,25 @@ pub fn table(random: &mut Random, about: &About) -> Vec<u8> {
         3..=5 => {
             let mut draft = made(random, about);
             damage(random, &mut draft);
-            laid_out(&draft)
+            laid_out(edition, &draft)
         }
         6 => translated(random, about),
-        _ => laid_out(&made(random, about)),
+        _ => laid_out(edition, &made(random, about)),
     }
 }
 
 /// A table that passes the check: of a text.
 pub fn translated(random: &mut Random, about: &About) -> Vec<u8> {
-    let text = texts::valid(random, about);
-    reference::compile::table_of(&text).unwrap_or_else(|_| laid_out(&made(random, about)))
+    let (edition, text) = (editions::any(random), texts::valid(random, about));
+    reference::compile::table_of(edition.number(), &text)
+        .unwrap_or_else(|_| laid_out(edition, &made(random, about)))
 }
 
-/// The draft's bytes.
-pub fn laid_out(draft: &Draft) -> Vec<u8> {
+/// The draft's bytes, as a table of the edition.
+pub fn laid_out(edition: Edition, draft: &Draft) -> Vec<u8> {
     let length = 6 + 12 * draft.entries.len() + draft.pool.len();
     let mut table = (length as u32).to_le_bytes().to_vec();
-    table.extend(2u16.to_le_bytes());
+    table.extend(edition.kind().to_le_bytes());
     table.extend((draft.entries.len() as u16).to_le_bytes());
     table.extend((draft.pool.len() as u16).to_le_bytes());
     for (op, a, b) in &draft.entries {

@@ -2,8 +2,8 @@
 
 use crate::edges::EDGES;
 use crate::{
-    corners, find_edges, many_edges, quorum_edges, size, spellings, ubf_edges, undecided_edges,
-    wildcard,
+    corners, editions, find_edges, many_edges, quorum_edges, shift_edges, size, spellings,
+    ubf_edges, undecided_edges, wildcard,
 };
 use reference::op::OPS;
 use std::collections::BTreeMap;
@@ -19,7 +19,7 @@ const RAREST: usize = 8;
 
 /// What must occur in a run of many cases.
 const NUMBERS: [(&str, &[u8]); 13] = [
-    ("translate", &[0, 1, 2, 3, 4, 5, 6, 7, 8, 9, 10, 18]),
+    ("translate", &[0, 1, 2, 3, 4, 5, 6, 7, 8, 9, 10, 18, 25]),
     ("check", &[0, 12]),
     ("run", &[0, 11, 12]),
     ("entry", &[0, 12, 17]),
@@ -51,6 +51,7 @@ const WORDS: [(&str, &[&str]); 12] = [
             "find",
             "undecided",
             "many",
+            "shift",
         ],
     ),
     ("verdict", &["True", "False", "Bottom"]),
@@ -70,6 +71,7 @@ const WORDS: [(&str, &[&str]); 12] = [
             "N 11",
             "N 12",
             "X",
+            "X 4",
             "E",
         ],
     ),
@@ -103,6 +105,8 @@ impl Tally {
         let undecided = undecided.into_iter().map(|one| ("undecided", one));
         let told = OPS.iter().map(|op| ("entry of op", op.code().to_string()));
         let many = many_edges::names().into_iter().map(|one| ("many", one));
+        let shifts = shift_edges::names().into_iter().map(|one| ("shift", one));
+        let editions = editions::names().into_iter().map(|one| ("edition", one));
         let all = numbers
             .chain(words)
             .chain(ops)
@@ -112,6 +116,8 @@ impl Tally {
             .chain(undecided)
             .chain(told)
             .chain(many)
+            .chain(shifts)
+            .chain(editions)
             .chain(spellings);
         all.filter(|key| !self.counts.contains_key(key))
             .map(|(of, one)| format!("{of} {one}"))

@@ -4,6 +4,7 @@
 
 use crate::about::About;
 use crate::cases::{same, Case, Outcome};
+use crate::editions;
 use crate::notices::{self, rendered, Field};
 use crate::operations::push_string;
 use crate::random::Random;
@@ -119,7 +120,7 @@ fn late(random: &mut Random) -> Vec<u8> {
     let more = random.pick(&[0, 0, 0, 1, 512]);
     let length = (draft.entries.len() + more).min(512);
     draft.entries.resize(length, (Op::Not.code(), 0, 0));
-    laid_out(&draft)
+    laid_out(editions::any(random), &draft)
 }
 
 /// The name at that place, or before the last two entries of 512, and what compares it.
@@ -151,7 +152,8 @@ impl Case<'_> {
     pub fn undecided(&mut self) -> Outcome {
         let (table, notice) = match self.random.below(8) {
             0..=3 => {
-                let table = table_of(&clauses(&mut self.random)).expect("it is accepted");
+                let (edition, text) = (editions::any(&mut self.random), clauses(&mut self.random));
+                let table = table_of(edition.number(), &text).expect("it is accepted");
                 (table, notice(&mut self.random))
             }
             4 => (late(&mut self.random), notice(&mut self.random)),
@@ -255,7 +257,9 @@ mod tests {
                 },
             ]);
             for text in &texts {
-                case.running(&table_of(text.as_bytes()).unwrap(), &notice)?;
+                for edition in [1, 2] {
+                    case.running(&table_of(edition, text.as_bytes()).unwrap(), &notice)?;
+                }
             }
             Ok(())
         });
@@ -264,7 +268,7 @@ mod tests {
     /// Any byte of a table changed to any other.
     #[test]
     fn every_byte_of_a_table() {
-        let table = table_of(b"Op == 'x' || 1 < a").unwrap();
+        let table = table_of(1, b"Op == 'x' || 1 < a").unwrap();
         with_case(|case| {
             for at in 0..table.len() {
                 for byte in 0..=255 {

@@ -261,7 +261,7 @@ mod tests {
             value: value.to_vec(),
         };
         let notice = rendered(&[field("Op", 1, &42i32.to_le_bytes()), field("s", 4, b"ab")]);
-        let table = table_of(text.as_bytes()).unwrap();
+        let table = table_of(1, text.as_bytes()).unwrap();
         let mut trace = Trace::default();
         let mut show = |at: usize, entry: &Entry, stack: &[Slot]| trace.see(at, entry, stack);
         let answer = run_shown(&table, &notice, &mut show);
@@ -341,7 +341,7 @@ mod tests {
 
     #[test]
     fn edges_of_told_entries() {
-        let table = table_of(b"a == '' ^^ 1L == -1L").unwrap();
+        let table = table_of(1, b"a == '' ^^ 1L == -1L").unwrap();
         let told = |table: &[u8], k: usize| of_told(table, k, &reference::describe(table, k));
         let end = "bytes up to the table's end";
         assert_eq!(

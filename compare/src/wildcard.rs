@@ -5,9 +5,10 @@ use crate::cases::{Case, Outcome};
 use crate::expressions::quoted;
 use crate::notices::{rendered, Field};
 use crate::tables::{laid_out, Draft};
-use crate::{edges, patterns, texts};
+use crate::{edges, editions, patterns, texts};
 use reference::op::Op;
 use reference::wildcard::{Fault, Pattern};
+use reference::Edition;
 
 /// What must occur in a run of many cases: of a table or a text that would pass with another pattern,
 /// why it is refused.
@@ -54,7 +55,8 @@ impl Case<'_> {
         let operands = self.operands(&value);
         let folded = self.random.once_in(6);
         let in_notice = value.len() <= 1024 && self.random.once_in(3);
-        let table = drafted(&value, in_notice, folded, &operands);
+        let edition = editions::any(&mut self.random);
+        let table = drafted(edition, &value, in_notice, folded, &operands);
         self.count("edge", edges::of_entries(&table));
         let number = self.checking(&table)?;
         self.count_table(&value, in_notice, folded, &operands, number);
@@ -114,8 +116,9 @@ impl Case<'_> {
         all: &[Operand],
         number: u8,
     ) {
-        let right =
-            |operands: &[Operand]| reference::check(&drafted(value, named, folded, operands)) == 0;
+        let right = |operands: &[Operand]| {
+            reference::check(&drafted(Edition::First, value, named, folded, operands)) == 0
+        };
         let star = || Operand::Pattern(b"*".to_vec());
         if number == 0 && folded {
             self.tally.count("wildcard", "table: right, folded");
@@ -154,18 +157,21 @@ impl Case<'_> {
         let folded = self.random.once_in(4);
         let call = self.call(folded, &literals);
         let text = self.beside(&call);
-        let table = reference::compile::table_of(&text);
+        let edition = editions::any(&mut self.random);
+        let table = reference::compile::table_of(edition.number(), &text);
         let room = table.as_ref().map_or(64, Vec::len);
         for room in [room, room - 1, 0] {
-            self.translation(&text, room)?;
+            self.translation(edition.number(), &text, room)?;
         }
+        let other = editions::other(&mut self.random);
+        self.translation(other, &text, room)?;
         self.count_text(&text, &call, &literals, folded);
         let Ok(table) = table else {
             return Ok(());
         };
         let value = &value[..value.len().min(1024)];
         let notice = self.notice_with(value);
-        self.demand_3(&text, &table, &notice)
+        self.demand_3(edition, &text, &table, &notice)
     }
 
     fn call(&mut self, folded: bool, literals: &[Vec<u8>]) -> Vec<u8> {
@@ -205,7 +211,7 @@ impl Case<'_> {
             return;
         };
         let number = |text: &[u8]| {
-            reference::compile::table_of(text).map_or_else(|(number, _)| number, |_| 0)
+            reference::compile::table_of(1, text).map_or_else(|(number, _)| number, |_| 0)
         };
         let right = [&text[..at], b"wildcard(s,'*')", &text[at + call.len()..]].concat();
         let faults: Vec<Fault> = literals
@@ -246,7 +252,13 @@ impl Operand {
 }
 
 /// The table of op 60 on the value, in the pool or as field `s`, with the operands.
-fn drafted(value: &[u8], named: bool, folded: bool, operands: &[Operand]) -> Vec<u8> {
+fn drafted(
+    edition: Edition,
+    value: &[u8],
+    named: bool,
+    folded: bool,
+    operands: &[Operand],
+) -> Vec<u8> {
     let mut draft = Draft {
         entries: Vec::new(),
         pool: b"s".to_vec(),
@@ -273,7 +285,7 @@ fn drafted(value: &[u8], named: bool, folded: bool, operands: &[Operand]) -> Vec
     draft
         .entries
         .push((Op::Wildcard.code(), operands.len() as u16, 0));
-    laid_out(&draft)
+    laid_out(edition, &draft)
 }
 
 fn push(draft: &mut Draft, bytes: &[u8]) {

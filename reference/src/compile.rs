@@ -1,6 +1,8 @@
 //! Translation: a text's table, or the first refusal "in this order: 10, then 1 or 3 at the first bad
-//! token, 6, 2, 4, 5, 7, 8, 9"; 18 "after 4 and before 5" (document 02, request 1).
+//! token, 6, 2, 4, 5, 7, 8, 9"; 18 "after 4 and before 5" (document 02, request 1); 25 "before 10"
+//! (request 9).
 
+use crate::edition::Edition;
 use crate::grammar::{fault, too_deep, tree, Tree};
 use crate::judge::{calls_right, function, kind, patterns_right, Kind};
 use crate::op::Op;
@@ -31,9 +33,10 @@ pub struct Code {
     pub pool: Vec<u8>,
 }
 
-/// Writes the text's table to the start of the buffer; a refusal changes no byte of it.
-pub fn translate(text: &[u8], buffer: &mut [u8]) -> Translation {
-    match table_of(text) {
+/// Writes the text's table to the start of the buffer; a refusal changes no byte of it. Document 02, request
+/// 9: "The caller names the edition when translating".
+pub fn translate(edition: usize, text: &[u8], buffer: &mut [u8]) -> Translation {
+    match table_of(edition, text) {
         Err((number, place)) => Translation {
             number,
             place,
@@ -57,7 +60,9 @@ pub fn translate(text: &[u8], buffer: &mut [u8]) -> Translation {
 }
 
 /// The table of a text, or the number and place of the first refusal but 9.
-pub fn table_of(text: &[u8]) -> Result<Vec<u8>, (u8, usize)> {
+pub fn table_of(edition: usize, text: &[u8]) -> Result<Vec<u8>, (u8, usize)> {
+    // "25 for an edition other than 1 or 2, before 10"
+    let edition = Edition::of_number(edition).ok_or((25, 0))?;
     let code = code_of(&accepted(text)?);
     if code.entries.len() > MOST_ENTRIES {
         return Err((7, 0));
@@ -65,7 +70,7 @@ pub fn table_of(text: &[u8]) -> Result<Vec<u8>, (u8, usize)> {
     if most_slots(&code.entries) > MOST_SLOTS {
         return Err((8, 0));
     }
-    Ok(layout(&code))
+    Ok(layout(edition, &code))
 }
 
 /// The tree of a text to which none of 10, 1, 3, 6, 2, 4, 18, 5 applies.
@@ -184,11 +189,11 @@ fn most_slots(entries: &[Entry]) -> usize {
 }
 
 /// "u32 length of all after it; u16 kind 2; u16 entry count N 1..512; u16 pool length 0..4,096; N
-/// entries of 12 bytes; pool"
-pub fn layout(code: &Code) -> Vec<u8> {
+/// entries of 12 bytes; pool"; document 02, request 9: kind 4 for the second edition
+pub fn layout(edition: Edition, code: &Code) -> Vec<u8> {
     let length = 6 + 12 * code.entries.len() + code.pool.len();
     let mut table = (length as u32).to_le_bytes().to_vec();
-    table.extend(2u16.to_le_bytes());
+    table.extend(edition.kind().to_le_bytes());
     table.extend((code.entries.len() as u16).to_le_bytes());
     table.extend((code.pool.len() as u16).to_le_bytes());
     for entry in &code.entries {
@@ -206,7 +211,7 @@ mod tests {
 
     #[test]
     fn the_example_table() {
-        let table = table_of(b"Op == 42").unwrap();
+        let table = table_of(1, b"Op == 42").unwrap();
         let mut meant = vec![0x2c, 0, 0, 0, 2, 0, 3, 0, 2, 0];
         meant.extend([5, 0, 2, 0, 0, 0, 0, 0, 0, 0, 0, 0]);
         meant.extend([1, 0, 0, 0, 42, 0, 0, 0, 0, 0, 0, 0]);
@@ -241,13 +246,16 @@ mod tests {
             ("equals (a, b == c)", 5, 0),
         ];
         for (text, number, place) in refused {
-            assert_eq!(table_of(text.as_bytes()), Err((number, place)), "{text}");
+            for edition in [1, 2] {
+                let answer = table_of(edition, text.as_bytes());
+                assert_eq!(answer, Err((number, place)), "{text}");
+            }
         }
     }
 
     #[test]
     fn a_wildcard_call_becomes_op_60() {
-        let table = table_of(b"wildcard (Cab, \"T-4?\", \"V*\")").unwrap();
+        let table = table_of(1, b"wildcard (Cab, \"T-4?\", \"V*\")").unwrap();
         let mut meant = vec![0x3f, 0, 0, 0, 2, 0, 4, 0, 9, 0];
         meant.extend([5, 0, 3, 0, 0, 0, 0, 0, 0, 0, 0, 0]);
         meant.extend([4, 0, 4, 0, 3, 0, 0, 0, 0, 0, 0, 0]);
@@ -259,14 +267,39 @@ mod tests {
 
     #[test]
     fn eighteen_does_not_ask_for_the_buffer() {
-        let answer = translate(b"wildcard (a, \"[!]\")", &mut []);
+        let answer = translate(1, b"wildcard (a, \"[!]\")", &mut []);
         assert_eq!((answer.number, answer.place, answer.length), (18, 0, 0));
+    }
+
+    #[test]
+    fn the_editions_differ_in_the_kind_alone() {
+        for text in ["Op == 42", "a << -1 == 2 && b >>> 65 != c >> 1"] {
+            let first = table_of(1, text.as_bytes()).unwrap();
+            let mut second = table_of(2, text.as_bytes()).unwrap();
+            assert_eq!((first[4], second[4]), (2, 4));
+            second[4] = 2;
+            assert_eq!(first, second);
+        }
+    }
+
+    #[test]
+    fn twenty_five_comes_before_ten() {
+        let long = vec![b' '; 4097];
+        for edition in [0, 3, 257, usize::MAX] {
+            let mut buffer = [7; 4];
+            for text in [&b"Op == 42"[..], b"", &long] {
+                let answer = translate(edition, text, &mut buffer);
+                assert_eq!((answer.number, answer.place, answer.length), (25, 0, 0));
+            }
+            assert_eq!(buffer, [7; 4]);
+        }
+        assert_eq!(table_of(2, &long), Err((10, 0)));
     }
 
     #[test]
     fn a_short_buffer_keeps_its_bytes() {
         let mut buffer = [7; 47];
-        let answer = translate(b"Op == 42", &mut buffer);
+        let answer = translate(1, b"Op == 42", &mut buffer);
         assert_eq!(
             answer,
             Translation {
@@ -281,7 +314,7 @@ mod tests {
     #[test]
     fn sizes_have_limits() {
         let number = |text: String| {
-            table_of(text.as_bytes())
+            table_of(1, text.as_bytes())
                 .map_err(|(number, _)| number)
                 .map(|_| ())
         };

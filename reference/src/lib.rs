@@ -4,6 +4,7 @@
 #![forbid(unsafe_code)]
 
 pub mod compile;
+pub mod edition;
 pub mod exact;
 pub mod grammar;
 pub mod judge;
@@ -23,6 +24,7 @@ pub mod verdict;
 pub mod wildcard;
 
 pub use compile::{translate, Translation};
+pub use edition::Edition;
 pub use many::{run_many, Many};
 pub use meaning::meaning;
 pub use notice::{check_notice, find, read, write, Finding, Reading, Writing};

@@ -111,12 +111,12 @@ mod tests {
     #[test]
     fn one_byte_a_table() {
         let (yes, no) = (
-            table_of(b"Op == 42").unwrap(),
-            table_of(b"Op < 42").unwrap(),
+            table_of(1, b"Op == 42").unwrap(),
+            table_of(1, b"Op < 42").unwrap(),
         );
-        let bottom = table_of(b"a == 1").unwrap();
+        let bottom = table_of(1, b"a == 1").unwrap();
         let mut bad = yes.clone();
-        bad[4] = 4;
+        bad[4] = 3;
         let all = [&no[..], &yes, &bottom, &bad, &yes];
         assert_eq!(answer(&all, &OP42, 6), (0, 0, vec![0, 1, 2, 3, 1, 7]));
         assert_eq!(answer(&all, &E, 5), (0, 0, vec![2, 2, 2, 3, 2]));
@@ -125,8 +125,17 @@ mod tests {
     }
 
     #[test]
+    fn tables_of_both_editions() {
+        let table = |edition| table_of(edition, b"Op >> 33 == 21").unwrap();
+        let (first, second) = (&table(1)[..], &table(2)[..]);
+        let all = [second, first, second];
+        assert_eq!(answer(&all, &OP42, 3), (0, 0, vec![1, 2, 1]));
+        assert_eq!(answer(&all, &E, 3), (0, 0, vec![2, 2, 2]));
+    }
+
+    #[test]
     fn where_a_table_ends() {
-        let yes = &table_of(b"Op == 42").unwrap()[..];
+        let yes = &table_of(1, b"Op == 42").unwrap()[..];
         let zero = &[0; 4][..];
         let walked = [zero, yes, zero, zero, yes];
         assert_eq!(answer(&walked, &OP42, 5), (0, 0, vec![3, 1, 3, 3, 1]));
@@ -141,7 +150,7 @@ mod tests {
 
     #[test]
     fn refusals_in_their_order() {
-        let yes = table_of(b"Op == 42").unwrap();
+        let yes = table_of(1, b"Op == 42").unwrap();
         let many = |count| vec![&yes[..]; count];
         let with_rest = |count| [many(count), vec![&yes[..3]]].concat();
         assert_eq!(answer(&many(65), b"", 0).0, 11);

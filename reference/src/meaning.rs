@@ -2,22 +2,27 @@
 //! skipped" (the letter, number 3).
 
 use crate::compile::accepted;
+use crate::edition::Edition;
 use crate::grammar::Tree;
 use crate::judge::function;
 use crate::notice::{fields, value_of, Field};
 use crate::op::Op;
 use crate::value::{binary, logic, many, not, unary, Slot, Truth, Value};
 
-/// The verdict that the meaning gives, if none of 10, 1, 3, 6, 2, 4, 18, 5 applies to the text and the
-/// notice keeps its layout.
-pub fn meaning(text: &[u8], notice: &[u8]) -> Option<Truth> {
-    let tree = accepted(text).ok()?;
-    let fields = fields(notice).ok()?;
-    Some(On { notice, fields }.truth(&tree))
+/// The verdict that the meaning gives, if none of 25, 10, 1, 3, 6, 2, 4, 18, 5 applies to the text and the
+/// notice keeps its layout. Document 02, request 9: "demands 2 and 3 read that edition".
+pub fn meaning(edition: usize, text: &[u8], notice: &[u8]) -> Option<Truth> {
+    let on = On {
+        edition: Edition::of_number(edition)?,
+        notice,
+        fields: fields(notice).ok()?,
+    };
+    Some(on.truth(&accepted(text).ok()?))
 }
 
-/// A notice that keeps its layout, with its fields.
+/// An edition, and a notice that keeps its layout, with its fields.
 struct On<'a> {
+    edition: Edition,
     notice: &'a [u8],
     fields: Vec<Field>,
 }
@@ -51,7 +56,9 @@ impl On<'_> {
             Tree::Binary(op @ (Op::And | Op::Xor | Op::Or), left, right) => {
                 Slot::Truth(logic(*op, self.truth(left), self.truth(right)))
             }
-            Tree::Binary(op, left, right) => binary(*op, self.value(left), self.value(right)),
+            Tree::Binary(op, left, right) => {
+                binary(self.edition, *op, self.value(left), self.value(right))
+            }
             Tree::Call(name, escaped, arguments) => {
                 self.call(function(name, *escaped).expect("a function"), arguments)
             }
@@ -94,7 +101,33 @@ mod tests {
             ("Op == 42", &E, Truth::Bottom),
         ];
         for (text, notice, verdict) in cases {
-            assert_eq!(meaning(text.as_bytes(), notice), Some(verdict), "{text}");
+            for edition in [1, 2] {
+                let answer = meaning(edition, text.as_bytes(), notice);
+                assert_eq!(answer, Some(verdict), "{text}");
+            }
+        }
+    }
+
+    #[test]
+    fn shift_counts_by_edition() {
+        let cases = [
+            // "-1 shifts an int32 by 31"
+            ("1 << -1 == -2147483648", Truth::Bottom, Truth::True),
+            ("-1 >>> -1 == 1", Truth::Bottom, Truth::True),
+            ("Op >> 32 == 42", Truth::Bottom, Truth::True),
+            ("Op >> 33L == 21", Truth::Bottom, Truth::True),
+            ("1L << -1 == 1", Truth::Bottom, Truth::False),
+            ("1L << 32 == 4294967296L", Truth::True, Truth::True),
+            ("1 << 1.0 == 2", Truth::Bottom, Truth::Bottom),
+            ("1 << a == 2", Truth::Bottom, Truth::Bottom),
+            // no other operator
+            ("Op / 0 == 1", Truth::Bottom, Truth::Bottom),
+        ];
+        for (text, first, second) in cases {
+            let verdict = |edition| meaning(edition, text.as_bytes(), &OP42);
+            assert_eq!(verdict(1), Some(first), "{text}");
+            assert_eq!(verdict(2), Some(second), "{text}");
+            assert_eq!(verdict(3), None);
         }
     }
 }

@@ -250,7 +250,7 @@ mod tests {
     }
 
     fn op_is_42() -> Vec<u8> {
-        table_of(b"Op == 42").unwrap()
+        table_of(1, b"Op == 42").unwrap()
     }
 
     #[test]
@@ -272,6 +272,16 @@ mod tests {
         assert_eq!(buffer[12..73], [7; 61]);
         assert_eq!(buffer[73..77], *b"\x03418");
         assert_eq!(buffer[HEAD + 48..], [7, 7]);
+    }
+
+    #[test]
+    fn a_table_of_either_edition_is_kept() {
+        for (edition, count) in [(1, 0), (2, 1)] {
+            let table = table_of(edition, b"Op >> 33 == 21").unwrap();
+            let mut decision = Decision::open(&table, 1).unwrap();
+            let answer = decision.show(&notice(Some((4, b"417"))));
+            assert_eq!((answer.number, answer.count), (0, count));
+        }
     }
 
     #[test]
@@ -332,7 +342,7 @@ mod tests {
     /// 65535."
     #[test]
     fn the_undecided_entry_is_passed_on() {
-        let mut decision = Decision::open(&table_of(b"a == 1 || Op > 41").unwrap(), 1).unwrap();
+        let mut decision = Decision::open(&table_of(1, b"a == 1 || Op > 41").unwrap(), 1).unwrap();
         let mut answer = |notice: &[u8]| {
             let answer = decision.show(notice);
             (answer.number, answer.undecided)

@@ -147,7 +147,7 @@ impl Machine<'_> {
             }
             op => {
                 let right = self.pop_value();
-                binary(op, self.pop_value(), right)
+                binary(self.table.edition, op, self.pop_value(), right)
             }
         }
     }
@@ -181,7 +181,7 @@ mod tests {
             ("1 == 2 && Op == 42", &E, Truth::False, 4, 65535),
         ];
         for (text, notice, verdict, steps, undecided) in cases {
-            let answer = run(&table_of(text.as_bytes()).unwrap(), notice);
+            let answer = run(&table_of(1, text.as_bytes()).unwrap(), notice);
             assert_eq!(
                 answer,
                 Running {
@@ -216,14 +216,14 @@ mod tests {
             ("a == 1 && Op == 41 || b == 1", 0),
         ];
         for (text, undecided) in cases {
-            let answer = run(&table_of(text.as_bytes()).unwrap(), &OP42);
+            let answer = run(&table_of(1, text.as_bytes()).unwrap(), &OP42);
             assert_eq!(answer.undecided, undecided, "{text}");
         }
     }
 
     #[test]
     fn twelve_comes_before_eleven() {
-        let table = table_of(b"Op == 42").unwrap();
+        let table = table_of(1, b"Op == 42").unwrap();
         let refused = |notice: &[u8], table: &[u8]| {
             let answer = run(table, notice);
             (answer.number, answer.undecided)

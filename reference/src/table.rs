@@ -1,6 +1,7 @@
 //! "Table": its layout and "The check".
 
 use crate::compile::Entry;
+use crate::edition::Edition;
 use crate::judge::Kind;
 use crate::notice::name_right;
 use crate::op::Op;
@@ -8,9 +9,10 @@ use crate::wildcard::Pattern;
 use crate::{word, MOST_ENTRIES, MOST_POOL, MOST_SLOTS};
 use std::ops::Range;
 
-/// A table's entries and pool as they lie in the lent bytes.
+/// A table's entries and pool as they lie in the lent bytes, and the edition that its kind tells.
 #[derive(Clone, PartialEq, Eq, Debug)]
 pub struct Table<'a> {
+    pub edition: Edition,
     pub entries: Vec<Entry>,
     pub pool: &'a [u8],
 }
@@ -31,19 +33,21 @@ pub fn checked(table: &[u8]) -> Option<Table<'_>> {
 }
 
 /// "u32 length of all after it; u16 kind 2; u16 entry count N 1..512; u16 pool length 0..4,096; N
-/// entries of 12 bytes; pool; nothing more."
+/// entries of 12 bytes; pool; nothing more."; document 02, request 9: kind 4 for the second edition, "and all
+/// that runs or keeps tables takes both"
 fn decode(table: &[u8]) -> Option<Table<'_>> {
     let length = word(table, 0, 4)? as usize;
-    let kind = word(table, 4, 2)?;
+    let edition = Edition::of_kind(word(table, 4, 2)?)?;
     let count = word(table, 6, 2)? as usize;
     let pool = word(table, 8, 2)? as usize;
     let limits = (1..=MOST_ENTRIES).contains(&count) && pool <= MOST_POOL;
     let whole = table.len() == 10 + 12 * count + pool && table.len() == 4 + length;
-    if kind != 2 || !limits || !whole {
+    if !limits || !whole {
         return None;
     }
     let entries: Option<Vec<Entry>> = (0..count).map(|k| entry(table, 10 + 12 * k)).collect();
     Some(Table {
+        edition,
         entries: entries?,
         pool: &table[10 + 12 * count..],
     })
@@ -230,13 +234,13 @@ mod tests {
 
     #[test]
     fn a_translated_table_passes() {
-        let table = table_of(b"a == 1 && (b == 2 || c == 3)").unwrap();
+        let table = table_of(1, b"a == 1 && (b == 2 || c == 3)").unwrap();
         assert_eq!(check(&table), 0);
     }
 
     #[test]
     fn entries_are_described() {
-        let table = table_of(b"Op != '' && 1 == 2L").unwrap();
+        let table = table_of(1, b"Op != '' && 1 == 2L").unwrap();
         let told = |k| {
             let told = describe(&table, k);
             (told.number, told.op, told.a, told.b, told.bytes)
@@ -256,9 +260,25 @@ mod tests {
     }
 
     #[test]
+    fn kinds_2_and_4_pass_and_no_other() {
+        let first = table_of(1, b"Op << 33 == 84").unwrap();
+        let second = table_of(2, b"Op << 33 == 84").unwrap();
+        for kind in 0..=65535u16 {
+            let mut table = first.clone();
+            table[4..6].copy_from_slice(&kind.to_le_bytes());
+            let number = if [2, 4].contains(&kind) { 0 } else { 12 };
+            assert_eq!(check(&table), number, "{kind}");
+            assert_eq!(table == second, kind == 4);
+        }
+        for k in 0..6 {
+            assert_eq!(describe(&first, k), describe(&second, k));
+        }
+    }
+
+    #[test]
     fn a_damaged_table_fails() {
-        let table = table_of(b"a == 1 && b == 2").unwrap();
-        for at in [0, 4, 6, 8, 10, 12, 14, 24] {
+        let table = table_of(1, b"a == 1 && b == 2").unwrap();
+        for at in [0, 4, 5, 6, 8, 10, 12, 14, 24] {
             let mut damaged = table.clone();
             damaged[at] ^= 64;
             assert_eq!(check(&damaged), 12, "{at}");
@@ -268,7 +288,7 @@ mod tests {
 
     #[test]
     fn a_pattern_is_well_formed_and_stands_directly_before() {
-        let table = table_of(b"wildcard (a, \"x*\", \"[y]\")").unwrap();
+        let table = table_of(1, b"wildcard (a, \"x*\", \"[y]\")").unwrap();
         assert_eq!(check(&table), 0);
         let pool = 10 + 12 * 4;
         assert_eq!(&table[pool..], b"ax*[y]");
@@ -298,7 +318,7 @@ mod tests {
 
     #[test]
     fn a_skip_that_lands_elsewhere_fails() {
-        let mut table = table_of(b"a == 1 && b == 2").unwrap();
+        let mut table = table_of(1, b"a == 1 && b == 2").unwrap();
         let skip = 10 + 12 * 3 + 2;
         assert_eq!(table[skip], 4);
         table[skip] = 3;

@@ -1,5 +1,6 @@
 //! "Meaning": values, truth values, and what each operator and function gives.
 
+use crate::edition::Edition;
 use crate::exact::{beside, nearest};
 use crate::op::Op;
 use crate::utf8::characters;
@@ -74,20 +75,21 @@ pub fn logic(op: Op, left: Truth, right: Truth) -> Truth {
     }
 }
 
-/// A binary operator on values; "bottom in a value makes the enclosing value or comparison bottom".
-pub fn binary(op: Op, left: Option<Value>, right: Option<Value>) -> Slot {
+/// A binary operator on values; "bottom in a value makes the enclosing value or comparison bottom". Document
+/// 02, request 9: the editions "differ in the three shifts alone".
+pub fn binary(edition: Edition, op: Op, left: Option<Value>, right: Option<Value>) -> Slot {
     let sides = left.zip(right);
     match op {
         Op::Equal | Op::Unequal | Op::Less | Op::LessEqual | Op::Greater | Op::GreaterEqual => {
             Slot::Truth(sides.map_or(Bottom, |(left, right)| compare(op, &left, &right)))
         }
-        _ => Slot::Value(sides.and_then(|(left, right)| compute(op, &left, &right))),
+        _ => Slot::Value(sides.and_then(|(left, right)| compute(edition, op, &left, &right))),
     }
 }
 
-fn compute(op: Op, left: &Value, right: &Value) -> Option<Value> {
+fn compute(edition: Edition, op: Op, left: &Value, right: &Value) -> Option<Value> {
     match op {
-        Op::ShiftLeft | Op::ShiftRight | Op::ShiftZeros => shift(op, left, right),
+        Op::ShiftLeft | Op::ShiftRight | Op::ShiftZeros => shift(edition, op, left, right),
         Op::BitAnd | Op::BitXor | Op::BitOr => bits(op, left, right),
         _ => arithmetic(op, left, right),
     }
@@ -183,21 +185,27 @@ fn bits(op: Op, left: &Value, right: &Value) -> Option<Value> {
     }
 }
 
-/// "A shift has its left side's width and type; the count must be 0 to width less 1, else bottom. `<<`
-/// drops bits, `>>` keeps the sign, `>>>` brings in zeros."
-fn shift(op: Op, left: &Value, right: &Value) -> Option<Value> {
-    let count = u32::try_from(whole(right)?).ok()?;
+/// "A shift has its left side's width and type", the distance being the edition's. "`<<` drops bits, `>>`
+/// keeps the sign, `>>>` brings in zeros."
+fn shift(edition: Edition, op: Op, left: &Value, right: &Value) -> Option<Value> {
+    let count = whole(right)?;
     match left {
-        Value::Int32(n) if count < 32 => Some(Value::Int32(match op {
-            Op::ShiftLeft => n << count,
-            Op::ShiftRight => n >> count,
-            _ => (*n as u32 >> count) as i32,
-        })),
-        Value::Int64(n) if count < 64 => Some(Value::Int64(match op {
-            Op::ShiftLeft => n << count,
-            Op::ShiftRight => n >> count,
-            _ => (*n as u64 >> count) as i64,
-        })),
+        Value::Int32(n) => {
+            let by = edition.distance(count, 32)?;
+            Some(Value::Int32(match op {
+                Op::ShiftLeft => n << by,
+                Op::ShiftRight => n >> by,
+                _ => (*n as u32 >> by) as i32,
+            }))
+        }
+        Value::Int64(n) => {
+            let by = edition.distance(count, 64)?;
+            Some(Value::Int64(match op {
+                Op::ShiftLeft => n << by,
+                Op::ShiftRight => n >> by,
+                _ => (*n as u64 >> by) as i64,
+            }))
+        }
         _ => None,
     }
 }

@@ -20,9 +20,12 @@
 //! - `07-run.txt`: as `run.txt`, then the undecided entry; `07-quorum.txt`: as `03-quorum.txt`, each answer
 //!   with the entry at its end; `07-program.txt`: as `program.txt`, each `N` line with the entry at its end
 //! - `08-many.txt`: tables end to end, notice, verdict buffer's length, number, place, count, verdict bytes
+//! - `09-translate.txt`: edition, text, buffer length, number, place, table; `09-run.txt`, `09-check.txt`: as
+//!   `07-run.txt` and `01-check.txt`, of tables of both editions
 //! - `11-find.txt`: notice, name, index of the field that has it or `-`, names looked at
 //!
-//! Files without 07 in front are from before request 7, so that their answers of runs have no entry.
+//! Runs of files without 07 or 09 in front are from before request 7, so that their answers have no entry.
+//! Texts of files without 09 in front are from before request 9: of the first edition.
 
 use crate::quorum::{self, Decision, Shown};
 use crate::wildcard::Pattern;
@@ -43,12 +46,15 @@ pub fn agree(file: &str, lines: &str) -> Result<usize, String> {
 /// How many words of the line are given, and the answer in words.
 fn answer(file: &str, words: &[&str]) -> Option<(usize, String)> {
     match (file, words.len()) {
-        ("translate.txt" | "01-translate.txt", 5) => Some((2, translate(words)?)),
+        ("translate.txt" | "01-translate.txt", 5) => Some((2, translate(1, words)?)),
+        ("09-translate.txt", 6) => Some((3, translate(words[0].parse().ok()?, &words[1..])?)),
         ("run.txt" | "01-run.txt" | "02-run.txt" | "06-run.txt", 6) => {
             Some((2, without_last(&run(words)?)))
         }
-        ("07-run.txt", 7) => Some((2, run(words)?)),
-        ("01-check.txt", 2) => Some((1, crate::check(&bytes(words[0])?).to_string())),
+        ("07-run.txt" | "09-run.txt", 7) => Some((2, run(words)?)),
+        ("01-check.txt" | "09-check.txt", 2) => {
+            Some((1, crate::check(&bytes(words[0])?).to_string()))
+        }
         ("01-patterns.txt", 4) => Some((2, pattern(words)?)),
         ("read.txt", 7) => Some((2, read(words)?)),
         ("write.txt", 9) => Some((5, write(words)?)),
@@ -65,9 +71,9 @@ fn answer(file: &str, words: &[&str]) -> Option<(usize, String)> {
     }
 }
 
-fn translate(words: &[&str]) -> Option<String> {
+fn translate(edition: usize, words: &[&str]) -> Option<String> {
     let mut buffer = vec![0; words[1].parse().ok()?];
-    let answer = crate::translate(&bytes(words[0])?, &mut buffer);
+    let answer = crate::translate(edition, &bytes(words[0])?, &mut buffer);
     Some(format!(
         "{} {} {}",
         answer.number,
@@ -238,6 +244,11 @@ mod tests {
         assert_eq!(agree("translate.txt", "4f70 100 5 0 -\n- 0 2 0 -"), Ok(2));
         assert!(agree("translate.txt", "4f70 100 5 1 -").is_err());
         assert!(agree("other.txt", "4f70 100 5 0 -").is_err());
+        for (edition, number) in [("0", 25), ("1", 5), ("2", 5), ("3", 25)] {
+            let line = format!("{edition} 4f70 100 {number} 0 -");
+            assert_eq!(agree("09-translate.txt", &line), Ok(1));
+        }
+        assert!(agree("09-translate.txt", "3 4f70 100 5 0 -").is_err());
         assert_eq!(agree("program.txt", "020000000700 5820370a"), Ok(1));
         // "N 12 bottom 0 0", and with request 7 " 65535"
         let (input, line) = ("0400000001000000", "4e20313220626f74746f6d20302030");

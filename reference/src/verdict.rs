@@ -44,7 +44,8 @@ fn line(record: &[u8], table: &mut Option<Vec<u8>>) -> String {
 
 /// "`S number place length`"
 fn text_line(text: &[u8], table: &mut Option<Vec<u8>>) -> String {
-    let result = table_of(text);
+    // document 02, request 9: "(`verdict` names 1)"
+    let result = table_of(1, text);
     *table = result.clone().ok();
     match result {
         Ok(table) => format!("S 0 0 {}\n", table.len()),
@@ -98,6 +99,15 @@ mod tests {
             printed(&[&text, &bad, &E]),
             "S 0 0 48\nS 2 0 0\nN 12 bottom 0 0 65535\n"
         );
+    }
+
+    #[test]
+    fn texts_are_of_the_first_edition() {
+        let text = record_of(3, b"Op >> 33 == 21");
+        assert_eq!(printed(&[&text, &OP42]), "S 0 0 72\nN 0 bottom 5 0 2\n");
+        // a table of the second edition is a record of another kind
+        let table = table_of(2, b"Op == 42").unwrap();
+        assert_eq!(printed(&[&table]), "X 4\n");
     }
 
     #[test]

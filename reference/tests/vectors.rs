@@ -25,6 +25,9 @@ fn the_vectors_agree() {
         ("07-quorum.txt", 120),
         ("07-program.txt", 120),
         ("08-many.txt", 350),
+        ("09-translate.txt", 500),
+        ("09-run.txt", 600),
+        ("09-check.txt", 300),
         ("11-find.txt", 500),
     ];
     for (file, cases) in files {

@@ -11,6 +11,7 @@ use std::fmt;
 mod library {
     extern "C" {
         pub fn virentolex_translate(
+            edition: usize,
             text: *const u8,
             text_len: usize,
             buffer: *mut u8,
@@ -167,6 +168,29 @@ pub mod kind {
     pub const OPAQUE: u16 = 5;
 }
 
+/// The editions of a table. They differ in the shifts `<< >> >>>` alone, where the count is not 0 to the
+/// width less 1 (32 or 64 bits, the width of what is shifted). Name the second if the subscription is about
+/// doors with the newer firmware, which takes counts so, and if every router that is to run the table is
+/// renewed; else, and for a text without a shift, the first.
+#[derive(Debug, Clone, Copy, PartialEq, Eq, Hash)]
+pub enum Edition {
+    /// The shift is bottom. The table is of kind 2, which every router takes.
+    First,
+    /// The shift is by the count's remainder by the width: -1 shifts an int32 by 31. The table is of kind
+    /// 4, which routers not yet renewed refuse with 12.
+    Second,
+}
+
+impl Edition {
+    /// The number that the library takes.
+    pub fn number(self) -> usize {
+        match self {
+            Edition::First => 1,
+            Edition::Second => 2,
+        }
+    }
+}
+
 /// The three truth values, in their order. Only a true verdict is delivered.
 #[derive(Debug, Clone, Copy, PartialEq, Eq, PartialOrd, Ord, Hash)]
 pub enum Verdict {
@@ -300,15 +324,21 @@ pub struct Delivered {
     pub count: usize,
 }
 
-/// Translates a subscription text to a table at the buffer's start. The bytes after the table stay,
-/// and a refusal changes no byte.
-pub fn translate(text: &[u8], buffer: &mut [u8]) -> Translated {
+/// Translates a subscription text to a table of the edition at the buffer's start. The bytes after the
+/// table stay, and a refusal changes no byte.
+pub fn translate(edition: Edition, text: &[u8], buffer: &mut [u8]) -> Translated {
+    translate_numbered(edition.number(), text, buffer)
+}
+
+/// As `translate`, the edition by its number, which may come from elsewhere: 25 for another than 1 or 2.
+pub fn translate_numbered(edition: usize, text: &[u8], buffer: &mut [u8]) -> Translated {
     let mut place = 0;
     let mut length = 0;
     // SAFETY: each pointer and length come from one slice, an empty one's pointer is not null; the
     // buffer and the two results are borrowed here alone, so that they overlap nothing.
     let number = unsafe {
         library::virentolex_translate(
+            edition,
             text.as_ptr(),
             text.len(),
             buffer.as_mut_ptr(),

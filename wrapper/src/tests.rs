@@ -15,10 +15,15 @@ const OP_IS_42: [u8; 48] = [
     0x4F, 0x70,
 ];
 
-/// A text's table.
+/// A text's table of the first edition.
 fn table(text: &str) -> Vec<u8> {
+    table_of(Edition::First, text)
+}
+
+/// A text's table.
+fn table_of(edition: Edition, text: &str) -> Vec<u8> {
     let mut buffer = vec![0; TABLE_MAX];
-    let t = translate(text.as_bytes(), &mut buffer);
+    let t = translate(edition, text.as_bytes(), &mut buffer);
     assert_eq!((t.number, t.place), (0, 0), "{text}");
     buffer.truncate(t.length);
     buffer
@@ -34,7 +39,7 @@ fn verdict(text: &str, notice: &[u8]) -> (Verdict, usize) {
 #[test]
 fn a_table_is_written_and_later_bytes_stay() {
     let mut buffer = [0xAA; 50];
-    let t = translate(b"Op == 42", &mut buffer);
+    let t = translate(Edition::First, b"Op == 42", &mut buffer);
     assert_eq!(
         t,
         Translated {
@@ -64,19 +69,102 @@ fn a_refused_text_changes_no_byte() {
         ("0x80000000 == 0", 3, 0),
     ];
     for (text, number, place) in cases {
-        let mut buffer = [0xAA; 64];
-        let t = translate(text.as_bytes(), &mut buffer);
-        assert_eq!((t.number, t.place, t.length), (number, place, 0), "{text}");
-        assert_eq!(buffer, [0xAA; 64], "{text}");
+        for edition in [Edition::First, Edition::Second] {
+            let mut buffer = [0xAA; 64];
+            let t = translate(edition, text.as_bytes(), &mut buffer);
+            assert_eq!((t.number, t.place, t.length), (number, place, 0), "{text}");
+            assert_eq!(buffer, [0xAA; 64], "{text}");
+        }
     }
 }
 
 #[test]
 fn a_buffer_one_byte_short_is_9() {
-    let mut buffer = [0xAA; 47];
-    let t = translate(b"Op == 42", &mut buffer);
-    assert_eq!((t.number, t.place, t.length), (9, 0, 0));
-    assert_eq!(buffer, [0xAA; 47]);
+    for edition in [Edition::First, Edition::Second] {
+        let mut buffer = [0xAA; 47];
+        let t = translate(edition, b"Op == 42", &mut buffer);
+        assert_eq!((t.number, t.place, t.length), (9, 0, 0));
+        assert_eq!(buffer, [0xAA; 47]);
+    }
+}
+
+#[test]
+fn another_edition_is_25_before_10() {
+    let long = [b' '; TEXT_MAX + 1];
+    for edition in [0, 3, 4, 255, 256, 257, 1 << 32, (1 << 32) + 1, usize::MAX] {
+        for text in [&b"Op == 42"[..], b"", b"Op", &long] {
+            let mut buffer = [0xAA; 64];
+            let t = translate_numbered(edition, text, &mut buffer);
+            assert_eq!((t.number, t.place, t.length), (25, 0, 0), "{edition}");
+            assert_eq!(buffer, [0xAA; 64]);
+        }
+    }
+    for edition in [1, 2] {
+        assert_eq!(translate_numbered(edition, &long, &mut []).number, 10);
+        assert_eq!(translate_numbered(edition, b"Op", &mut []).number, 5);
+    }
+}
+
+#[test]
+fn the_second_edition_is_of_kind_4() {
+    let mut second = OP_IS_42;
+    second[4] = 4;
+    assert_eq!(table_of(Edition::Second, "Op == 42"), second);
+    for kind in 0..=65535u16 {
+        let mut table = OP_IS_42;
+        table[4..6].copy_from_slice(&kind.to_le_bytes());
+        let number = if [2, 4].contains(&kind) { 0 } else { 12 };
+        assert_eq!(check(&table), number, "kind {kind}");
+    }
+    assert_eq!(run(&second, &OP42), run(&OP_IS_42, &OP42));
+    assert_eq!(run(&second, &EMPTY_NOTICE), run(&OP_IS_42, &EMPTY_NOTICE));
+    for k in 0..4 {
+        assert_eq!(entry(&second, k), entry(&OP_IS_42, k));
+    }
+}
+
+/// Document 02, request 9: "Newer door firmware takes the count's remainder by the width, 0 to width less 1,
+/// so -1 shifts an int32 by 31."
+#[test]
+fn shift_counts_by_edition() {
+    use Verdict::{Bottom, False, True};
+    let cases = [
+        ("1 << -1 == -2147483648", Bottom, True),
+        ("-1 >>> -1 == 1", Bottom, True),
+        ("-1 >> -33 == -1", Bottom, True),
+        ("Op >> 33 == 21", Bottom, True),
+        ("Op << 32 == 42", Bottom, True),
+        ("Op << 2147483647 == 0", Bottom, True),
+        ("Op << 4294967297L == 84", Bottom, True),
+        ("Op << -9223372036854775808L == 42", Bottom, True),
+        ("1L << -1 == -9223372036854775808L", Bottom, True),
+        ("1L << 64 == 2", Bottom, False),
+        ("1L << 32 == 4294967296L", True, True),
+        ("1 << 31 == -2147483648", True, True),
+        ("1 << 1.0 == 2", Bottom, Bottom),
+        ("1 << Gone == 2", Bottom, Bottom),
+        ("Op / 0 == 1", Bottom, Bottom),
+    ];
+    for (text, first, second) in cases {
+        let verdict = |edition| run(&table_of(edition, text), &OP42).verdict;
+        assert_eq!(verdict(Edition::First), first, "{text}");
+        assert_eq!(verdict(Edition::Second), second, "{text}");
+    }
+}
+
+#[test]
+fn both_editions_are_counted_and_laid_end_to_end() {
+    let text = "Op >> 33 == 21";
+    let tables = [Edition::Second, Edition::First].map(|edition| table_of(edition, text));
+    let mut verdicts = [7; 3];
+    let answer = run_many(&tables.concat(), &OP42, &mut verdicts);
+    assert_eq!((answer, verdicts), (delivered(0, 0, 2), [1, 2, 7]));
+    for (table, number) in tables.iter().zip([19, 0]) {
+        let mut decision = [0; DECISION_MAX];
+        assert_eq!(quorum_open(&mut decision, table, 1).number, 0);
+        // true, and there is no Staff; bottom
+        assert_eq!(quorum_show(&mut decision, &OP42).number, number);
+    }
 }
 
 #[test]
@@ -271,7 +359,7 @@ fn a_refused_write_changes_no_byte() {
 
 #[test]
 fn empty_slices_are_answered() {
-    assert_eq!(translate(b"Op == 42", &mut []).number, 9);
+    assert_eq!(translate(Edition::First, b"Op == 42", &mut []).number, 9);
     assert_eq!(check(&[]), 12);
     assert_eq!(check_notice(&[]).number, 11);
     assert_eq!(run(&[], &[]).number, 12);
@@ -295,6 +383,7 @@ fn an_empty_slice_may_have_a_null_pointer() {
     // alone.
     let number = unsafe {
         library::virentolex_translate(
+            1,
             null,
             0,
             buffer.as_mut_ptr(),

@@ -12,8 +12,9 @@ use lib.Dec.{eqb}
 use lib.ListN.{length, drop}
 use Rattle.common.proofs.Choice.{true-false}
 use Rattle.opcode.specs.Opcode.{opOf}
+use Rattle.opcode.specs.declared.Edition.{Edition}
 use Rattle.opcode.specs.declared.Op.{Op}
-use Rattle.table.specs.Table.{Program, countOf, entryAt, poolOf, decode}
+use Rattle.table.specs.Table.{Program, editionOf, countOf, entryAt, poolOf, decode}
 use Rattle.table.specs.declared.Entry.{Entry}
 use Rattle.table.specs.Check.{checkOf}
 use Rattle.table.proofs.Tests.{both-true}
@@ -41,14 +42,14 @@ pub put-bottom : (x : Item) (j : ℕ) (st : List Item) → holdsBottom st ≡ fa
 put-bottom x j st e = ap (λ (b : Bool). isBottom x || b) (drop-clean j st e) ∙ or-false (isBottom x)
 
 -- .. so bottom that an entry leaves stands on top
-top-bottom : (pool notice : List ℕ) (o : Op) (e : Entry) (st : List Item) → holdsBottom st ≡ false
-    → holdsBottom (stackBy pool notice o e st) ≡ true → isBottom (slotAt (stackBy pool notice o e st) 0) ≡ true
-top-bottom pool notice (Op.Load l) e st c h = sym (put-bottom (slotAt (stackBy pool notice (Op.Load l) e st) 0) 0 st c) ∙ h
-top-bottom pool notice (Op.Unary u) e st c h = sym (put-bottom (slotAt (stackBy pool notice (Op.Unary u) e st) 0) 1 st c) ∙ h
-top-bottom pool notice (Op.Binary b) e st c h = sym (put-bottom (slotAt (stackBy pool notice (Op.Binary b) e st) 0) 2 st c) ∙ h
-top-bottom pool notice (Op.Many m) e st c h = sym (put-bottom (slotAt (stackBy pool notice (Op.Many m) e st) 0) (suc (e .a)) st c) ∙ h
-top-bottom pool notice (Op.Skip k) e st c h = true-false (sym h ∙ c)
-top-bottom pool notice Op.Unknown e st c h = true-false (sym h ∙ c)
+top-bottom : (edition : Edition) (pool notice : List ℕ) (o : Op) (e : Entry) (st : List Item) → holdsBottom st ≡ false
+    → holdsBottom (stackBy edition pool notice o e st) ≡ true → isBottom (slotAt (stackBy edition pool notice o e st) 0) ≡ true
+top-bottom edition pool notice (Op.Load l) e st c h = sym (put-bottom (slotAt (stackBy edition pool notice (Op.Load l) e st) 0) 0 st c) ∙ h
+top-bottom edition pool notice (Op.Unary u) e st c h = sym (put-bottom (slotAt (stackBy edition pool notice (Op.Unary u) e st) 0) 1 st c) ∙ h
+top-bottom edition pool notice (Op.Binary b) e st c h = sym (put-bottom (slotAt (stackBy edition pool notice (Op.Binary b) e st) 0) 2 st c) ∙ h
+top-bottom edition pool notice (Op.Many m) e st c h = sym (put-bottom (slotAt (stackBy edition pool notice (Op.Many m) e st) 0) (suc (e .a)) st c) ∙ h
+top-bottom edition pool notice (Op.Skip k) e st c h = true-false (sym h ∙ c)
+top-bottom edition pool notice Op.Unknown e st c h = true-false (sym h ∙ c)
 
 -- ---- one visit more
 
@@ -182,10 +183,10 @@ module _ (s notice : List ℕ) (checked : checkOf s ≡ true) where
   first-top k l e =
       let t = after (decode s) notice k in
       let n = entryAt s (t .next) in
-      let r : after (decode s) notice (suc k) ≡ visit (poolOf s) notice n t = after-suc (decode s) notice k ∙ rule-more s notice t (first-inside k l) in
+      let r : after (decode s) notice (suc k) ≡ visit (editionOf s) (poolOf s) notice n t = after-suc (decode s) notice k ∙ rule-more s notice t (first-inside k l) in
       let h = both-true (visits (decode s) notice k) (holdsBottom (after (decode s) notice (suc k) .stack)) l .1 in
       ap (λ (u : State). isBottom (slotAt (u .stack) 0)) r
-      ∙ top-bottom (poolOf s) notice (opOf (n .op)) n (t .stack) (clean (decode s) notice (few-entries s checked) k e) (sym (ap (λ (u : State). holdsBottom (u .stack)) r) ∙ h)
+      ∙ top-bottom (editionOf s) (poolOf s) notice (opOf (n .op)) n (t .stack) (clean (decode s) notice (few-entries s checked) k e) (sym (ap (λ (u : State). holdsBottom (u .stack)) r) ∙ h)
 
   -- where the run has ended, more visits change nothing
   pub first-past : (j k : ℕ) → j ≤ k → countOf s ≤ after (decode s) notice j .next → undecidedAfter (decode s) notice k ≡ undecidedAfter (decode s) notice j

@@ -12,7 +12,7 @@ use Rattle.common.proofs.Choice.{false-true}
 use Rattle.opcode.specs.Opcode.{opOf, Kind, takesOf, givesOf}
 use Rattle.opcode.specs.declared.Skip.{Skip}
 use Rattle.opcode.specs.declared.Op.{Op}
-use Rattle.table.specs.Table.{Program, countOf, entryAt, entriesOf, poolOf, decode}
+use Rattle.table.specs.Table.{Program, editionOf, countOf, entryAt, entriesOf, poolOf, decode}
 use Rattle.table.specs.declared.Entry.{Entry}
 use Rattle.table.specs.Check.{skipOp, shapeAt, checkOf}
 use Rattle.table.specs.Theorems.{Known}
@@ -96,17 +96,17 @@ module _ {s : List ℕ} (notice : List ℕ) {t : State} (checked : checkOf s ≡
       → Sound s
       (record {
         next = t .next + strideBy o (entryAt s (t .next)) (t .stack);
-        stack = stackBy (poolOf s) notice o (entryAt s (t .next)) (t .stack);
+        stack = stackBy (editionOf s) (poolOf s) notice o (entryAt s (t .next)) (t .stack);
         steps = t .steps + 1;
       })
   by (Op.Load l) e = answered (Op.Load l) e _ 0 (load-kind (poolOf s) notice l (entryAt s (t .next) .a) (entryAt s (t .next) .b)) (λ ks. refl)
   by (Op.Unary u) e = answered (Op.Unary u) e _ 1 (unary-kind u (slotAt (t .stack) 0)) (λ ks. refl)
-  by (Op.Binary b) e = answered (Op.Binary b) e _ 2 (binary-kind b (slotAt (t .stack) 1) (slotAt (t .stack) 0)) (λ ks. refl)
+  by (Op.Binary b) e = answered (Op.Binary b) e _ 2 (binary-kind (editionOf s) b (slotAt (t .stack) 1) (slotAt (t .stack) 0)) (λ ks. refl)
   by (Op.Many m) e = answered (Op.Many m) e _ (suc (entryAt s (t .next) .a)) refl (λ ks. drop-values (suc (entryAt s (t .next) .a)) ks)
   by (Op.Skip k) e = kept k e (skips k (truthIn (slotAt (t .stack) 0)))
   by Op.Unknown e = absurd (never-unknown e)
 
-  pub visit-sound : Sound s (visit (poolOf s) notice (entryAt s (t .next)) t)
+  pub visit-sound : Sound s (visit (editionOf s) (poolOf s) notice (entryAt s (t .next)) t)
   visit-sound = by (opOf (entryAt s (t .next) .op)) refl
 
 module _ (p : Program) (notice : List ℕ) where
@@ -128,7 +128,7 @@ module _ (p : Program) (notice : List ℕ) where
 
 module _ (s notice : List ℕ) where
   -- the rule, before the end and at it
-  pub rule-more : (t : State) → t .next < countOf s → rule (decode s) notice t ≡ visit (poolOf s) notice (entryAt s (t .next)) t
+  pub rule-more : (t : State) → t .next < countOf s → rule (decode s) notice t ≡ visit (editionOf s) (poolOf s) notice (entryAt s (t .next)) t
   rule-more t h = rw (length-entries s, lt-ltb (t .next) (countOf s) h, entry-of s (t .next) h)
 
   pub rule-ended : (t : State) → countOf s ≤ t .next → rule (decode s) notice t ≡ t

@@ -12,13 +12,14 @@ use Rattle.common.proofs.Choice.{true-false}
 use Rattle.truth.specs.declared.Truth.{Truth}
 use Rattle.truth.specs.declared.Truth.the-variants.{Bottom}
 use Rattle.opcode.specs.Opcode.{opOf, Kind, takesOf}
+use Rattle.opcode.specs.declared.Edition.{Edition}
 use Rattle.opcode.specs.declared.Load.{Load}
 use Rattle.opcode.specs.declared.Unary.{Unary}
 use Rattle.opcode.specs.declared.Binary.{Binary}
 use Rattle.opcode.specs.declared.Many.{Many}
 use Rattle.opcode.specs.declared.Skip.{Skip}
 use Rattle.opcode.specs.declared.Op.{Op}
-use Rattle.table.specs.Table.{countOf, entryAt, poolOf, decode}
+use Rattle.table.specs.Table.{editionOf, countOf, entryAt, poolOf, decode}
 use Rattle.table.specs.Check.{skipOp, checkOf}
 use Rattle.table.proofs.Tests.{both-true}
 use Rattle.table.proofs.Theorems.{checked-layout, checked-skip}
@@ -189,7 +190,7 @@ module _ {s pool notice : List ℕ} {n budget : ℕ} {stack : List Slot} {next d
 
     -- variables that are the rule's next
     again : (stack′ : List Slot) (next′ depth′ first′ : ℕ) (b : Bool) → next′ ≡ next + strideBy o (entryAt s next) (items pool notice stack depth)
-        → items pool notice stack′ depth′ ≡ stackBy pool notice o (entryAt s next) (items pool notice stack depth) → length stack′ ≡ 32
+        → items pool notice stack′ depth′ ≡ stackBy (editionOf s) pool notice o (entryAt s next) (items pool notice stack depth) → length stack′ ≡ 32
         → (holdsBottom (items pool notice stack depth) ≡ false → holdsBottom (items pool notice stack′ depth′) ≡ b) → first′ ≡ withNext first next b
         → Going s pool notice n budget stack′ next′ depth′ (left - 1) first′
     again stack′ next′ depth′ first′ b p q long f u =
@@ -197,10 +198,10 @@ module _ {s pool notice : List ℕ} {n budget : ℕ} {stack : List Slot} {next d
         let t = stateOf pool notice (machine stack next depth (budget - left) first) in
         let m = machine stack′ next′ depth′ (budget - (left - 1)) first′ in
         let one : budget - (left - 1) ≡ budget - left + 1 = omega (arith, v .spare, l .within) in
-        let e : stateOf pool notice m ≡ visit pool notice (entryAt s next) t = rw (v .op, p, q, one) in
+        let e : stateOf pool notice m ≡ visit (editionOf s) pool notice (entryAt s next) t = rw (v .op, p, q, one) in
         let r : stateOf pool notice m ≡ after (decode s) notice (budget - left + 1) =
         e
-        ∙ ap (λ (x : List ℕ). visit x notice (entryAt s next) t) (l .strings)
+        ∙ ap (λ (x : List ℕ). visit (editionOf s) x notice (entryAt s next) t) (l .strings)
         ∙ sym (rule-more s notice t here)
         ∙ ap (rule (decode s) notice) (state l)
         ∙ sym (after-next (decode s) notice (budget - left)) in
@@ -217,7 +218,7 @@ module _ {s pool notice : List ℕ} {n budget : ℕ} {stack : List Slot} {next d
 
     -- an operator's result in the place of its j operands
     answered : (j i depth′ first′ : ℕ) (r : Slot) → i ≡ depth - j → depth′ ≡ i + 1 → i < 32
-        → stackBy pool notice o (entryAt s next) (items pool notice stack depth) ≡ itemIn pool notice r ∷ drop j (items pool notice stack depth)
+        → stackBy (editionOf s) pool notice o (entryAt s next) (items pool notice stack depth) ≡ itemIn pool notice r ∷ drop j (items pool notice stack depth)
         → strideBy o (entryAt s next) (items pool notice stack depth) ≡ 1
         → first′ ≡ withNext first next (isBottom (itemIn pool notice r))
         → Going s pool notice n budget (set stack i r) (next + 1) depth′ (left - 1) first′
@@ -265,13 +266,20 @@ module _ {s pool notice : List ℕ} {n budget : ℕ} {stack : List Slot} {next d
     pub binary-fits : (2 ≤ depth) × (depth ≤ 32)
     binary-fits = (room v .0, low (v .going))
 
-    pub binary-law : {l : Binary} {first′ : ℕ} (r : Slot) → k ≡ l → itemIn pool notice r ≡ binaryOf l (itemAt pool notice stack (depth - 2)) (itemAt pool notice stack (depth - 1))
+    pub binary-law : {l : Binary} {first′ : ℕ} (r : Slot) → k ≡ l → itemIn pool notice r ≡ binaryOf (editionOf s) l (itemAt pool notice stack (depth - 2)) (itemAt pool notice stack (depth - 1))
         → first′ ≡ withNext first next (isBottom (itemIn pool notice r))
         → Going s pool notice n budget (set stack (depth - 2) r) (next + 1) (depth - 1) (left - 1) first′
     binary-law {l} {first′} r e f u =
         let h = binary-fits in
         answered v 2 (depth - 2) (depth - 1) first′ r refl (omega arith) (omega arith)
         (rw (e, slot v 0 (omega arith), slot v 1 (omega arith)) (ap (λ (x : Item). x ∷ drop 2 (items pool notice stack depth)) (sym f))) refl u
+
+    -- the edition that the run holds is the table's
+    pub combine-law : {l : Binary} {edition : Edition} {first′ : ℕ} (r : Slot) → edition ≡ editionOf s → k ≡ l
+        → itemIn pool notice r ≡ binaryOf edition l (itemAt pool notice stack (depth - 2)) (itemAt pool notice stack (depth - 1))
+        → first′ ≡ withNext first next (isBottom (itemIn pool notice r))
+        → Going s pool notice n budget (set stack (depth - 2) r) (next + 1) (depth - 1) (left - 1) first′
+    combine-law r d e f u = binary-law r e (rw d at f) u
 
   module _ {k : Many} (v : Visiting s pool notice n budget stack next depth left first (Op.Many k)) {a : ℕ} (is : a ≡ entryAt s next .a) where
     pub many-fits : (a + 1 ≤ depth) × (depth ≤ 32)

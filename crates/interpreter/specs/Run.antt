@@ -11,6 +11,7 @@ use Rattle.truth.specs.declared.Truth.{Truth}
 use Rattle.truth.specs.declared.Truth.the-variants.{Bottom}
 use Rattle.truth.specs.Truth.{isTrue, isFalse}
 use Rattle.opcode.specs.Opcode.{opOf}
+use Rattle.opcode.specs.declared.Edition.{Edition}
 use Rattle.opcode.specs.declared.Skip.{Skip}
 use Rattle.opcode.specs.declared.Op.{Op}
 use Rattle.table.specs.Table.{blank, Program}
@@ -30,14 +31,14 @@ start = record { next = 0; stack = []; steps = 0 }
 abbrev pub slotAt : List Item → ℕ → Item
 slotAt st i = getD st i (logic Bottom)
 
--- the stack after an entry: a skip keeps its operand
-abbrev pub stackBy : List ℕ → List ℕ → Op → Entry → List Item → List Item
-stackBy pool notice (Op.Load l) e st = loadOf pool notice l (e .a) (e .b) ∷ st
-stackBy pool notice (Op.Unary u) e st = unaryOf u (slotAt st 0) ∷ drop 1 st
-stackBy pool notice (Op.Binary b) e st = binaryOf b (slotAt st 1) (slotAt st 0) ∷ drop 2 st
-stackBy pool notice (Op.Many m) e st = manyItems m (slotAt st (e .a)) (reverse (take (e .a) st)) ∷ drop (suc (e .a)) st
-stackBy pool notice (Op.Skip s) e st = st
-stackBy pool notice Op.Unknown e st = st
+-- the stack after an entry of a table of an edition: a skip keeps its operand
+abbrev pub stackBy : Edition → List ℕ → List ℕ → Op → Entry → List Item → List Item
+stackBy edition pool notice (Op.Load l) e st = loadOf pool notice l (e .a) (e .b) ∷ st
+stackBy edition pool notice (Op.Unary u) e st = unaryOf u (slotAt st 0) ∷ drop 1 st
+stackBy edition pool notice (Op.Binary b) e st = binaryOf edition b (slotAt st 1) (slotAt st 0) ∷ drop 2 st
+stackBy edition pool notice (Op.Many m) e st = manyItems m (slotAt st (e .a)) (reverse (take (e .a) st)) ∷ drop (suc (e .a)) st
+stackBy edition pool notice (Op.Skip s) e st = st
+stackBy edition pool notice Op.Unknown e st = st
 
 -- "44 on a false top and 45 on a true one"
 abbrev pub skips : Skip → Truth → Bool
@@ -54,18 +55,18 @@ strideBy (Op.Skip s) e st = cond (skips s (truthIn (slotAt st 0))) (e .a + 1) 1
 strideBy Op.Unknown e st = 1
 
 -- the visit of an entry
-abbrev pub visit : List ℕ → List ℕ → Entry → State → State
-visit pool notice e s =
+abbrev pub visit : Edition → List ℕ → List ℕ → Entry → State → State
+visit edition pool notice e s =
     record {
       next = s .next + strideBy (opOf (e .op)) e (s .stack);
-      stack = stackBy pool notice (opOf (e .op)) e (s .stack);
+      stack = stackBy edition pool notice (opOf (e .op)) e (s .stack);
       steps = s .steps + 1;
     }
 
 -- one step of the run; "At N it ends"
 abbrev pub rule : Program → List ℕ → State → State
 rule p notice s =
-    pick (ltb (s .next) (length (p .entries))) (λ _. visit (p .pool) notice (getD (p .entries) (s .next) blank) s) (λ _. s)
+    pick (ltb (s .next) (length (p .entries))) (λ _. visit (p .edition) (p .pool) notice (getD (p .entries) (s .next) blank) s) (λ _. s)
 
 -- k visits from a state, or as many as there are
 unfoldable pub afterFrom : Program → List ℕ → ℕ → State → State

@@ -79,6 +79,7 @@ pub fn run_indexed<'a>(
     ensures { λ r. ⌜ Visited (now (table .entry)) (now (notice .entry)) budget r ⌝ }
 {
     let n = table::count(table);
+    let edition = table::edition(table);
     let pool = table::pool(table);
     let mut stack = [Slot {
         held: Held::Logic(Truth::False),
@@ -152,7 +153,7 @@ pub fn run_indexed<'a>(
                     depth = depth - 1;
                     let y = stack[depth];
                     let x = stack[i];
-                    let r = value::combine(o, x, y);
+                    let r = value::combine(edition, o, x, y);
                     stack[i] = r;
                     first = noted(first, at, r);
                 }

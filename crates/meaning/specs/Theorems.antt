@@ -1,4 +1,4 @@
--- Document 01's P cases, that with 9223372036854775807L as request 6 of document 02 has it ("turns from bottom to false"), and request 1's text, of the meaning of the text itself, from its bytes. The proofs are in proofs/Theorems.antt, under the same names.
+-- Document 01's P cases, that with 9223372036854775807L as request 6 of document 02 has it ("turns from bottom to false"), request 9's shifts and request 1's text, of the meaning of the text itself, from its bytes. The proofs are in proofs/Theorems.antt, under the same names.
 use mathlib.Core.Path.{_≡_}
 use mathlib.Core.List.{List, [], _∷_}
 use mathlib.Core.Option.{some}
@@ -6,6 +6,7 @@ use Prim.Native.Nat.{ℕ}
 use Rattle.common.specs.Each.{Each}
 use Rattle.truth.specs.declared.Truth.{Truth}
 use Rattle.truth.specs.declared.Truth.the-variants.{False, Bottom, True}
+use Rattle.opcode.specs.declared.Edition.{Edition}
 use Rattle.lexer.specs.Ascii.{ascii}
 use Rattle.meaning.specs.Meaning.{textMeaning}
 
@@ -36,9 +37,30 @@ cases =
     ∷ record { text = ascii "1 / 0 == 0 || 1 == 1"; notice = empty; verdict = True }
     ∷ []
 
--- Every P case's text means its verdict on its notice.
+-- Every P case's text means its verdict on its notice, in both editions.
 abbrev pub PCases : Type 0
-PCases = Each (λ x. textMeaning (x .text) (x .notice) ≡ some (x .verdict)) cases
+PCases = (e : Edition) → Each (λ x. textMeaning e (x .text) (x .notice) ≡ some (x .verdict)) cases
+
+-- Request 9: "document 01 gives bottom", and in the second edition "-1 shifts an int32 by 31"; a count from 0 to width less 1 is the same in both.
+pub record Shifted : Type 0 where
+  pub text : List ℕ
+  pub first : Truth
+  pub second : Truth
+
+abbrev pub shifts : List Shifted
+shifts =
+    record { text = ascii "1 << -1 == 1 << 31"; first = Bottom; second = True }
+    ∷ record { text = ascii "-8 >> 33 == -4"; first = Bottom; second = True }
+    ∷ record { text = ascii "-1 >>> -4 == 15"; first = Bottom; second = True }
+    ∷ record { text = ascii "1L << 64 == 1"; first = Bottom; second = True }
+    ∷ record { text = ascii "1 << 1.0 == 2"; first = Bottom; second = Bottom }
+    ∷ record { text = ascii "-8 >> 1 == -4"; first = True; second = True }
+    ∷ []
+
+-- Each of these texts means its verdict of each edition, on the empty notice.
+abbrev pub ShiftCases : Type 0
+ShiftCases =
+    Each (λ x. (textMeaning Edition.First (x .text) empty ≡ some (x .first)) × (textMeaning Edition.Second (x .text) empty ≡ some (x .second))) shifts
 
 -- a notice with the string field `Cab`, of four bytes
 abbrev pub cab : List ℕ → List ℕ
@@ -58,4 +80,4 @@ cabs =
 
 -- Request 1's text means these verdicts.
 abbrev pub CabCases : Type 0
-CabCases = Each (λ x. textMeaning (x .text) (x .notice) ≡ some (x .verdict)) cabs
+CabCases = (e : Edition) → Each (λ x. textMeaning e (x .text) (x .notice) ≡ some (x .verdict)) cabs

@@ -1,7 +1,8 @@
 -- Numbers by their kinds: what each operator's tests lead to. Assumes nothing.
 use mathlib.Core.Path.{_≡_, refl, sym, ap, _∙_}
 use mathlib.Core.Bool.{Bool, true, false, not, _&&_, _||_}
-use Prim.Native.Nat.{ℕ, suc, _-_, _^_, _<_, _≤_}
+use Prim.Native.Nat.{ℕ, suc, _-_, _%_, _^_, _<_, _≤_}
+use native.Mathlib.Nat.{mod-lt}
 use native.Mathlib.Omega.{arith}
 use lib.IntN.{ℤ, pos, negsuc, natAbs}
 use lib.Signed.{mag, natAbs-le}
@@ -16,13 +17,14 @@ use Rattle.truth.specs.Truth.{ofBool}
 use Rattle.nearest.specs.Nearest.{isNegative}
 use Rattle.number.specs.Integer.{exactOf}
 use Rattle.number.specs.Bits.{onBits, shifted}
-use Rattle.number.specs.Number.{isInt32, isInteger, isReal, integerOf, int32Of, realOf, zeroReal, typed, inArithmetic, onReals, realArithmetic, divides, isZero, zeroDivisor, arithmeticOf, bitwiseOf, placesIn, countOf, counted, shiftOf, valueOf, isNumber, comparedBy}
+use Rattle.number.specs.Number.{isInt32, isInteger, isReal, integerOf, int32Of, realOf, zeroReal, typed, inArithmetic, onReals, realArithmetic, divides, isZero, zeroDivisor, arithmeticOf, bitwiseOf, placesIn, countOf, remainder, remainderOf, countIn, counted, shiftOf, valueOf, isNumber, comparedBy}
 use Rattle.number.specs.declared.Number.{Number}
 use Rattle.number.specs.declared.Number.the-variants.{Int32, Int64, Real, None}
 use Rattle.number.specs.declared.Count.{Count}
 use Rattle.number.specs.declared.Count.the-variants.{Places, Outside}
 use Rattle.opcode.specs.declared.Arithmetic.{Arithmetic}
 use Rattle.opcode.specs.declared.Bitwise.{Bitwise}
+use Rattle.opcode.specs.declared.Edition.{Edition}
 use Rattle.opcode.specs.declared.Shift.{Shift}
 use Rattle.opcode.specs.declared.Order.{Order}
 use Rattle.mixed.specs.declared.Relation.{Relation}
@@ -193,6 +195,78 @@ module _ (width : ℕ) (b : Number) where
           omega (arith, small (integerOf b) (and-right (isInteger b) (placesIn width (integerOf b)) t))
       go false t = let s : Places k ≡ Outside = sym d ∙ rw t at e in let z : _≡_ {A = ℕ} 0 1 = cc in absurd (omega arith)
 
+-- a remainder by a width lies below it
+pub remainder-below : (width : ℕ) (z : ℤ) → 0 < width → remainder width z < width
+remainder-below width (pos n) h = mod-lt n h
+remainder-below width (negsuc n) h = let l : n % width < width = mod-lt n h in omega arith
+
+-- the remainder by what the machine reads of z: its size k and its sign n
+module _ (width : ℕ) (z : ℤ) (k : ℕ) (n : Bool) (f : mag z < 2 ^ 63) (h : 0 < width) (ek : k ≡ natAbs (R z)) (en : n ≡ isNegative (R z)) where
+  size-read : k ≡ natAbs z
+  size-read = rw (toZ-ofZ w64 z (record { sfits = f })) at ek
+
+  sign-read : n ≡ isNegative z
+  sign-read = rw (toZ-ofZ w64 z (record { sfits = f })) at en
+
+  pub below-zero : n ≡ true → 0 < k
+  below-zero t = go z (sym sign-read ∙ t) size-read
+    where
+      go : (z : ℤ) → isNegative z ≡ true → k ≡ natAbs z → 0 < k
+      go (pos m) e d = true-false (sym e)
+      go (negsuc m) e d = omega arith
+
+  pub remainder-negative : n ≡ true → width - 1 - (k - 1) % width ≡ remainder width z
+  remainder-negative t = go z (sym sign-read ∙ t) size-read
+    where
+      go : (z : ℤ) → isNegative z ≡ true → k ≡ natAbs z → width - 1 - (k - 1) % width ≡ remainder width z
+      go (pos m) e d = true-false (sym e)
+      go (negsuc m) e d = let l : k - 1 ≡ m = omega arith in rw l
+
+  pub remainder-positive : n ≡ false → k % width ≡ remainder width z
+  remainder-positive t = go z (sym sign-read ∙ t) size-read
+    where
+      go : (z : ℤ) → isNegative z ≡ false → k ≡ natAbs z → k % width ≡ remainder width z
+      go (pos m) e d = rw d
+      go (negsuc m) e d = true-false e
+
+module _ (width : ℕ) (b : Number) (p : Bool) (ep : p ≡ isInteger b) where
+  pub no-remainder : not p ≡ true → Outside ≡ remainderOf width b
+  no-remainder t = go p ep t
+    where
+      go : (p : Bool) → p ≡ isInteger b → not p ≡ true → Outside ≡ remainderOf width b
+      go true e t = true-false (sym t)
+      go false e t = rw (sym e)
+
+  pub remainder-in : (z : ℤ) (k : ℕ) → mag z < 2 ^ 63 → z ≡ integerOf b → k ≡ remainder width (R z) → not p ≡ false → Places k ≡ remainderOf width b
+  remainder-in z k f ez ek t = go p ep t
+    where
+      read : k ≡ remainder width (integerOf b)
+      read = rw (toZ-ofZ w64 z (record { sfits = f }), ez) at ek
+
+      go : (p : Bool) → p ≡ isInteger b → not p ≡ false → Places k ≡ remainderOf width b
+      go true e t = rw (sym e, read)
+      go false e t = true-false t
+
+-- the count of either edition, by its edition
+module _ (e : Edition) (width : ℕ) (b : Number) (c : Count) where
+  pub first-count : e ≡ Edition.First → c ≡ countOf width b → c ≡ countIn e width b
+  first-count n h = rw n h
+
+  pub second-count : e ≡ Edition.Second → c ≡ remainderOf width b → c ≡ countIn e width b
+  second-count n h = rw n h
+
+-- the count of either edition lies below the width
+pub places-below : (e : Edition) (width : ℕ) (b : Number) (c : Count) (k : ℕ) → 0 < width → c ≡ countIn e width b → c ≡ Places k → k < width
+places-below Edition.First width b c k h e d = count-below width b c k e d
+places-below Edition.Second width b c k h e d = go (isInteger b) refl
+  where
+    go : (t : Bool) → isInteger b ≡ t → k < width
+    go true t =
+        let s : Places k ≡ Places (remainder width (integerOf b)) = sym d ∙ rw t at e in
+        let m : k ≡ remainder width (integerOf b) = cc in
+        omega (arith, remainder-below width (integerOf b) h)
+    go false t = let s : Places k ≡ Outside = sym d ∙ rw t at e in let z : _≡_ {A = ℕ} 0 1 = cc in absurd (omega arith)
+
 -- comparisons: a beside b, which is c, by a test of their values
 module _ (f : Float → Float → Bool) where
   pub compared : (a c b : Number) → isNumber a ≡ true → isNumber c ≡ true → b ≡ c → {t : Bool} → t ≡ f (valueOf a) (valueOf c) → ofBool t ≡ comparedBy f a b
@@ -241,11 +315,11 @@ module _ (z : ℤ) (f : mag z < 2 ^ 63) (x : Float) (q : Relation) (e : q ≡ re
     pub holds-right : (op o : Order) → o ≡ flippedOf op → t ≡ holdsOf o q → t ≡ orderReal op x (exactly z)
     holds-right op o g h = holds-left o h ∙ ap (λ (p : Order). orderReal p (exactly z) x) g ∙ flip-says op x (exactly z)
 
--- shifts, over the width: `make` is the left side's type, x its value, and c its count
-module _ (w : Width) (make : ℤ → Number) (width : ℕ) (op : Shift) (a b : Number) (x : ℤ) (c : Count) (ea : a ≡ make x) (ec : c ≡ countOf width b)
-    (rule : shiftOf op (make x) b ≡ counted (countOf width b) (λ k. make (shifted op w x k))) where
-  pub shift-is : (k : ℕ) (r : ℤ) → c ≡ Places k → mag x < 2 ^ hbits w → mag r < 2 ^ hbits w → r ≡ shifted op w (toZ w (ofZ w x)) k → make (toZ w (ofZ w r)) ≡ shiftOf op a b
-  shift-is k r d fx fr e = rw (result-read w r fr, e, result-read w x fx, ea, rule, ← ec, d)
+-- shifts, over the edition and the width: `make` is the left side's type, x its value, and c its count
+module _ (e : Edition) (w : Width) (make : ℤ → Number) (width : ℕ) (op : Shift) (a b : Number) (x : ℤ) (c : Count) (ea : a ≡ make x) (ec : c ≡ countIn e width b)
+    (rule : shiftOf e op (make x) b ≡ counted (countIn e width b) (λ k. make (shifted op w x k))) where
+  pub shift-is : (k : ℕ) (r : ℤ) → c ≡ Places k → mag x < 2 ^ hbits w → mag r < 2 ^ hbits w → r ≡ shifted op w (toZ w (ofZ w x)) k → make (toZ w (ofZ w r)) ≡ shiftOf e op a b
+  shift-is k r d fx fr er = rw (result-read w r fr, er, result-read w x fx, ea, rule, ← ec, d)
 
-  pub no-shift : c ≡ Outside → None ≡ shiftOf op a b
+  pub no-shift : c ≡ Outside → None ≡ shiftOf e op a b
   no-shift d = rw (ea, rule, ← ec, d)

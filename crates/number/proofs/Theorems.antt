@@ -3,7 +3,7 @@ use mathlib.Core.Path.{_≡_, refl, sym, ap, ap₂, _∙_}
 use mathlib.Core.Bool.{Bool, true, false, _&&_, cond}
 use mathlib.Core.Logic.{_⊎_, inl, inr}
 use Prim.Native.Nat.{ℕ, zero, suc, _+_, _-_, _*_, _/_, _%_, _^_, _<_}
-use native.Mathlib.Nat.{div-add-mod', mod-lt, mul-zero, zero-mul}
+use native.Mathlib.Nat.{div-add-mod', mod-lt, mod-eq-of-lt, mul-zero, zero-mul, suc-mul}
 use native.Mathlib.Omega.{arith}
 use lib.IntN.{ℤ, pos, negsuc, negℤ, natAbs, _+ℤ_, _-ℤ_, _*ℤ_, negℤ-+ℤ, pos-+ℤ-pos}
 use lib.Signed.{quotZ, remZ}
@@ -12,18 +12,22 @@ use lib.Ieee.Bits.{ofBits-toBits, toBits-ofBits, toBits-lt}
 use lib.Ieee.Back.{round-whole}
 use mir.Val.{bits, toZ}
 use mir.ValLaws.{half-full, toZ-pos, toZ-neg}
-use borrow.Author.Tests.{le-ltb}
+use borrow.Author.Tests.{lt-ltb, le-ltb, ltb-true}
+use Rattle.common.proofs.Choice.{true-false}
 use Rattle.truth.specs.Truth.{ofBool}
+use Rattle.number.specs.declared.Count.the-variants.{Outside}
 use Rattle.number.specs.declared.Number.{Number}
 use Rattle.number.specs.declared.Number.the-variants.{Int32, Int64, Real, None}
+use Rattle.opcode.specs.declared.Edition.{Edition}
 use Rattle.opcode.specs.declared.Order.{Order}
 use Rattle.opcode.specs.declared.Order.the-variants.{Less, LessEqual, Greater, GreaterEqual}
 use Rattle.nearest.specs.Nearest.{isNegative, signedOf}
 use Rattle.mixed.specs.Mixed.{orderReal}
 use Rattle.mixed.proofs.Theorems.{integers}
-use Rattle.number.specs.Number.{isInteger, isReal, isNumber, valueOf, divides, zeroDivisor, inArithmetic, shiftOf}
-use Rattle.number.specs.Theorems.{QuotientRemainder, Ends, Complement, LeftNone, RightNone, ZeroDivisor, NegativeZero, MixedExact, IntegersCompared, Odometer, NanFalse, ZerosEqual, WholesExact, PowersExact, RealBits, BitsReal, NanBits, BitsBounded}
+use Rattle.number.specs.Number.{isInteger, isReal, isNumber, valueOf, divides, zeroDivisor, inArithmetic, remainder, countIn, shiftOf}
+use Rattle.number.specs.Theorems.{QuotientRemainder, Ends, Complement, LeftNone, RightNone, Remainder, MinusOne, CountsAgree, ZeroDivisor, NegativeZero, MixedExact, IntegersCompared, Odometer, NanFalse, ZerosEqual, WholesExact, PowersExact, RealBits, BitsReal, NanBits, BitsBounded}
 use Rattle.nearest.proofs.Ints.{and-no}
+use Rattle.number.proofs.Numbers.{remainder-below}
 use Rattle.number.proofs.Tens.{powers-hold}
 
 -- by sign and magnitude
@@ -116,10 +120,15 @@ alike true x = refl
 alike false x = refl
 
 pub left-none : LeftNone
-left-none b o p q r = (alike (zeroDivisor o b) None, refl, refl, refl, refl)
+left-none b o p e q r = (alike (zeroDivisor o b) None, refl, refl, refl, refl)
+
+-- what is no integer counts no places
+none-counts : (e : Edition) (width : ℕ) → countIn e width None ≡ Outside
+none-counts Edition.First width = refl
+none-counts Edition.Second width = refl
 
 pub right-none : RightNone
-right-none a o p q r = (
+right-none a o p e q r = (
   rw (no (divides o), no (isInteger a), no (isReal (inArithmetic a))),
   rw (no (isInteger a)),
   shifts a,
@@ -127,11 +136,29 @@ right-none a o p q r = (
   rw (no (isNumber a)),
 )
   where
-    shifts : (a : Number) → shiftOf q a None ≡ None
-    shifts (Int32 z) = refl
-    shifts (Int64 z) = refl
+    shifts : (a : Number) → shiftOf e q a None ≡ None
+    shifts (Int32 z) = rw (none-counts e 32)
+    shifts (Int64 z) = rw (none-counts e 64)
     shifts (Real x) = refl
     shifts None = refl
+
+-- m below 0, and r on, is k + 1 below 0
+up : (m r k : ℕ) → r + suc k ≡ m → negsuc k ≡ negℤ (pos m) +ℤ pos r
+up zero r k e = absurd (omega arith)
+up (suc m) r k e = let d : k ≡ suc m - suc r = omega arith in rw (lt-ltb r (suc m) (omega arith)) (ap negsuc d)
+
+pub remainder-is : Remainder
+remainder-is width (pos k) h = (remainder-below width (pos k) h, (pos (k / width), ap pos (sym (div-add-mod' k width))))
+remainder-is width (negsuc k) h =
+    let l : k % width < width = mod-lt k h in let d : k / width * width + k % width ≡ k = div-add-mod' k width in let s : suc (k / width) * width ≡ k / width * width + width = suc-mul (k / width) width in
+    (remainder-below width (negsuc k) h, (negsuc (k / width), up (suc (k / width) * width) (width - 1 - k % width) k (omega arith)))
+
+pub minus-one : MinusOne
+minus-one o z = refl
+
+pub counts-agree : CountsAgree
+counts-agree width (pos k) e = mod-eq-of-lt (ltb-true k width e)
+counts-agree width (negsuc k) e = true-false (sym e)
 
 pub zero-divisor : ZeroDivisor
 zero-divisor a b e = (rw e, rw e)

@@ -1,5 +1,5 @@
 -- Numbers and the operators on them. Document 01, "Meaning". `None` is no number: bottom, which every operator hands on.
-use Prim.Native.Nat.{ℕ, _^_}
+use Prim.Native.Nat.{ℕ, _-_, _%_, _^_}
 use mathlib.Core.Bool.{Bool, true, false, _&&_, _||_, cond}
 use lib.IntN.{ℤ, pos, negsuc, natAbs}
 use lib.Dec.{ltb, eqb}
@@ -17,6 +17,7 @@ use Rattle.number.specs.declared.integer.Magnitude.the-variants.{Fits, O
 use Rattle.opcode.specs.declared.Arithmetic.{Arithmetic}
 use Rattle.opcode.specs.declared.Arithmetic.the-variants.{Mul, Div, Rem, Add, Sub}
 use Rattle.opcode.specs.declared.Bitwise.{Bitwise}
+use Rattle.opcode.specs.declared.Edition.{Edition}
 use Rattle.opcode.specs.declared.Shift.{Shift}
 use Rattle.opcode.specs.declared.Order.{Order}
 use Rattle.nearest.specs.Nearest.{nearestReal}
@@ -129,16 +130,29 @@ placesIn width (negsuc k) = false
 abbrev pub countOf : ℕ → Number → Count
 countOf width b = cond (isInteger b && placesIn width (integerOf b)) (Places (natAbs (integerOf b))) Outside
 
+-- Document 02, request 9: "the count's remainder by the width, 0 to width less 1, so -1 shifts an int32 by 31"
+abbrev pub remainder : ℕ → ℤ → ℕ
+remainder width (pos k) = k % width
+remainder width (negsuc k) = width - 1 - k % width
+
+abbrev pub remainderOf : ℕ → Number → Count
+remainderOf width b = cond (isInteger b) (Places (remainder width (integerOf b))) Outside
+
+-- the places of a shift in each edition
+abbrev pub countIn : Edition → ℕ → Number → Count
+countIn Edition.First width b = countOf width b
+countIn Edition.Second width b = remainderOf width b
+
 abbrev pub counted : Count → (ℕ → Number) → Number
 counted (Places k) f = f k
 counted Outside f = None
 
 -- "A shift has its left side's width and type"
-abbrev pub shiftOf : Shift → Number → Number → Number
-shiftOf op (Int32 z) b = counted (countOf 32 b) (λ k. Int32 (shifted op w32 z k))
-shiftOf op (Int64 z) b = counted (countOf 64 b) (λ k. Int64 (shifted op w64 z k))
-shiftOf op (Real x) b = None
-shiftOf op None b = None
+abbrev pub shiftOf : Edition → Shift → Number → Number → Number
+shiftOf e op (Int32 z) b = counted (countIn e 32 b) (λ k. Int32 (shifted op w32 z k))
+shiftOf e op (Int64 z) b = counted (countIn e 64 b) (λ k. Int64 (shifted op w64 z k))
+shiftOf e op (Real x) b = None
+shiftOf e op None b = None
 
 -- Request 6: "An integer and a real are to be compared by exact value": the value of a number, unrounded, and NaN where there is none.
 abbrev pub valueOf : Number → Float

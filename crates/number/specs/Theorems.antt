@@ -17,6 +17,7 @@ use Rattle.number.specs.declared.Number.the-variants.{Int32, Int64, Real
 use Rattle.opcode.specs.declared.Arithmetic.{Arithmetic}
 use Rattle.opcode.specs.declared.Arithmetic.the-variants.{Add, Div, Rem}
 use Rattle.opcode.specs.declared.Bitwise.{Bitwise}
+use Rattle.opcode.specs.declared.Edition.{Edition}
 use Rattle.opcode.specs.declared.Shift.{Shift}
 use Rattle.opcode.specs.declared.Order.{Order}
 use Rattle.opcode.specs.declared.Order.the-variants.{Less}
@@ -25,7 +26,7 @@ use Rattle.mixed.specs.Theorems.{equalZ}
 use Rattle.number.specs.Integer.{isNegative}
 use Rattle.number.specs.Bits.{turned}
 use Rattle.number.specs.Real.{tenTo}
-use Rattle.number.specs.Number.{isNumber, isZero, arithmeticOf, bitwiseOf, shiftOf, equalOf, orderOf}
+use Rattle.number.specs.Number.{isNumber, isZero, arithmeticOf, bitwiseOf, placesIn, remainder, shiftOf, equalOf, orderOf}
 
 -- "`/` cuts toward zero", "`%` .. has the sign of the left side": quotient and remainder give the left side back, the remainder is smaller than the
 -- divisor, and it is negative only where the left side is, positive only where the left side is.
@@ -49,13 +50,25 @@ Complement = (w : Width) (z : ℤ) → SFits w z → turned w z ≡ negℤ z -�
 -- "bottom in a value makes the enclosing value or comparison bottom"
 abbrev pub LeftNone : Type 0
 LeftNone =
-    (b : Number) (o : Arithmetic) (p : Bitwise) (q : Shift) (r : Order)
-    → (arithmeticOf o None b ≡ None) × (bitwiseOf p None b ≡ None) × (shiftOf q None b ≡ None) × (equalOf None b ≡ Bottom) × (orderOf r None b ≡ Bottom)
+    (b : Number) (o : Arithmetic) (p : Bitwise) (e : Edition) (q : Shift) (r : Order)
+    → (arithmeticOf o None b ≡ None) × (bitwiseOf p None b ≡ None) × (shiftOf e q None b ≡ None) × (equalOf None b ≡ Bottom) × (orderOf r None b ≡ Bottom)
 
 abbrev pub RightNone : Type 0
 RightNone =
-    (a : Number) (o : Arithmetic) (p : Bitwise) (q : Shift) (r : Order)
-    → (arithmeticOf o a None ≡ None) × (bitwiseOf p a None ≡ None) × (shiftOf q a None ≡ None) × (equalOf a None ≡ Bottom) × (orderOf r a None ≡ Bottom)
+    (a : Number) (o : Arithmetic) (p : Bitwise) (e : Edition) (q : Shift) (r : Order)
+    → (arithmeticOf o a None ≡ None) × (bitwiseOf p a None ≡ None) × (shiftOf e q a None ≡ None) × (equalOf a None ≡ Bottom) × (orderOf r a None ≡ Bottom)
+
+-- Request 9: "the count's remainder by the width, 0 to width less 1": what is left of the count below the width, once the width is taken from it some number of times, or added to it.
+abbrev pub Remainder : Type 0
+Remainder = (width : ℕ) (z : ℤ) → 0 < width → (remainder width z < width) × ((q : ℤ) × (z ≡ (q *ℤ pos width) +ℤ pos (remainder width z)))
+
+-- ".. so -1 shifts an int32 by 31"
+abbrev pub MinusOne : Type 0
+MinusOne = (o : Shift) (z : ℤ) → shiftOf Edition.Second o (Int32 z) (Int32 (negsuc 0)) ≡ shiftOf Edition.First o (Int32 z) (Int32 (pos 31))
+
+-- A count from 0 to width less 1 is its own remainder: there both editions shift alike.
+abbrev pub CountsAgree : Type 0
+CountsAgree = (width : ℕ) (z : ℤ) → placesIn width z ≡ true → remainder width z ≡ natAbs z
 
 -- "A zero divisor, whole or real, gives bottom", whatever stands left of it.
 abbrev pub ZeroDivisor : Type 0

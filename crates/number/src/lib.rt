@@ -4,7 +4,7 @@ ghost use mathlib.Core.Bool.{true, _&&_};
 ghost use Prim.Native.Nat.{_<_};
 ghost use lib.IntN.{natAbs};
 ghost use Rattle.number.specs.Integer.{exactOf};
-ghost use Rattle.number.specs.Number.{isInt32, isInteger, isReal, integerOf, int32Of, realOf, typed, inArithmetic, onReals, realArithmetic, divides, isZero, zeroDivisor, arithmeticOf, bitwiseOf, complementOf, countOf, shiftOf, equalOf, orderOf};
+ghost use Rattle.number.specs.Number.{isInt32, isInteger, isReal, integerOf, int32Of, realOf, typed, inArithmetic, onReals, realArithmetic, divides, isZero, zeroDivisor, arithmeticOf, bitwiseOf, complementOf, countOf, remainder as remainderBy, remainderOf, countIn, shiftOf, equalOf, orderOf};
 
 mod bits;
 mod integer;
@@ -12,6 +12,7 @@ mod real;
 
 use opcode::Arithmetic;
 use opcode::Bitwise;
+use opcode::Edition;
 use opcode::Order;
 use opcode::Shift;
 pub use real::bits_of_real;
@@ -217,16 +218,50 @@ fn places(width: u64, b: Number) -> Count
     }
 }
 
+// Request 9: "the count's remainder by the width, 0 to width less 1". It asks for a width.
+fn remainder(width: u64, z: i64) -> u64
+    requires { ⌜ 0 < width ⌝ }
+    ensures { λ r. ⌜ (r ≡ remainderBy width z) × (r < width) ⌝ }
+{
+    let k = nearest::absolute(z);
+    if nearest::is_negative(z) {
+        width - 1 - (k - 1) % width
+    } else {
+        k % width
+    }
+}
+
+fn remainder_places(width: u64, b: Number) -> Count
+    requires { ⌜ 0 < width ⌝ }
+    ensures { λ r. ⌜ r ≡ remainderOf width b ⌝ }
+{
+    if !is_integer(b) {
+        return Count::Outside;
+    }
+    Count::Places(remainder(width, integer_of(b)))
+}
+
+// The places of a shift in an edition.
+fn places_in(edition: Edition, width: u64, b: Number) -> Count
+    requires { ⌜ 0 < width ⌝ }
+    ensures { λ r. ⌜ r ≡ countIn edition width b ⌝ }
+{
+    match edition {
+        Edition::First => places(width, b),
+        Edition::Second => remainder_places(width, b),
+    }
+}
+
 // `<< >> >>>`
-pub fn shift(op: Shift, a: Number, b: Number) -> Number
-    ensures { λ r. ⌜ r ≡ shiftOf op a b ⌝ }
+pub fn shift(edition: Edition, op: Shift, a: Number, b: Number) -> Number
+    ensures { λ r. ⌜ r ≡ shiftOf edition op a b ⌝ }
 {
     match a {
-        Number::Int32(x) => match places(32, b) {
+        Number::Int32(x) => match places_in(edition, 32, b) {
             Count::Places(k) => Number::Int32(bits::shift_i32(op, x, k)),
             Count::Outside => Number::None,
         },
-        Number::Int64(x) => match places(64, b) {
+        Number::Int64(x) => match places_in(edition, 64, b) {
             Count::Places(k) => Number::Int64(bits::shift_i64(op, x, k)),
             Count::Outside => Number::None,
         },

@@ -17,6 +17,7 @@ use Rattle.truth.specs.declared.Truth.the-variants.{Bottom}
 use Rattle.truth.specs.Truth.{isTrue, isFalse, andOf, orOf}
 use Rattle.truth.proofs.Theorems.{false-and, true-or}
 use Rattle.opcode.specs.Opcode.{opOf}
+use Rattle.opcode.specs.declared.Edition.{Edition}
 use Rattle.opcode.specs.declared.Skip.{Skip}
 use Rattle.opcode.specs.declared.Op.{Op}
 use Rattle.opcode.specs.declared.Unary.{Unary}
@@ -57,19 +58,19 @@ decided-true (value.value v) y e = let z : _≡_ {A = ℕ} 0 1 = cc in absurd (o
 
 -- ---- the arguments on the stack
 
-abbrev pushed : (List ℕ → value.Value) → Trees → List value.Item → List value.Item
-pushed field none st = st
-pushed field (_then_ ts t) st = itemOf field t ∷ pushed field ts st
+abbrev pushed : Edition → (List ℕ → value.Value) → Trees → List value.Item → List value.Item
+pushed e field none st = st
+pushed e field (_then_ ts t) st = itemOf e field t ∷ pushed e field ts st
 
-pushed-is : (field : List ℕ → value.Value) (ts : Trees) (st : List value.Item) → pushed field ts st ≡ reverse (itemsOf field ts) ++ st
+pushed-is : (e : Edition) (field : List ℕ → value.Value) (ts : Trees) (st : List value.Item) → pushed e field ts st ≡ reverse (itemsOf e field ts) ++ st
 unfolding itemOf
-pushed-is field none st = refl
-pushed-is field (_then_ ts t) st = rw reverse-append (ap (λ (l : List value.Item). itemOf field t ∷ l) (pushed-is field ts st))
+pushed-is e field none st = refl
+pushed-is e field (_then_ ts t) st = rw reverse-append (ap (λ (l : List value.Item). itemOf e field t ∷ l) (pushed-is e field ts st))
 
-items-size : (field : List ℕ → value.Value) (ts : Trees) → length (itemsOf field ts) ≡ countOf ts
+items-size : (e : Edition) (field : List ℕ → value.Value) (ts : Trees) → length (itemsOf e field ts) ≡ countOf ts
 unfolding itemOf countOf
-items-size field none = refl
-items-size field (_then_ ts t) = rw length-append (ap (λ (n : ℕ). n + 1) (items-size field ts))
+items-size e field none = refl
+items-size e field (_then_ ts t) = rw length-append (ap (λ (n : ℕ). n + 1) (items-size e field ts))
 
 -- the first and the later ones, from the stack
 module _ (x : value.Item) (ys st : List value.Item) where
@@ -136,7 +137,7 @@ module _ (p : Program) (notice : List ℕ) where
     pub few : visited ≤ n
     pub goes : afterFrom p notice visited (state i st k) ≡ state j st′ (k + visited)
 
-  one : {i k j : ℕ} {st st′ : List value.Item} (e : Entry) → (i < length (p .entries)) × (getD (p .entries) i blank ≡ e) → visit (p .pool) notice e (state i st k) ≡ state j st′ (k + 1) → Ran i st k 1 j st′
+  one : {i k j : ℕ} {st st′ : List value.Item} (e : Entry) → (i < length (p .entries)) × (getD (p .entries) i blank ≡ e) → visit (p .edition) (p .pool) notice e (state i st k) ≡ state j st′ (k + 1) → Ran i st k 1 j st′
   unfolding afterFrom
   one {i} {k} {j} {st} {st′} e q v = record { visited = 1; few = omega arith; goes = rw (lt-ltb i (length (p .entries)) (q .0), q .1) v }
 
@@ -162,7 +163,7 @@ module _ (p : Program) (notice : List ℕ) where
 
   -- a literal or a name
   loads : (x : Token) (at : ℕ) (st : List value.Item) → LeafMade x → Pooled at (leafBytes x) → length (p .pool) < 2 ^ 16
-      → (stackBy (p .pool) notice (opOf (leafEntry at x .op)) (leafEntry at x) st ≡ leafItem field x ∷ st) × (strideBy (opOf (leafEntry at x .op)) (leafEntry at x) st ≡ 1)
+      → (stackBy (p .edition) (p .pool) notice (opOf (leafEntry at x .op)) (leafEntry at x) st ≡ leafItem field x ∷ st) × (strideBy (opOf (leafEntry at x .op)) (leafEntry at x) st ≡ 1)
   loads (name s escaped) at st m h small =
       let e : at % 2 ^ 16 ≡ at = omega (arith, h .0) in
       (ap (λ (n : List ℕ). value.value (field n) ∷ st) (rw e (h .1)), refl)
@@ -175,17 +176,17 @@ module _ (p : Program) (notice : List ℕ) where
   loads (symbol k) at st m h small = absurd m
 
   -- an operator of one operand, and one of two, of ops that are so
-  does-unary : (k : ℕ) (u : Unary) (x : value.Item) (i n : ℕ) (st : List value.Item) → opOf k ≡ Op.Unary u → visit (p .pool) notice (entry k 0 0) (state i (x ∷ st) n) ≡ state (i + 1) (byUnary (opOf k) x ∷ st) (n + 1)
+  does-unary : (k : ℕ) (u : Unary) (x : value.Item) (i n : ℕ) (st : List value.Item) → opOf k ≡ Op.Unary u → visit (p .edition) (p .pool) notice (entry k 0 0) (state i (x ∷ st) n) ≡ state (i + 1) (byUnary (opOf k) x ∷ st) (n + 1)
   does-unary k u x i n st e = rw e
 
-  does-binary : (k : ℕ) (b : Binary) (x y : value.Item) (i n : ℕ) (st : List value.Item) → opOf k ≡ Op.Binary b → visit (p .pool) notice (entry k 0 0) (state i (y ∷ x ∷ st) n) ≡ state (i + 1) (byBinary (opOf k) x y ∷ st) (n + 1)
+  does-binary : (k : ℕ) (b : Binary) (x y : value.Item) (i n : ℕ) (st : List value.Item) → opOf k ≡ Op.Binary b → visit (p .edition) (p .pool) notice (entry k 0 0) (state i (y ∷ x ∷ st) n) ≡ state (i + 1) (byBinary (p .edition) (opOf k) x y ∷ st) (n + 1)
   does-binary k b x y i n st e = rw e
 
-  does-one : (f c : ℕ) (u : Unary) (x : value.Item) (i n : ℕ) (st : List value.Item) → opOf f ≡ Op.Unary u → visit (p .pool) notice (callEntry f c) (state i (x ∷ st) n) ≡ state (i + 1) (byCall (opOf f) (x ∷ []) ∷ st) (n + 1)
+  does-one : (f c : ℕ) (u : Unary) (x : value.Item) (i n : ℕ) (st : List value.Item) → opOf f ≡ Op.Unary u → visit (p .edition) (p .pool) notice (callEntry f c) (state i (x ∷ st) n) ≡ state (i + 1) (byCall (opOf f) (x ∷ []) ∷ st) (n + 1)
   does-one f c u x i n st e = rw e
 
   does-many : (f : ℕ) (m : Many) (x : value.Item) (ys : List value.Item) (i n : ℕ) (st : List value.Item) → opOf f ≡ Op.Many m → 56 ≤ f
-      → visit (p .pool) notice (callEntry f (suc (length ys))) (state i (reverse (x ∷ ys) ++ st) n) ≡ state (i + 1) (byCall (opOf f) (x ∷ ys) ∷ st) (n + 1)
+      → visit (p .edition) (p .pool) notice (callEntry f (suc (length ys))) (state i (reverse (x ∷ ys) ++ st) n) ≡ state (i + 1) (byCall (opOf f) (x ∷ ys) ∷ st) (n + 1)
   does-many f m x ys i n st e h =
       let c : suc (length ys) - 1 ≡ length ys = omega arith in
       rw (e, le-leb 56 f h, c, first-slot x ys st, later-slots x ys st, rest-slots x ys st)
@@ -222,10 +223,10 @@ module _ (p : Program) (notice : List ℕ) where
       → Stands (i + n) (skipEntries k (entriesOf u) ++ (codeOf at u ++ (entry k 0 0 ∷ [])))
       → Ran i st c n (i + n) (x ∷ st)
       → ((j k′ : ℕ) → Stands j (codeOf at u) → Ran j (x ∷ st) k′ (entriesOf u) (j + entriesOf u) (y ∷ x ∷ st))
-      → Ran i st c (n + entriesOf u + cond (skips k) 2 1) (i + (n + entriesOf u + cond (skips k) 2 1)) (byBinary (opOf k) x y ∷ st)
+      → Ran i st c (n + entriesOf u + cond (skips k) 2 1) (i + (n + entriesOf u + cond (skips k) 2 1)) (byBinary (p .edition) (opOf k) x y ∷ st)
   two-sides k made i c at n st x y u s left right = go (ℕ-discrete k 41) (ℕ-discrete k 43)
     where
-      go : Dec (k ≡ 41) → Dec (k ≡ 43) → Ran i st c (n + entriesOf u + cond (skips k) 2 1) (i + (n + entriesOf u + cond (skips k) 2 1)) (byBinary (opOf k) x y ∷ st)
+      go : Dec (k ≡ 41) → Dec (k ≡ 43) → Ran i st c (n + entriesOf u + cond (skips k) 2 1) (i + (n + entriesOf u + cond (skips k) 2 1)) (byBinary (p .edition) (opOf k) x y ∷ st)
       go (yes e) d =
           let s1 = rw e at s in
           let q = parts at u (i + n + 1) (entry 41 0 0 ∷ []) (s1 .1) in
@@ -245,27 +246,27 @@ module _ (p : Program) (notice : List ℕ) where
   -- a call, from what its arguments left
   calls : (x : Token) (ts : Trees) (i c : ℕ) (st : List value.Item) → CallMade (functionOf x) (countOf ts)
       → (i < length (p .entries)) × (getD (p .entries) i blank ≡ callEntry (functionOf x) (countOf ts))
-      → Ran i (pushed field ts st) c 1 (i + 1) (byCall (opOf (functionOf x)) (itemsOf field ts) ∷ st)
-  calls x ts i c st made q = go (itemsOf field ts) refl (sym (items-size field ts)) made
+      → Ran i (pushed (p .edition) field ts st) c 1 (i + 1) (byCall (opOf (functionOf x)) (itemsOf (p .edition) field ts) ∷ st)
+  calls x ts i c st made q = go (itemsOf (p .edition) field ts) refl (sym (items-size (p .edition) field ts)) made
     where
       f : ℕ
       f = functionOf x
 
-      go : (ys : List value.Item) → itemsOf field ts ≡ ys → countOf ts ≡ length (itemsOf field ts) → CallMade (functionOf x) (countOf ts) → Ran i (pushed field ts st) c 1 (i + 1) (byCall (opOf (functionOf x)) (itemsOf field ts) ∷ st)
+      go : (ys : List value.Item) → itemsOf (p .edition) field ts ≡ ys → countOf ts ≡ length (itemsOf (p .edition) field ts) → CallMade (functionOf x) (countOf ts) → Ran i (pushed (p .edition) field ts st) c 1 (i + 1) (byCall (opOf (functionOf x)) (itemsOf (p .edition) field ts) ∷ st)
       go [] e n (inl (u, o, l, one′)) = let z : countOf ts ≡ 0 = n ∙ ap length e in absurd (omega arith)
       go [] e n (inr (m, o, l, some)) = let z : countOf ts ≡ 0 = n ∙ ap length e in absurd (omega arith)
       go (y ∷ []) e n (inl (u, o, l, one′)) =
-          rw (pushed-is field ts st, e) (one (callEntry (functionOf x) (countOf ts)) q (does-one (functionOf x) (countOf ts) u y i c st o))
+          rw (pushed-is (p .edition) field ts st, e) (one (callEntry (functionOf x) (countOf ts)) q (does-one (functionOf x) (countOf ts) u y i c st o))
       go (y ∷ (w ∷ ys)) e n (inl (u, o, l, one′)) = let z : countOf ts ≡ suc (suc (length ys)) = n ∙ ap length e in absurd (omega arith)
       go (y ∷ ys) e n (inr (m, o, l, some)) =
           let z : countOf ts ≡ suc (length ys) = n ∙ ap length e in
-          rw (pushed-is field ts st, e) (one (callEntry (functionOf x) (suc (length ys))) (rw z at q) (does-many (functionOf x) m y ys i c st o l))
+          rw (pushed-is (p .edition) field ts st, e) (one (callEntry (functionOf x) (suc (length ys))) (rw z at q) (does-many (functionOf x) m y ys i c st o l))
 
   mutual
     unfolding codeOf bytesOf entriesOf itemOf Made poolOf
 
     pub ran : (t : Tree) (at i k : ℕ) (st : List value.Item) → length (p .pool) < 2 ^ 16 → Made t → Stands i (codeOf at t) → Pooled at (bytesOf t)
-        → Ran i st k (entriesOf t) (i + entriesOf t) (itemOf field t ∷ st)
+        → Ran i st k (entriesOf t) (i + entriesOf t) (itemOf (p .edition) field t ∷ st)
     ran (leaf x) at i k st small m s h =
         let l = loads x at st m h small in
         one (leafEntry at x) (s .0) (rw (l .0, l .1))
@@ -274,12 +275,12 @@ module _ (p : Program) (notice : List ℕ) where
         let q = parts at t i (entry o 0 0 ∷ []) s in
         lax (omega arith) (omega arith)
         (chain {l = i + entriesOf t + 1} (ran t at i k st small (m .1) (q .0) h)
-        (λ k′. one (entry o 0 0) (q .1 .0) (does-unary o (m .0 .0) (itemOf field t) (i + entriesOf t) k′ st (m .0 .1))))
+        (λ k′. one (entry o 0 0) (q .1 .0) (does-unary o (m .0 .0) (itemOf (p .edition) field t) (i + entriesOf t) k′ st (m .0 .1))))
     ran (binary o t u) at i k st small m s h =
         let q = parts at t i (skipEntries o (entriesOf u) ++ (codeOf (at + poolOf t) u ++ (entry o 0 0 ∷ []))) s in
         let g = pooled-split at (bytesOf t) (bytesOf u) h in
-        two-sides o (m .0) i k (at + poolOf t) (entriesOf t) st (itemOf field t) (itemOf field u) u (q .1) (ran t at i k st small (m .1) (q .0) (g .0))
-        (λ j k′ w. ran u (at + poolOf t) j k′ (itemOf field t ∷ st) small (m .2) w (rw (pool-size t) at (g .1)))
+        two-sides o (m .0) i k (at + poolOf t) (entriesOf t) st (itemOf (p .edition) field t) (itemOf (p .edition) field u) u (q .1) (ran t at i k st small (m .1) (q .0) (g .0))
+        (λ j k′ w. ran u (at + poolOf t) j k′ (itemOf (p .edition) field t ∷ st) small (m .2) w (rw (pool-size t) at (g .1)))
     ran (call x ts) at i k st small m s h =
         let q = stands-split i (codeIn at ts) (callEntry (functionOf x) (countOf ts) ∷ []) s in
         let e = size-in ts at in
@@ -287,7 +288,7 @@ module _ (p : Program) (notice : List ℕ) where
         (chain {l = i + entriesIn ts + 1} (ran-in ts at i k st small (m .1) (q .0) h) (λ k′. calls x ts (i + entriesIn ts) k′ st (m .0) ((rw e at (q .1)) .0)))
 
     ran-in : (ts : Trees) (at i k : ℕ) (st : List value.Item) → length (p .pool) < 2 ^ 16 → MadeIn ts → Stands i (codeIn at ts) → Pooled at (bytesIn ts)
-        → Ran i st k (entriesIn ts) (i + entriesIn ts) (pushed field ts st)
+        → Ran i st k (entriesIn ts) (i + entriesIn ts) (pushed (p .edition) field ts st)
     ran-in none at i k st small m s h = lax (omega arith) (omega arith) nowhere
     ran-in (_then_ ts t) at i k st small m s h =
         let q = stands-split i (codeIn at ts) (codeOf (at + poolIn ts) t) s in
@@ -295,7 +296,7 @@ module _ (p : Program) (notice : List ℕ) where
         let g = pooled-split at (bytesIn ts) (bytesOf t) h in
         lax (omega arith) (omega arith)
         (chain {l = i + entriesIn ts + entriesOf t} (ran-in ts at i k st small (m .0) (q .0) (g .0))
-        (λ k′. ran t (at + poolIn ts) (i + entriesIn ts) k′ (pushed field ts st) small (m .1) (rw e at (q .1)) (rw (pool-in ts) at (g .1))))
+        (λ k′. ran t (at + poolIn ts) (i + entriesIn ts) k′ (pushed (p .edition) field ts st) small (m .1) (rw e at (q .1)) (rw (pool-in ts) at (g .1))))
 
 -- ---- the whole table
 
@@ -309,14 +310,14 @@ stands-from p notice pre (x ∷ xs) e =
     ((omega arith, here), rw next at rest)
 
 -- The run of a tree's table: it ends at N with the one slot that the tree is.
-pub record Whole (t : Tree) (notice : List ℕ) : Type 0 where
+pub record Whole (e : Edition) (t : Tree) (notice : List ℕ) : Type 0 where
   pub visited : ℕ
   pub few : visited ≤ entriesOf t
-  pub ends : runOf (compile t) notice ≡ record { next = entriesOf t; stack = itemOf (value.valueNamed notice) t ∷ []; steps = visited }
+  pub ends : runOf (compile e t) notice ≡ record { next = entriesOf t; stack = itemOf e (value.valueNamed notice) t ∷ []; steps = visited }
 
-pub runs-whole : (t : Tree) (notice : List ℕ) → poolOf t < 2 ^ 16 → Made t → Whole t notice
-runs-whole t notice small made =
-    let p = compile t in
+pub runs-whole : (e : Edition) (t : Tree) (notice : List ℕ) → poolOf t < 2 ^ 16 → Made t → Whole e t notice
+runs-whole e t notice small made =
+    let p = compile e t in
     let n : length (p .entries) ≡ entriesOf t = size t 0 in
     let m : length (p .pool) ≡ poolOf t = pool-size t in
     let zero-more : 0 + entriesOf t ≡ entriesOf t = omega arith in
@@ -330,5 +331,5 @@ runs-whole t notice small made =
       ends =
           ap (λ (k : ℕ). afterFrom p notice k start) (n ∙ sym split) ∙ more-visits p notice (r .visited) (entriesOf t - r .visited) start
           ∙ ap (afterFrom p notice (entriesOf t - r .visited)) g ∙ stays p notice (entriesOf t - r .visited) _ (omega (arith, n))
-          ∙ ap (λ (k : ℕ). record { next = entriesOf t; stack = itemOf (value.valueNamed notice) t ∷ []; steps = k }) none;
+          ∙ ap (λ (k : ℕ). record { next = entriesOf t; stack = itemOf e (value.valueNamed notice) t ∷ []; steps = k }) none;
     }

@@ -6,6 +6,7 @@ use mathlib.Core.Bool.{Bool, true, false}
 use mathlib.Core.Logic.{_⊎_, inl, inr}
 use mathlib.Core.List.{List, [], map}
 use mathlib.Core.Option.{some}
+use native.Mathlib.Decide.{ℕ-discrete}
 use lib.Dec.{eqb}
 use lib.ListN.{length, take}
 use lib.Seq.{length-sets}
@@ -19,6 +20,7 @@ use Rattle.notice.specs.declared.Layout.{Layout}
 use Rattle.notice.specs.Field.{Field}
 use Rattle.notice.specs.Write.{writtenOf, writtenBytes, refusalOf as refusalIn}
 use Rattle.lexer.proofs.Theorems.{stored}
+use Rattle.opcode.specs.declared.Edition.{Edition}
 use Rattle.grammar.specs.Tree.{Tree}
 use Rattle.grammar.proofs.Theorems.{parses}
 use Rattle.table.specs.Table.{Program, encode, decode}
@@ -33,13 +35,13 @@ use Rattle.interpreter.proofs.Answers.{neither-refused}
 use Rattle.interpreter.proofs.Theorems.{stack-small}
 use Rattle.meaning.specs.Meaning.{meaning, textMeaning}
 use Rattle.translator.specs.Compile.{compile}
-use Rattle.translator.specs.Translation.{Outcome, translationOf, Answers}
+use Rattle.translator.specs.Translation.{Outcome, editionNumber, translationOf, Answers}
 use Rattle.translator.specs.Theorems.{Accepted}
 use Rattle.translator.specs.declared.Translated.{Translated}
 use Rattle.translator.proofs.Sound.{size}
 use Rattle.translator.proofs.Lexed.{lexed-text}
 use Rattle.translator.proofs.Fits.{fits-room, refused-empty}
-use Rattle.translator.proofs.Theorems.{writes-table, accepts-exactly, decodes, passes-check, pool-small}
+use Rattle.translator.proofs.Theorems.{writes-table, accepts-exactly, decodes, passes-check, other-edition, pool-small}
 use Rattle.router.specs.Agree.{Made}
 use Rattle.router.specs.Demand.{Met, DemandThree, AcceptedText, RefusalKeeps, outcomeOf, refused as refusedWith, ranOf, checkedOf, RunsChecked, RunsTable, Matches}
 use Rattle.router.specs.declared.matching.Matched.{Matched}
@@ -50,24 +52,24 @@ use Rattle.router.proofs.Made.{accepted-made}
 written-table : (o : Outcome) (buffer written : List ℕ) (r : Translated) → length (o .table) ≤ length buffer → Answers o buffer written r → take (r .length) written ≡ o .table
 written-table o buffer written r h a = rw (a .answer, a .bytes) (stored buffer (o .table) h)
 
-module _ (text notice : List ℕ) (tree : Tree) (b : Bytes text) (a : Accepted text tree) where
+module _ (edition : Edition) (text notice : List ℕ) (tree : Tree) (b : Bytes text) (a : Accepted text tree) where
   made : Made tree
   made = let x = a .expression in accepted-made (map (λ p. p .token) (x .placed)) tree (x .derived) (lexed-text text (x .placed) b (x .lexed) .right) (a .right .forms)
 
-  whole : Whole tree notice
-  whole = let h = pool-small text tree b a in runs-whole tree notice (omega arith) made
+  whole : Whole edition tree notice
+  whole = let h = pool-small text tree b a in runs-whole edition tree notice (omega arith) made
 
   -- the text's meaning is the tree's
-  text-means : textMeaning text notice ≡ some (meaning tree notice)
+  text-means : textMeaning edition text notice ≡ some (meaning edition tree notice)
   text-means = let x = a .expression in rw (x .lexed, parses (map (λ p. p .token) (x .placed)) tree .1 (x .derived))
 
   -- the accepted text's own table, by the definitions, and a machine of the runner on it
-  met : noticeCheck notice ≡ WellFormed → {visits : ℕ} {m : Machine} → Visited (encode (compile tree)) notice visits m
-      → Met text notice (encode (compile tree)) (runningOf (encode (compile tree)) notice .number) (runningOf (encode (compile tree)) notice .verdict) (runningOf (encode (compile tree)) notice .steps) visits m
+  met : noticeCheck notice ≡ WellFormed → {visits : ℕ} {m : Machine} → Visited (encode (compile edition tree)) notice visits m
+      → Met edition text notice (encode (compile edition tree)) (runningOf (encode (compile edition tree)) notice .number) (runningOf (encode (compile edition tree)) notice .verdict) (runningOf (encode (compile edition tree)) notice .steps) visits m
   met w {visits} {m} v =
-      let table = encode (compile tree) in
-      let p = passes-check text tree b a in
-      let d = decodes text tree b a in
+      let table = encode (compile edition tree) in
+      let p = passes-check edition text tree b a in
+      let d = decodes edition text tree b a in
       let r : runningOf table notice ≡ answerOf (decode table) notice = sym (neither-refused table notice p w) in
       let e = whole .ends in
       record {
@@ -83,24 +85,24 @@ module _ (text notice : List ℕ) (tree : Tree) (b : Bytes text) (a : Accepted t
       }
 
 pub demand-three : DemandThree
-demand-three text buffer notice visits tree c b a room w =
-    let e = writes-table text tree (length buffer) a room in
-    let t : take (c .translated .length) (c .written) ≡ encode (compile tree) = written-table _ buffer (c .written) (c .translated) room (rw e at (c .translates)) in
-    let v : Visited (encode (compile tree)) notice visits (c .machine) = subst (λ (x : List ℕ). Visited x notice visits (c .machine)) t (c .runner (rw t (passes-check text tree b a)) w) in
-    let m = met text notice tree b a w v in
+demand-three edition text buffer notice visits tree c b a room w =
+    let e = writes-table edition text tree (length buffer) a room in
+    let t : take (c .translated .length) (c .written) ≡ encode (compile edition tree) = written-table _ buffer (c .written) (c .translated) room (rw e at (c .translates)) in
+    let v : Visited (encode (compile edition tree)) notice visits (c .machine) = subst (λ (x : List ℕ). Visited x notice visits (c .machine)) t (c .runner (rw t (passes-check edition text tree b a)) w) in
+    let m = met edition text notice tree b a w v in
     let n : c .translated .number ≡ 0 = rw (c .translates .answer, e) in
     (n, c .checks ∙ rw t (m .passes), rw (c .runs, t) m)
 
 pub accepted-text : AcceptedText
-accepted-text text =
-    (λ h. (length (encode (compile (h .0))), accepts-exactly text _ .1 (h .0, h .1, omega arith)), λ h. let t = accepts-exactly text (h .0) .0 (h .1) in (t .0, t .1))
+accepted-text edition text =
+    (λ h. (length (encode (compile edition (h .0))), accepts-exactly edition text _ .1 (h .0, h .1, omega arith)), λ h. let t = accepts-exactly edition text (h .0) .0 (h .1) in (t .0, t .1))
 
 -- ---- a refusal changes no byte
 
-no-table : (text : List ℕ) (room : ℕ) → (translationOf text room .number ≡ 0 → ⊥) → translationOf text room .table ≡ []
-no-table text room h = go (refused-empty text room)
+no-table : (edition : ℕ) (text : List ℕ) (room : ℕ) → (translationOf edition text room .number ≡ 0 → ⊥) → translationOf edition text room .table ≡ []
+no-table edition text room h = go (refused-empty edition text room)
   where
-    go : (translationOf text room .number ≡ 0) ⊎ (translationOf text room .table ≡ []) → translationOf text room .table ≡ []
+    go : (translationOf edition text room .number ≡ 0) ⊎ (translationOf edition text room .table ≡ []) → translationOf edition text room .table ≡ []
     go (inl e) = absurd (h e)
     go (inr e) = e
 
@@ -109,7 +111,7 @@ unwritten buffer len f h = rw (ne-eqb (refusalIn buffer len f) 0 h)
 
 pub refusal-keeps : RefusalKeeps
 refusal-keeps = (
-  λ text buffer written r a h. a .bytes ∙ rw (no-table text (length buffer) (λ e. h (ap (λ (x : Translated). x .number) (a .answer) ∙ e))),
+  λ edition text buffer written r a h. a .bytes ∙ rw (no-table edition text (length buffer) (λ e. h (ap (λ (x : Translated). x .number) (a .answer) ∙ e))),
   unwritten,
 )
 
@@ -133,35 +135,49 @@ check-passed table notice visits a m p q v =
       runner = λ _. v;
     }
 
-module _ (text buffer notice written : List ℕ) (visits : ℕ) (t : Translated) (a : Answers (translationOf text (length buffer)) buffer written t) where
+-- what is translated is of one of the two editions
+named : (number : ℕ) (text : List ℕ) (room : ℕ) → translationOf number text room .number ≡ 0 → (edition : Edition) × (number ≡ editionNumber edition)
+named number text room z = go (ℕ-discrete number 1) (ℕ-discrete number 2)
+  where
+    go : Dec (number ≡ 1) → Dec (number ≡ 2) → (edition : Edition) × (number ≡ editionNumber edition)
+    go (yes e) d = (Edition.First, e)
+    go (no a) (yes e) = (Edition.Second, e)
+    go (no a) (no b) = let n : _≡_ {A = ℕ} 25 0 = sym (ap (λ (o : Outcome). o .number) (other-edition number text room other)) ∙ z in absurd (omega arith)
+      where
+        other : (edition : Edition) → number ≡ editionNumber edition → ⊥
+        other Edition.First e = a e
+        other Edition.Second e = b e
+
+module _ (number : ℕ) (text buffer notice written : List ℕ) (visits : ℕ) (t : Translated) (a : Answers (translationOf number text (length buffer)) buffer written t) where
   pub fits : t .length ≤ length written
   fits =
-      let n : t .length ≡ length (translationOf text (length buffer) .table) = ap (λ (x : Translated). x .length) (a .answer) in
-      let m : length written ≡ length buffer = ap length (a .bytes) ∙ length-sets buffer 0 (translationOf text (length buffer) .table) in
-      let f = fits-room text (length buffer) in
+      let n : t .length ≡ length (translationOf number text (length buffer) .table) = ap (λ (x : Translated). x .length) (a .answer) in
+      let m : length written ≡ length buffer = ap length (a .bytes) ∙ length-sets buffer 0 (translationOf number text (length buffer) .table) in
+      let f = fits-room number text (length buffer) in
       omega arith
 
-  table-is : take (t .length) written ≡ translationOf text (length buffer) .table
-  table-is = written-table _ buffer written t (fits-room text (length buffer)) a
+  table-is : take (t .length) written ≡ translationOf number text (length buffer) .table
+  table-is = written-table _ buffer written t (fits-room number text (length buffer)) a
 
-  number-is : t .number ≡ translationOf text (length buffer) .number
+  number-is : t .number ≡ translationOf number text (length buffer) .number
   number-is = ap (λ (x : Translated). x .number) (a .answer)
 
   -- a table that is written passes the check, by `PassesCheck`
-  passes : Bytes text → translationOf text (length buffer) .number ≡ 0 → tableCheck (translationOf text (length buffer) .table) ≡ true
+  passes : Bytes text → translationOf number text (length buffer) .number ≡ 0 → tableCheck (translationOf number text (length buffer) .table) ≡ true
   passes b z =
-      let k = accepts-exactly text (length buffer) .0 z in
-      rw (writes-table text (k .0) (length buffer) (k .1) (k .2)) (passes-check text (k .0) b (k .1))
+      let e = named number text (length buffer) z in
+      let k = accepts-exactly (e .0) text (length buffer) .0 (rw (e .1) at z) in
+      rw (e .1, writes-table (e .0) text (k .0) (length buffer) (k .1) (k .2)) (passes-check (e .0) text (k .0) b (k .1))
 
-  pub refused-run : (r : Matched) → (t .number ≡ 0 → ⊥) → r ≡ refusedWith (t .number) (t .place) → RunsTable (translationOf text (length buffer)) buffer notice written visits r
+  pub refused-run : (r : Matched) → (t .number ≡ 0 → ⊥) → r ≡ refusedWith (t .number) (t .place) → RunsTable (translationOf number text (length buffer)) buffer notice written visits r
   refused-run r n q =
-      let m : translationOf text (length buffer) .number ≡ 0 → ⊥ = λ e. n (number-is ∙ e) in
+      let m : translationOf number text (length buffer) .number ≡ 0 → ⊥ = λ e. n (number-is ∙ e) in
       record { answer = q ∙ rw (a .answer, ne-eqb _ 0 m); bytes = a .bytes; runner = λ z. absurd (m z) }
 
   pub table-run : (r : Matched) (long : ℕ) → long ≡ t .length → t .number ≡ 0 → Bytes text → RunsChecked (take long written) notice visits r
-      → RunsTable (translationOf text (length buffer)) buffer notice written visits r
+      → RunsTable (translationOf number text (length buffer)) buffer notice written visits r
   table-run r long l n b q =
-      let o = translationOf text (length buffer) in
+      let o = translationOf number text (length buffer) in
       let z : o .number ≡ 0 = sym number-is ∙ n in
       let p = passes b z in
       let k : RunsChecked (o .table) notice visits r = subst (λ (x : List ℕ). RunsChecked x notice visits r) (ap (λ (i : ℕ). take i written) l ∙ table-is) q in
@@ -174,18 +190,18 @@ module _ (text buffer notice written : List ℕ) (visits : ℕ) (t : Translated)
         runner = λ _. k .runner p;
       }
 
-module _ (text buffer notice written : List ℕ) (visits : ℕ) (r : Matched) where
+module _ (number : ℕ) (text buffer notice written : List ℕ) (visits : ℕ) (r : Matched) where
   -- a faulty notice: the buffer stays
-  pub fault-matches : (layout : Layout) (place : ℕ) → layout ≡ noticeCheck notice → layout ≡ Fault place → written ≡ buffer → r ≡ refusedWith (numberOf (Fault place)) place → Matches text buffer notice written visits r
+  pub fault-matches : (layout : Layout) (place : ℕ) → layout ≡ noticeCheck notice → layout ≡ Fault place → written ≡ buffer → r ≡ refusedWith (numberOf (Fault place)) place → Matches number text buffer notice written visits r
   fault-matches layout place e f b q =
       let g : noticeCheck notice ≡ Fault place = sym e ∙ f in
       record {
         determined = record {
           answer = rw g q;
           bytes = rw g b;
-          runner = λ z. let n : outcomeOf text (length buffer) notice .number ≡ numberOf (Fault place) = rw g in let q : ⊥ = omega (arith, sym n ∙ z) in absurd q;
+          runner = λ z. let n : outcomeOf number text (length buffer) notice .number ≡ numberOf (Fault place) = rw g in let q : ⊥ = omega (arith, sym n ∙ z) in absurd q;
         };
-        demand = λ tree acc room w. no-way (sym w ∙ g);
+        demand = λ edition tree is acc room w. no-way (sym w ∙ g);
       }
     where
       isFault : Layout → Bool
@@ -195,18 +211,19 @@ module _ (text buffer notice written : List ℕ) (visits : ℕ) (r : Matched) wh
       no-way : {A : Type 0} → WellFormed ≡ Fault place → A
       no-way h = let z : _≡_ {A = Bool} false true = ap isFault h in false-true z
 
-  pub run-matches : (layout : Layout) → layout ≡ noticeCheck notice → layout ≡ WellFormed → Bytes text → RunsTable (translationOf text (length buffer)) buffer notice written visits r → Matches text buffer notice written visits r
+  pub run-matches : (layout : Layout) → layout ≡ noticeCheck notice → layout ≡ WellFormed → Bytes text → RunsTable (translationOf number text (length buffer)) buffer notice written visits r → Matches number text buffer notice written visits r
   run-matches layout e f b a =
       let g : noticeCheck notice ≡ WellFormed = sym e ∙ f in
       record {
         determined = rw g a;
-        demand = λ tree acc room w.
-            let e = writes-table text tree (length buffer) acc room in
-            let table = encode (compile tree) in
+        demand = λ edition tree is acc room w.
+            let a : RunsTable (translationOf (editionNumber edition) text (length buffer)) buffer notice written visits r = rw is at a in
+            let e = writes-table edition text tree (length buffer) acc room in
+            let table = encode (compile edition tree) in
             let s : r ≡ ranOf table notice (r .machine) = rw e at (a .answer) in
             let k : take (length table) written ≡ table = rw (a .bytes, e) (stored buffer table room) in
             let v : Visited table notice visits (r .machine) = (rw e at (a .runner)) refl in
             let n = runningOf table notice in
-            subst (λ (x : Matched). Met text notice (take (x .length) written) (x .number) (x .verdict) (x .steps) visits (x .machine)) (sym s)
-            (subst (λ (x : List ℕ). Met text notice x (n .number) (n .verdict) (n .steps) visits (r .machine)) (sym k) (met text notice tree b acc w v));
+            subst (λ (x : Matched). Met edition text notice (take (x .length) written) (x .number) (x .verdict) (x .steps) visits (x .machine)) (sym s)
+            (subst (λ (x : List ℕ). Met edition text notice x (n .number) (n .verdict) (n .steps) visits (r .machine)) (sym k) (met edition text notice tree b acc w v));
       }

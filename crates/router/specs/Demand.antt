@@ -1,7 +1,7 @@
 -- Demand 3 of the customer's letter, in one piece:
 --
--- Take any accepted text, one to which no refusal of translation applies but perhaps that for a short buffer; any lent buffer with room for its table; and any well-formed notice. The table that
--- translation writes, of the length that it answers, passes the table check. Running it on that notice is not refused. The verdict answered equals the meaning of the text on that notice when every
+-- Take either edition (document 02, request 9: "demands 2 and 3 read that edition") and any accepted text, one to which no refusal of translation applies but perhaps that for a short buffer; any lent buffer with room for its table; and any well-formed notice. The table that
+-- translation in that edition writes, of the length that it answers, passes the table check. Running it on that notice is not refused. The verdict answered equals the meaning of the text in that edition on that notice when every
 -- part of the expression is worked out and nothing is skipped. The verdict and the steps answered are exactly those of document 01's run of that table on that notice. Neither that run nor the
 -- runner ever holds more than 32 values on its stack.
 --
@@ -24,6 +24,7 @@ use Rattle.notice.specs.declared.Layout.the-variants.{WellFormed, Fault}
 use Rattle.notice.specs.declared.Layout.{Layout}
 use Rattle.notice.specs.Field.{Field}
 use Rattle.notice.specs.Write.{writtenOf, writtenBytes}
+use Rattle.opcode.specs.declared.Edition.{Edition}
 use Rattle.grammar.specs.Tree.{Tree}
 use Rattle.table.specs.Table.{encode, decode}
 use Rattle.table.specs.Check.{checkOf as tableCheck, refusalOf}
@@ -35,19 +36,19 @@ use Rattle.interpreter.specs.declared.Machine.{Machine}
 use Rattle.interpreter.specs.declared.Ran.{Ran}
 use Rattle.meaning.specs.Meaning.{textMeaning}
 use Rattle.translator.specs.Compile.{compile}
-use Rattle.translator.specs.Translation.{Outcome, refusal, translationOf, Answers}
+use Rattle.translator.specs.Translation.{Outcome, refusal, editionNumber, translationOf, Answers}
 use Rattle.translator.specs.Theorems.{Accepted}
 use Rattle.translator.specs.declared.Translated.{Translated}
 use Rattle.router.specs.declared.matching.Matched.{Matched}
 
 -- What the demand asks of a table, of the number, verdict and steps answered for it on a notice, and of the runner's machine after so many visits.
-pub record Met (text notice table : List ℕ) (number : ℕ) (verdict : Truth) (steps visits : ℕ) (machine : Machine) : Type 0 where
+pub record Met (edition : Edition) (text notice table : List ℕ) (number : ℕ) (verdict : Truth) (steps visits : ℕ) (machine : Machine) : Type 0 where
   -- "The table .. passes the table check."
   pub passes : tableCheck table ≡ true
   -- "Running it on that notice is not refused."
   pub answered : number ≡ 0
   -- "The verdict answered equals the one that the meaning gives for the text on that notice when every part of the expression is worked out and nothing is skipped."
-  pub means : textMeaning text notice ≡ some verdict
+  pub means : textMeaning edition text notice ≡ some verdict
   -- "The verdict and the steps answered are also exactly those of document 01's run of that table on that notice, with its skips", which ends at N
   pub verdict-run : verdict ≡ verdictOf (runOf (decode table) notice)
   pub steps-run : steps ≡ runOf (decode table) notice .steps
@@ -58,12 +59,12 @@ pub record Met (text notice table : List ℕ) (number : ℕ) (verdict : Truth) (
   pub runner-holds : machine .depth ≡ length (after (decode table) notice visits .stack)
   pub runner-small : machine .depth ≤ 32
 
--- The calls of the code for a text, a buffer, a notice and a number of visits: what each answers, and its promise.
-pub record Calls (text buffer notice : List ℕ) (visits : ℕ) : Type 0 where
-  -- `translate(text, buffer)`, and the buffer after it
+-- The calls of the code for an edition, a text, a buffer, a notice and a number of visits: what each answers, and its promise.
+pub record Calls (edition : Edition) (text buffer notice : List ℕ) (visits : ℕ) : Type 0 where
+  -- `translate(edition, text, buffer)`, and the buffer after it
   pub translated : Translated
   pub written : List ℕ
-  pub translates : Answers (translationOf text (length buffer)) buffer written translated
+  pub translates : Answers (translationOf (editionNumber edition) text (length buffer)) buffer written translated
   -- `check(table)`, of "the table that translation writes, of the length that it answers"
   pub passed : Bool
   pub checks : passed ≡ tableCheck (take (translated .length) written)
@@ -77,19 +78,19 @@ pub record Calls (text buffer notice : List ℕ) (visits : ℕ) : Type 0 where
 -- Demand 3, for every number of visits: a run has at most 512, and a larger number makes as many as there are, so that a `usize` names them all.
 abbrev pub DemandThree : Type 0
 DemandThree =
-    (text buffer notice : List ℕ) (visits : ℕ) (tree : Tree) (c : Calls text buffer notice visits)
-    → Bytes text → Accepted text tree → length (encode (compile tree)) ≤ length buffer → noticeCheck notice ≡ WellFormed
+    (edition : Edition) (text buffer notice : List ℕ) (visits : ℕ) (tree : Tree) (c : Calls edition text buffer notice visits)
+    → Bytes text → Accepted text tree → length (encode (compile edition tree)) ≤ length buffer → noticeCheck notice ≡ WellFormed
     → (c .translated .number ≡ 0) × (c .passed ≡ true)
-    × Met text notice (take (c .translated .length) (c .written)) (c .ran .number) (c .ran .verdict) (c .ran .steps) visits (c .machine)
+    × Met edition text notice (take (c .translated .length) (c .written)) (c .ran .number) (c .ran .verdict) (c .ran .steps) visits (c .machine)
 
 -- "one to which no refusal of translation applies but perhaps that for a short buffer": those texts, and no others, to which with some buffer none applies
 abbrev pub AcceptedText : Type 0
-AcceptedText = (text : List ℕ) → ((tree : Tree) × Accepted text tree) ↔ ((room : ℕ) × (translationOf text room .number ≡ 0))
+AcceptedText = (edition : Edition) (text : List ℕ) → ((tree : Tree) × Accepted text tree) ↔ ((room : ℕ) × (translationOf (editionNumber edition) text room .number ≡ 0))
 
 -- Demand 1: "A refusal changes no byte that we lent." Of document 01's functions translation and writing are the two that are lent bytes to change; for the quorum counter see `RefusedStays` and `RefusedMakesNone` of crate quorum.
 abbrev pub RefusalKeeps : Type 0
 RefusalKeeps =
-    ((text buffer written : List ℕ) (r : Translated) → Answers (translationOf text (length buffer)) buffer written r → (r .number ≡ 0 → ⊥) → written ≡ buffer)
+    ((edition : ℕ) (text buffer written : List ℕ) (r : Translated) → Answers (translationOf edition text (length buffer)) buffer written r → (r .number ≡ 0 → ⊥) → written ≡ buffer)
     × ((buffer : List ℕ) (len : ℕ) (f : Field) → (writtenOf buffer len f .number ≡ 0 → ⊥) → writtenBytes buffer len f ≡ buffer)
 
 -- ---- one function that translates, checks and runs
@@ -99,8 +100,8 @@ abbrev pub outcomeBy : Layout → Outcome → Outcome
 outcomeBy WellFormed o = o
 outcomeBy (Fault place) o = refusal (numberOf (Fault place)) (placeOf (Fault place))
 
-abbrev pub outcomeOf : List ℕ → ℕ → List ℕ → Outcome
-outcomeOf text room notice = outcomeBy (noticeCheck notice) (translationOf text room)
+abbrev pub outcomeOf : ℕ → List ℕ → ℕ → List ℕ → Outcome
+outcomeOf edition text room notice = outcomeBy (noticeCheck notice) (translationOf edition text room)
 
 -- a refusal: no table, bottom, no steps, and a machine that has made no visit
 abbrev pub refused : ℕ → ℕ → Matched
@@ -132,8 +133,8 @@ pub record RunsTable (o : Outcome) (buffer notice written : List ℕ) (visits : 
   pub bytes : written ≡ sets buffer 0 (o .table)
   pub runner : o .number ≡ 0 → Visited (o .table) notice visits (r .machine)
 
--- The promise of `match_text`: its answer and every byte of the buffer for all inputs, and demand 3.
-pub record Matches (text buffer notice written : List ℕ) (visits : ℕ) (r : Matched) : Type 0 where
-  pub determined : RunsTable (outcomeOf text (length buffer) notice) buffer notice written visits r
-  pub demand : (tree : Tree) → Accepted text tree → length (encode (compile tree)) ≤ length buffer → noticeCheck notice ≡ WellFormed
-      → Met text notice (take (r .length) written) (r .number) (r .verdict) (r .steps) visits (r .machine)
+-- The promise of `match_text`, for the number of an edition: its answer and every byte of the buffer for all inputs, and demand 3.
+pub record Matches (number : ℕ) (text buffer notice written : List ℕ) (visits : ℕ) (r : Matched) : Type 0 where
+  pub determined : RunsTable (outcomeOf number text (length buffer) notice) buffer notice written visits r
+  pub demand : (edition : Edition) (tree : Tree) → number ≡ editionNumber edition → Accepted text tree → length (encode (compile edition tree)) ≤ length buffer → noticeCheck notice ≡ WellFormed
+      → Met edition text notice (take (r .length) written) (r .number) (r .verdict) (r .steps) visits (r .machine)

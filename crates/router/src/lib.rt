@@ -20,17 +20,18 @@ use notice::Layout;
 
 pub mod matching;
 
-// "Translation answers number, place and table length, 0 if refused." A table stands at the buffer's start; a refusal changes no byte.
+// "Translation answers number, place and table length, 0 if refused.", in the edition that the caller names. A table stands at the buffer's start; a refusal changes no byte.
 #[no_mangle]
 pub extern "C" fn virentolex_translate(
+    edition: usize,
     text: &[u8],
     buffer: &mut [u8],
     place: &mut usize,
     len: &mut usize,
 ) -> u8
-    ensures { λ r. ⌜ Answers (translationOf (now (text .entry)) (length (now (buffer .entry)))) (now (buffer .entry)) (now (buffer .exit)) (record { number = r; place = now (place .exit); length = now (len .exit) }) ⌝ }
+    ensures { λ r. ⌜ Answers (translationOf edition (now (text .entry)) (length (now (buffer .entry)))) (now (buffer .entry)) (now (buffer .exit)) (record { number = r; place = now (place .exit); length = now (len .exit) }) ⌝ }
 {
-    let t = translator::translate(text, buffer);
+    let t = translator::translate(edition, text, buffer);
     *place = t.place;
     *len = t.length;
     t.number

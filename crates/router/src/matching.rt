@@ -69,12 +69,18 @@ fn check_and_run<'a>(table: &'a [u8], notice: &'a [u8], visits: usize) -> Matche
     }
 }
 
-// Translates the text into the buffer, then checks the table, of the length that translation answers, and runs it on the notice. It asks for a notice found well-formed.
-fn translate_and_run(text: &[u8], buffer: &mut [u8], notice: &[u8], visits: usize) -> Matched
+// Translates the text into the buffer in the edition named, then checks the table, of the length that translation answers, and runs it on the notice. It asks for a notice found well-formed.
+fn translate_and_run(
+    edition: usize,
+    text: &[u8],
+    buffer: &mut [u8],
+    notice: &[u8],
+    visits: usize,
+) -> Matched
     requires { ⌜ noticeCheck (now notice) ≡ WellFormed ⌝ }
-    ensures { λ r. ⌜ RunsTable (translationOf (now (text .entry)) (length (now (buffer .entry)))) (now (buffer .entry)) (now (notice .entry)) (now (buffer .exit)) visits r ⌝ }
+    ensures { λ r. ⌜ RunsTable (translationOf edition (now (text .entry)) (length (now (buffer .entry)))) (now (buffer .entry)) (now (notice .entry)) (now (buffer .exit)) visits r ⌝ }
 {
-    let t = translator::translate(text, buffer);
+    let t = translator::translate(edition, text, buffer);
     if t.number != 0 {
         return refused(t.number, t.place);
     }
@@ -82,14 +88,20 @@ fn translate_and_run(text: &[u8], buffer: &mut [u8], notice: &[u8], visits: usiz
     check_and_run(&buffer[0..end], notice, visits)
 }
 
-// Judges the notice, then translates the text into the buffer, checks the table and runs it on the notice. A refusal leaves every byte of the buffer as it was; a table stands at the buffer's start, and every later byte stays.
+// Judges the notice, then translates the text into the buffer in the edition named, checks the table and runs it on the notice. A refusal leaves every byte of the buffer as it was; a table stands at the buffer's start, and every later byte stays.
 // `visits` is the number of visits after which the runner's machine is answered; where something is refused it is a machine that made none.
-pub fn match_text(text: &[u8], buffer: &mut [u8], notice: &[u8], visits: usize) -> Matched
-    ensures { λ r. ⌜ Matches (now (text .entry)) (now (buffer .entry)) (now (notice .entry)) (now (buffer .exit)) visits r ⌝ }
+pub fn match_text(
+    edition: usize,
+    text: &[u8],
+    buffer: &mut [u8],
+    notice: &[u8],
+    visits: usize,
+) -> Matched
+    ensures { λ r. ⌜ Matches edition (now (text .entry)) (now (buffer .entry)) (now (notice .entry)) (now (buffer .exit)) visits r ⌝ }
 {
     let layout = notice::check(notice);
     match layout {
-        Layout::WellFormed => translate_and_run(text, buffer, notice, visits),
+        Layout::WellFormed => translate_and_run(edition, text, buffer, notice, visits),
         Layout::Fault(place) => refused(11, place),
     }
 }

@@ -26,7 +26,7 @@ use Rattle.session.specs.declared.Stop.{Stop}
 use Rattle.session.specs.declared.Stop.the-variants.{Full, Waiting, Ended}
 use Rattle.session.specs.declared.Answered.{Answered}
 use Rattle.session.specs.declared.Served.{Served}
-use Rattle.session.specs.Session.{textOf, translatedLine, ranLine, lineOf, tableAfter, Sound, onRecord}
+use Rattle.session.specs.Session.{edition, textOf, translatedLine, ranLine, lineOf, tableAfter, Sound, onRecord}
 use Rattle.session.specs.Serving.{bufferAfter, Serving, stopped, prepend, servingOf, Answers, Serves}
 use Rattle.session.proofs.Kept.{text-sound}
 
@@ -55,16 +55,16 @@ stored-front xs d h =
     let z : 0 + length xs ≤ length d = omega arith in
     ap (λ (l : List ℕ). take (length xs) l) (sets-eq xs d 0 z) ∙ take-append-seam xs (drop (0 + length xs) d)
 
-pub text-answers : (r t b out b′ out′ x : List ℕ) (at next : ℕ) (y : Translated) → Bytes r → x ≡ textOf r → Translates (translationOf x (length b)) b b′ y
+pub text-answers : (r t b out b′ out′ x : List ℕ) (at next : ℕ) (y : Translated) → Bytes r → x ≡ textOf r → Translates (translationOf edition x (length b)) b b′ y
     → Put out at (textLine (y .number) (y .place) (y .length)) out′ next → next ≤ at + lineRoom → Answers 3 r t b out at b′ out′ (record { held = y .length; next = next })
 text-answers r t b out b′ out′ x at next y br ex q p h =
-    let o : Outcome = translationOf (textOf r) (length b) in
-    let eo : translationOf x (length b) ≡ o = ap (λ (l : List ℕ). translationOf l (length b)) ex in
+    let o : Outcome = translationOf edition (textOf r) (length b) in
+    let eo : translationOf edition x (length b) ≡ o = ap (λ (l : List ℕ). translationOf edition l (length b)) ex in
     let ey : y ≡ answerOf o = q .answer ∙ ap answerOf eo in
     let n : y .length ≡ length (o .table) = ap (λ (v : Translated). v .length) ey in
     let eb : b′ ≡ sets b 0 (o .table) = q .bytes ∙ ap (λ (v : Outcome). sets b 0 (v .table)) eo in
     let l : length b′ ≡ length b = ap length eb ∙ length-sets b 0 (o .table) in
-    let f : length (o .table) ≤ length b = fits-room (textOf r) (length b) in
+    let f : length (o .table) ≤ length b = fits-room edition (textOf r) (length b) in
     let w : y .length ≤ length b′ = omega arith in
     let et : take (y .length) b′ ≡ o .table = ap₂ (λ (k : ℕ) (d : List ℕ). take k d) n eb ∙ stored-front (o .table) b f in
     record {

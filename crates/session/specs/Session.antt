@@ -19,6 +19,10 @@ use Rattle.translator.specs.Translation.{Outcome, translationOf}
 use Rattle.interpreter.specs.Running.{runningOf}
 use Rattle.interpreter.specs.declared.Ran.{Ran}
 
+-- request 9: "`verdict` names 1"
+abbrev pub edition : ℕ
+edition = 1
+
 -- the text of a record of kind 3: what follows its length and its kind
 abbrev pub textOf : List ℕ → List ℕ
 textOf r = drop 6 r
@@ -33,11 +37,11 @@ ranLine a = noticeLine (a .number) (a .verdict) (a .steps) (a .place) (a .undeci
 -- six first bytes. An empty table fails the check: "no table gives 12".
 abbrev pub lineOf : ℕ → List ℕ → ℕ → List ℕ → List ℕ
 lineOf room table kind r =
-    pick (eqb kind 3) (λ _. translatedLine (translationOf (textOf r) room)) (λ _. pick (eqb kind 1) (λ _. ranLine (runningOf table r)) (λ _. kindLine kind))
+    pick (eqb kind 3) (λ _. translatedLine (translationOf edition (textOf r) room)) (λ _. pick (eqb kind 1) (λ _. ranLine (runningOf table r)) (λ _. kindLine kind))
 
 -- "a subscription text, which replaces the last one even if refused": a refused one leaves no table
 abbrev pub tableAfter : ℕ → List ℕ → ℕ → List ℕ → List ℕ
-tableAfter room table kind r = pick (eqb kind 3) (λ _. translationOf (textOf r) room .table) (λ _. table)
+tableAfter room table kind r = pick (eqb kind 3) (λ _. translationOf edition (textOf r) room .table) (λ _. table)
 
 -- what is kept of the texts: no table, or one that passes the check, as the table of every accepted text does
 abbrev pub Sound : List ℕ → Type 0

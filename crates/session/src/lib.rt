@@ -18,12 +18,12 @@ struct Answered {
     next: usize,
 }
 
-// Kind 3. It asks for the kind, which the record reader found, and for room for a line.
+// Kind 3, in the first edition. It asks for the kind, which the record reader found, and for room for a line.
 fn answer_text(bytes: &[u8], table: &mut [u8], out: &mut [u8], at: usize) -> Answered
     requires { ⌜ (6 ≤ length (now bytes)) × (at + lineRoom ≤ length (now out)) ⌝ }
     ensures { λ r. ⌜ ((t : List ℕ) → Answers 3 (now (bytes .entry)) t (now (table .entry)) (now (out .entry)) at (now (table .exit)) (now (out .exit)) r) ⌝ }
 {
-    let t = translator::translate(&bytes[6..], table);
+    let t = translator::translate(1, &bytes[6..], table);
     let next = record::put_text_line(out, at, t.number as u64, t.place as u64, t.length as u64);
     Answered {
         held: t.length,

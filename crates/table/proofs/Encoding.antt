@@ -1,15 +1,17 @@
 -- The bytes of a program, and the program of bytes: each is read back as it was written. Assumes nothing.
 use mathlib.Core.Path.{_≡_, refl, sym, ap, ap₂, _∙_}
+use mathlib.Core.Bool.{cond}
 use mathlib.Core.List.{List, [], _∷_, _++_, append-assoc}
 use Prim.Native.Nat.{ℕ, zero, suc, _+_, _*_, _-_, _^_, _/_, _≤_, _<_}
 use native.Mathlib.Omega.{arith}
-use lib.Dec.{lit<}
+use lib.Dec.{lit<, eqb}
 use lib.ListN.{length, getD, take, drop, length-append, take-append-drop}
 use lib.Seq.{drop-at, take-add, drop-drop, getD-drop}
 use Rattle.word.specs.Word.{wordAt, wordBytes, Bytes}
 use Rattle.word.proofs.Laws.{length-wordBytes}
 use Rattle.word.proofs.Theorems.{bytes-read, read-bytes, bounded}
-use Rattle.table.specs.Table.{Entry, blank, Program, entryBytes, entriesBytes, bodyBytes, encode, countOf, poolLengthOf, entryAt, entriesFrom, entriesOf, poolOf, decode}
+use Rattle.opcode.specs.declared.Edition.{Edition}
+use Rattle.table.specs.Table.{Entry, blank, Program, entryBytes, entriesBytes, tableKind, bodyBytes, encode, kindAt, editionOf, countOf, poolLengthOf, entryAt, entriesFrom, entriesOf, poolOf, decode}
 use Rattle.table.specs.Theorems.{Fits, Limits}
 use Rattle.table.proofs.Reading.{length-entries, entry-of}
 use Rattle.table.proofs.Laid.{Laid, pool-length}
@@ -61,44 +63,57 @@ entries-read (e ∷ es) i pre post s q l f =
     entries-read es (suc i) (pre ++ entryBytes e) post s (q ∙ simp append-assoc) (simp (length-append, length-wordBytes) (omega arith)) (λ k h. f (suc k) (omega arith)) in
     ap₂ (λ (z : Entry) (zs : List Entry). z ∷ zs) x y
 
+-- ---- the kind of an edition
+
+kind-small : (e : Edition) → tableKind e < 256 ^ 2
+kind-small Edition.First = lit< tt
+kind-small Edition.Second = lit< tt
+
+kind-tells : (e : Edition) → cond (eqb (tableKind e) (tableKind Edition.Second)) Edition.Second Edition.First ≡ e
+kind-tells Edition.First = refl
+kind-tells Edition.Second = refl
+
 -- the header of what was written
 module _ (p : Program) (l : Limits p) where
   word-read : wordAt 4 (encode p) 0 ≡ length (bodyBytes p)
   unfolding encode
   word-read = word-at 4 (length (bodyBytes p)) 0 [] (bodyBytes p) (encode p) refl refl (let m = l .few in let k = l .small in rw (length-body p) (omega arith))
 
-  kind-read : wordAt 2 (encode p) 4 ≡ 2
+  kind-read : kindAt (encode p) ≡ tableKind (p .edition)
   unfolding encode bodyBytes
-  kind-read = word-at 2 2 4 (wordBytes 4 (length (bodyBytes p))) _ (encode p) refl (length-wordBytes 4 (length (bodyBytes p))) (lit< tt)
+  kind-read = word-at 2 (tableKind (p .edition)) 4 (wordBytes 4 (length (bodyBytes p))) _ (encode p) refl (length-wordBytes 4 (length (bodyBytes p))) (kind-small (p .edition))
+
+  edition-same : editionOf (encode p) ≡ p .edition
+  edition-same = rw kind-read (kind-tells (p .edition))
 
   count-read : countOf (encode p) ≡ length (p .entries)
   unfolding encode bodyBytes
   count-read =
-      word-at 2 (length (p .entries)) 6 (wordBytes 4 (length (bodyBytes p)) ++ wordBytes 2 2) (wordBytes 2 (length (p .pool)) ++ (entriesBytes (p .entries) ++ p .pool)) (encode p) (simp append-assoc)
+      word-at 2 (length (p .entries)) 6 (wordBytes 4 (length (bodyBytes p)) ++ wordBytes 2 (tableKind (p .edition))) (wordBytes 2 (length (p .pool)) ++ (entriesBytes (p .entries) ++ p .pool)) (encode p) (simp append-assoc)
       (simp (length-append, length-wordBytes)) (let m = l .few in omega arith)
 
   size-read : poolLengthOf (encode p) ≡ length (p .pool)
   unfolding encode bodyBytes
   size-read =
-      word-at 2 (length (p .pool)) 8 (wordBytes 4 (length (bodyBytes p)) ++ (wordBytes 2 2 ++ wordBytes 2 (length (p .entries)))) (entriesBytes (p .entries) ++ p .pool) (encode p) (simp append-assoc)
+      word-at 2 (length (p .pool)) 8 (wordBytes 4 (length (bodyBytes p)) ++ (wordBytes 2 (tableKind (p .edition)) ++ wordBytes 2 (length (p .entries)))) (entriesBytes (p .entries) ++ p .pool) (encode p) (simp append-assoc)
       (simp (length-append, length-wordBytes)) (let m = l .small in omega arith)
 
   entries-same : entriesOf (encode p) ≡ p .entries
   unfolding encode bodyBytes
   entries-same =
       rw count-read
-      (entries-read (p .entries) 0 (wordBytes 4 (length (bodyBytes p)) ++ (wordBytes 2 2 ++ (wordBytes 2 (length (p .entries)) ++ wordBytes 2 (length (p .pool))))) (p .pool) (encode p) (simp append-assoc)
+      (entries-read (p .entries) 0 (wordBytes 4 (length (bodyBytes p)) ++ (wordBytes 2 (tableKind (p .edition)) ++ (wordBytes 2 (length (p .entries)) ++ wordBytes 2 (length (p .pool))))) (p .pool) (encode p) (simp append-assoc)
       (simp (length-append, length-wordBytes)) (l .fit))
 
   pool-same : poolOf (encode p) ≡ p .pool
   unfolding encode bodyBytes
   pool-same =
-      let pre = wordBytes 4 (length (bodyBytes p)) ++ (wordBytes 2 2 ++ (wordBytes 2 (length (p .entries)) ++ (wordBytes 2 (length (p .pool)) ++ entriesBytes (p .entries)))) in
+      let pre = wordBytes 4 (length (bodyBytes p)) ++ (wordBytes 2 (tableKind (p .edition)) ++ (wordBytes 2 (length (p .entries)) ++ (wordBytes 2 (length (p .pool)) ++ entriesBytes (p .entries)))) in
       let e : encode p ≡ pre ++ p .pool = simp append-assoc in
       rw (count-read, e) (drop-at pre (p .pool) (10 + 12 * length (p .entries)) (simp (length-append, length-wordBytes, length-entriesBytes) (omega arith)))
 
   pub read-written : decode (encode p) ≡ p
-  read-written = λ i. record { entries = entries-same i; pool = pool-same i }
+  read-written = λ i. record { edition = edition-same i; entries = entries-same i; pool = pool-same i }
 
   pub laid-out : Laid (encode p)
   laid-out =
@@ -107,7 +122,7 @@ module _ (p : Program) (l : Limits p) where
       record {
         head = omega arith;
         word = omega (arith, word-read);
-        kind = kind-read;
+        kind = rw edition-same kind-read;
         some-entry = rw count-read (l .some-entry);
         few = rw count-read (l .few);
         small = rw size-read (l .small);
@@ -158,7 +173,7 @@ module _ (s : List ℕ) (by : Bytes s) where
         let w = l .whole in
         let h = l .head in
         let e4 : wordBytes 4 (length (bodyBytes (decode s))) ≡ take 4 (drop 0 s) = ap (wordBytes 4) body-length ∙ read-bytes 4 0 s by (omega arith) in
-        let e2 : wordBytes 2 2 ≡ take 2 (drop 4 s) = ap (wordBytes 2) (sym (l .kind)) ∙ read-bytes 2 4 s by (omega arith) in
+        let e2 : wordBytes 2 (tableKind (editionOf s)) ≡ take 2 (drop 4 s) = ap (wordBytes 2) (sym (l .kind)) ∙ read-bytes 2 4 s by (omega arith) in
         let en : wordBytes 2 (length (entriesOf s)) ≡ take 2 (drop 6 s) = ap (wordBytes 2) (length-entries s) ∙ read-bytes 2 6 s by (omega arith) in
         let ep : wordBytes 2 (length (poolOf s)) ≡ take 2 (drop 8 s) = ap (wordBytes 2) (pool-length s l) ∙ read-bytes 2 8 s by (omega arith) in
         let ee : entriesBytes (entriesOf s) ≡ take (12 * countOf s) (drop 10 s) = entries-written (countOf s) 0 (omega arith) in
@@ -203,7 +218,7 @@ written-bytes p b =
     let t = entriesBytes (p .entries) ++ p .pool in
     let u = wordBytes 2 (length (p .pool)) ++ t in
     let v = wordBytes 2 (length (p .entries)) ++ u in
-    word-first 4 (length (bodyBytes p)) (wordBytes 2 2 ++ v)
-    (word-first 2 2 v
+    word-first 4 (length (bodyBytes p)) (wordBytes 2 (tableKind (p .edition)) ++ v)
+    (word-first 2 (tableKind (p .edition)) v
     (word-first 2 (length (p .entries)) u
     (word-first 2 (length (p .pool)) t (bytes-append (entriesBytes (p .entries)) (p .pool) (bytes-entries (p .entries)) b))))

@@ -1,19 +1,33 @@
 -- What the layout says, part by part. Assumes nothing.
-use mathlib.Core.Path.{_≡_}
-use mathlib.Core.Bool.{true}
+use mathlib.Core.Path.{_≡_, refl, _∙_, sym}
+use mathlib.Core.Bool.{Bool, true, false, cond, _||_, or-false}
 use mathlib.Core.List.{List}
 use Prim.Native.Nat.{ℕ, _+_, _*_, _≤_, _<_}
 use native.Mathlib.Omega.{arith}
+use lib.Dec.{eqb}
 use lib.ListN.{length, length-drop}
 use borrow.Author.Tests.{leb-true, le-leb, eqb-true, eq-eqb}
 use Rattle.word.specs.Word.{wordAt}
-use Rattle.table.specs.Table.{countOf, poolLengthOf, poolOf, layoutOf}
+use Rattle.opcode.specs.declared.Edition.{Edition}
+use Rattle.table.specs.Table.{tableKind, kindAt, editionOf, countOf, poolLengthOf, poolOf, layoutOf}
 use Rattle.table.proofs.Tests.{both-true, are-true}
+
+-- a right kind is that of the edition that it tells
+kind-told : (k : ℕ) → (eqb k (tableKind Edition.First) || eqb k (tableKind Edition.Second)) ≡ true → k ≡ tableKind (cond (eqb k (tableKind Edition.Second)) Edition.Second Edition.First)
+kind-told k e = go (eqb k 4) refl e
+  where
+    go : (t : Bool) → eqb k 4 ≡ t → (eqb k 2 || t) ≡ true → k ≡ tableKind (cond t Edition.Second Edition.First)
+    go true q h = eqb-true k 4 q
+    go false q h = eqb-true k 2 (sym (or-false (eqb k 2)) ∙ h)
+
+kind-right : (k : ℕ) (e : Edition) → k ≡ tableKind e → (eqb k (tableKind Edition.First) || eqb k (tableKind Edition.Second)) ≡ true
+kind-right k Edition.First q = rw q
+kind-right k Edition.Second q = rw q
 
 pub record Laid (s : List ℕ) : Type 0 where
   pub head : 10 ≤ length s
   pub word : 4 + wordAt 4 s 0 ≡ length s
-  pub kind : wordAt 2 s 4 ≡ 2
+  pub kind : kindAt s ≡ tableKind (editionOf s)
   pub some-entry : 1 ≤ countOf s
   pub few : countOf s ≤ 512
   pub small : poolLengthOf s ≤ 4096
@@ -32,7 +46,7 @@ module _ (s : List ℕ) where
       record {
         head = leb-true _ _ (a .0);
         word = eqb-true _ _ (b .0);
-        kind = eqb-true _ _ (c .0);
+        kind = kind-told (kindAt s) (c .0);
         some-entry = leb-true _ _ (n .0);
         few = leb-true _ _ (n .1);
         small = leb-true _ _ (p .0);
@@ -44,7 +58,7 @@ module _ (s : List ℕ) where
   keeps l =
       are-true _ _ (le-leb _ _ (l .head))
       (are-true _ _ (eq-eqb _ _ (l .word))
-      (are-true _ _ (eq-eqb _ _ (l .kind))
+      (are-true _ _ (kind-right (kindAt s) (editionOf s) (l .kind))
       (are-true _ _ (are-true _ _ (le-leb _ _ (l .some-entry)) (le-leb _ _ (l .few)))
       (are-true _ _ (le-leb _ _ (l .small)) (eq-eqb _ _ (l .whole))))))
 

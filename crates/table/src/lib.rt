@@ -1,4 +1,4 @@
-// Tables: layout, decoding and the check. Document 01, "Table"; document 02, request 1: the patterns of `wildcard`. Every function takes a slice that is exactly the table, wherever it lies.
+// Tables: layout, decoding and the check. Document 01, "Table"; document 02, request 1: the patterns of `wildcard`; request 9: the editions. Every function takes a slice that is exactly the table, wherever it lies.
 ghost use mathlib.Core.Path.{_≡_};
 ghost use mathlib.Core.Bool.{Bool, true, _&&_};
 ghost use mathlib.Core.List.{List};
@@ -7,12 +7,13 @@ ghost use Prim.Native.Nat.{ℕ, suc, _+_, _*_, _≤_, _<_};
 ghost use lib.Dec.{leb, eqb};
 ghost use lib.ListN.{length, getD, replicate};
 ghost use Rattle.opcode.specs.Opcode.{opOf, Kind, logic, value};
-ghost use Rattle.table.specs.Table.{countOf, entryAt, entriesOf, poolOf, layoutOf};
+ghost use Rattle.table.specs.Table.{tableKind, countOf, editionOf, entryAt, entriesOf, poolOf, layoutOf};
 ghost use Rattle.table.specs.Check.{inRange, partRight, loadRight, entryRight, popOne, pop, push, patternTest, operandRight, operandsRight, patternsBefore, checkOf};
 ghost use Rattle.table.specs.Parts.{noParts, partsAt, partsOf};
 ghost use Rattle.table.specs.Groups.{groupOf, rightBy, takesBy, givesBy, skipBy};
 ghost use Rattle.table.specs.Number.{bitOf, numberOf, metBy, Landed};
 use groups::Group;
+use opcode::Edition;
 use opcode::Load;
 
 mod groups;
@@ -26,8 +27,20 @@ pub struct Entry {
 
 // ---- layout and decoding
 
-// "u16 kind 2"
-pub const KIND: u16 = 2;
+// "u16 kind 2"; request 9: "Tables of kind 4 shall be second edition"
+const FIRST_KIND: u16 = 2;
+
+const SECOND_KIND: u16 = 4;
+
+// The kind of a table of an edition.
+pub fn kind(edition: Edition) -> u16
+    ensures { λ r. ⌜ r ≡ tableKind edition ⌝ }
+{
+    match edition {
+        Edition::First => FIRST_KIND,
+        Edition::Second => SECOND_KIND,
+    }
+}
 
 // The most bytes of a table: the header, 512 entries and a pool of 4,096.
 pub const MOST_BYTES: usize = 10 + 12 * 512 + 4096;
@@ -38,6 +51,18 @@ pub fn count(table: &[u8]) -> usize
     ensures { λ r. ⌜ (r ≡ countOf (now (table .entry))) × (r < 65536) ⌝ }
 {
     word::read_u16(table, 6) as usize
+}
+
+// The edition of a table. It asks for the header.
+pub fn edition(table: &[u8]) -> Edition
+    requires { ⌜ 10 ≤ length (now table) ⌝ }
+    ensures { λ r. ⌜ r ≡ editionOf (now (table .entry)) ⌝ }
+{
+    if word::read_u16(table, 4) == SECOND_KIND {
+        Edition::Second
+    } else {
+        Edition::First
+    }
 }
 
 // The op, the a and the b of the entry i, each alone: where one of them is not needed, it is not read. They test nothing: they ask that the entry lies in the table, which the layout says of each.
@@ -94,7 +119,8 @@ fn layout_right(table: &[u8]) -> bool
     let n = count(table);
     let p = word::read_u16(table, 8) as usize;
     (4 + size == len)
-        & ((kind == KIND) & (((1 <= n) & (n <= 512)) & ((p <= 4096) & (10 + 12 * n + p == len))))
+        & (((kind == FIRST_KIND) | (kind == SECOND_KIND))
+            & (((1 <= n) & (n <= 512)) & ((p <= 4096) & (10 + 12 * n + p == len))))
 }
 
 // ---- an entry by itself

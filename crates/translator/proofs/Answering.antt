@@ -2,11 +2,13 @@
 use Prim.Native.Nat.{ℕ, zero, suc, _+_, _-_, _≤_, _<_}
 use native.Mathlib.Omega.{arith}
 use mathlib.Core.Path.{_≡_, refl, sym, ap, ap₂, _∙_, subst}
-use mathlib.Core.Bool.{Bool, true, false}
+use mathlib.Core.Bool.{Bool, true, false, not, _&&_, _||_, Bool·not-not}
 use mathlib.Core.List.{List, [], _∷_, _++_, map}
+use lib.Dec.{eqb}
 use lib.ListN.{length, getD, take, drop, length-map}
 use lib.Seq.{sets, sets-eq, take-append-seam, length-sets}
 use Rattle.word.specs.Word.{Bytes}
+use Rattle.opcode.specs.declared.Edition.{Edition}
 use Rattle.lexer.specs.Token.{Token, Placed, kindOf, Lexed, tokens, refused, tokensOf, kindsOf, startsOf}
 use Rattle.lexer.specs.Answer.{lexingOf}
 use Rattle.lexer.specs.declared.Lexing.{Lexing}
@@ -23,7 +25,7 @@ use Rattle.grammar.specs.declared.Parsed.{Parsed}
 use Rattle.grammar.specs.declared.Parsed.the-variants.{Whole, Broken}
 use Rattle.grammar.proofs.Sizes.{is-bad}
 use Rattle.translator.specs.Emit.{Known}
-use Rattle.translator.specs.Translation.{refusal, answerOf, ofResult, ofTokens, ofLexed, translationOf, Answers, Small}
+use Rattle.translator.specs.Translation.{refusal, answerOf, ofResult, ofTokens, ofLexed, translationIn, isEdition, editionBy, translationOf, Answers, Small}
 use Rattle.translator.specs.declared.Translated.{Translated}
 use Rattle.translator.proofs.Brought.{totalOf, tree-small}
 use Rattle.translator.proofs.Lexed.{tokensOnly, LexedText, lexed-text}
@@ -43,17 +45,17 @@ known ks small a b =
     let w = whole-told (parseAll ks) (sym a ∙ b) in
     record { tree = w .0; is-ok = w .1 ∙ ap (ok (w .0)) (whole-level ks (w .1) .1); has = w .2; small = small (w .0) _ (w .1) }
 
-module _ (long : ℕ) (kinds starts : List ℕ) (room : ℕ) (ks : List Token) {was : List ℕ} {r : Translated} where
-  pub answers-deep : {b : Bool} → b ≡ tooDeep kinds → b ≡ true → r ≡ answerOf (refusal 6 0) → Answers (ofTokens long kinds starts room ks) was was r
+module _ (edition : Edition) (long : ℕ) (kinds starts : List ℕ) (room : ℕ) (ks : List Token) {was : List ℕ} {r : Translated} where
+  pub answers-deep : {b : Bool} → b ≡ tooDeep kinds → b ≡ true → r ≡ answerOf (refusal 6 0) → Answers (ofTokens edition long kinds starts room ks) was was r
   unfolding ofTokens
   answers-deep e t q = rw (sym e ∙ t) (record { answer = q; bytes = refl })
 
-  pub answers-parsed : {now : List ℕ} {b : Bool} → b ≡ tooDeep kinds → b ≡ false → Answers (ofResult long starts room (parseAll ks)) was now r → Answers (ofTokens long kinds starts room ks) was now r
+  pub answers-parsed : {now : List ℕ} {b : Bool} → b ≡ tooDeep kinds → b ≡ false → Answers (ofResult edition long starts room (parseAll ks)) was now r → Answers (ofTokens edition long kinds starts room ks) was now r
   unfolding ofTokens
   answers-parsed e t a = rw (sym e ∙ t) a
 
   pub answers-broken : {b : Bool} {q : Parsed} {p n : ℕ} → b ≡ tooDeep kinds → b ≡ false → q ≡ grammar.answerOf (parseAll ks) → q ≡ Broken p → n ≡ getD starts p long → r ≡ answerOf (refusal 2 n)
-      → Answers (ofTokens long kinds starts room ks) was was r
+      → Answers (ofTokens edition long kinds starts room ks) was was r
   unfolding ofTokens ofResult
   answers-broken e t a b en er = rw (sym e ∙ t, is-bad (parseAll ks) a b) (record { answer = er ∙ ap (λ (m : ℕ). answerOf (refusal 2 m)) en; bytes = refl })
 
@@ -114,12 +116,32 @@ module _ {s : List ℕ} {n : ℕ} (t : Tokened s n) where
           omega (arith, tree-small (tokensIn s ks ps) l (omega arith), ap totalOf stand, t .text .total),
     )
 
-    pub translated : (room : ℕ) {was now : List ℕ} {r : Translated} → Answers (ofTokens (length s) ks ps room (tokensIn s ks ps)) was now r → Answers (translationOf s room) was now r
-    unfolding translationOf ofLexed
-    translated room a = rw (t .are, ← stand, ← ek, ← ep) a
+    pub translated : (edition : Edition) (room : ℕ) {was now : List ℕ} {r : Translated} → Answers (ofTokens edition (length s) ks ps room (tokensIn s ks ps)) was now r → Answers (translationIn edition s room) was now r
+    unfolding translationIn ofLexed
+    translated edition room a = rw (t .are, ← stand, ← ek, ← ep) a
 
-pub refused-first : (s : List ℕ) (room : ℕ) {q : Lexing} {k at : ℕ} {was : List ℕ} {r : Translated} → q ≡ lexingOf (tokensOf s) → q ≡ Refused k at → r ≡ answerOf (refusal k at) → Answers (translationOf s room) was was r
-unfolding translationOf ofLexed
-refused-first s room a b e =
+pub refused-first : (edition : Edition) (s : List ℕ) (room : ℕ) {q : Lexing} {k at : ℕ} {was : List ℕ} {r : Translated} → q ≡ lexingOf (tokensOf s) → q ≡ Refused k at → r ≡ answerOf (refusal k at) → Answers (translationIn edition s room) was was r
+unfolding translationIn ofLexed
+refused-first edition s room a b e =
     let w = refused-told (tokensOf s) (sym a ∙ b) in
     rw (w .1) (record { answer = e; bytes = refl })
+
+-- ---- the edition's number
+
+module _ (number : ℕ) where
+  is-edition : {t : Bool} → (not (eqb number 1) && not (eqb number 2)) ≡ t → isEdition number ≡ not t
+  is-edition = go (eqb number 1) (eqb number 2)
+    where
+      go : (a b : Bool) {t : Bool} → (not a && not b) ≡ t → (a || b) ≡ not t
+      go true b e = ap not e
+      go false b e = sym (Bool·not-not b) ∙ ap not e
+
+  module _ (s : List ℕ) (room : ℕ) {was : List ℕ} {r : Translated} where
+    pub answers-other : (not (eqb number 1) && not (eqb number 2)) ≡ true → r ≡ answerOf (refusal 25 0) → Answers (translationOf number s room) was was r
+    unfolding translationOf
+    answers-other h e = rw (is-edition h) (record { answer = e; bytes = refl })
+
+    pub answers-edition : {now : List ℕ} {edition : Edition} → (not (eqb number 1) && not (eqb number 2)) ≡ false → edition ≡ editionBy number → Answers (translationIn edition s room) was now r
+        → Answers (translationOf number s room) was now r
+    unfolding translationOf
+    answers-edition h e a = rw (is-edition h, ← e) a

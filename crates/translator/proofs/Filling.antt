@@ -12,7 +12,8 @@ use Rattle.common.specs.Choice.{pick}
 use Rattle.common.proofs.Stores.{sets-append}
 use Rattle.word.specs.Word.{wordBytes}
 use Rattle.word.proofs.Laws.{length-wordBytes}
-use Rattle.table.specs.Table.{entriesBytes, bodyBytes, encode}
+use Rattle.opcode.specs.declared.Edition.{Edition}
+use Rattle.table.specs.Table.{entriesBytes, tableKind, bodyBytes, encode}
 use Rattle.table.proofs.Encoding.{length-body, length-encode}
 use Rattle.lexer.specs.Token.{Token}
 use Rattle.grammar.specs.Tree.{Tree}
@@ -34,29 +35,30 @@ use Rattle.translator.proofs.Brought.{brought-all}
 
 -- ---- the header
 
-pub header-written : (s s1 s2 s3 s4 : List ℕ) (v n p : ℕ) → v ≡ 6 + 12 * n + p → s1 ≡ sets s 0 (wordBytes 4 v) → s2 ≡ sets s1 4 (wordBytes 2 2) → s3 ≡ sets s2 6 (wordBytes 2 n) → s4 ≡ sets s3 8 (wordBytes 2 p)
-    → s4 ≡ sets s 0 (headerBytes n p)
+pub header-written : (edition : Edition) (s s1 s2 s3 s4 : List ℕ) (v k n p : ℕ) → v ≡ 6 + 12 * n + p → k ≡ tableKind edition → s1 ≡ sets s 0 (wordBytes 4 v) → s2 ≡ sets s1 4 (wordBytes 2 k) → s3 ≡ sets s2 6 (wordBytes 2 n) → s4 ≡ sets s3 8 (wordBytes 2 p)
+    → s4 ≡ sets s 0 (headerBytes edition n p)
 unfolding wordBytes
-header-written s s1 s2 s3 s4 v n p e a b c d =
+header-written edition s s1 s2 s3 s4 v k n p e f a b c d =
     d
     ∙ ap (λ (l : List ℕ). sets l 8 (wordBytes 2 p))
-    (c ∙ ap (λ (l : List ℕ). sets l 6 (wordBytes 2 n)) (b ∙ ap (λ (l : List ℕ). sets l 4 (wordBytes 2 2)) (a ∙ ap (λ (w : ℕ). sets s 0 (wordBytes 4 w)) e)))
+    (c ∙ ap (λ (l : List ℕ). sets l 6 (wordBytes 2 n)) (b ∙ ap₂ (λ (l : List ℕ) (m : ℕ). sets l 4 (wordBytes 2 m)) (a ∙ ap (λ (w : ℕ). sets s 0 (wordBytes 4 w)) e) f))
 
-length-header : (n p : ℕ) → length (headerBytes n p) ≡ 10
-length-header n p = simp (length-append, length-wordBytes)
+length-header : (edition : Edition) (n p : ℕ) → length (headerBytes edition n p) ≡ 10
+length-header edition n p = simp (length-append, length-wordBytes)
 
 -- ---- the whole table
 
-pub table-size : (t : Tree) → length (encode (compile t)) ≡ entryStart (entriesOf t) + poolOf t
-table-size t = omega (arith, length-encode (compile t), size t 0, pool-size t)
+module _ (edition : Edition) (t : Tree) where
+  pub table-size : length (encode (compile edition t)) ≡ entryStart (entriesOf t) + poolOf t
+  table-size = omega (arith, length-encode (compile edition t), size t 0, pool-size t)
 
-table-is : (t : Tree) → encode (compile t) ≡ headerBytes (entriesOf t) (poolOf t) ++ (entriesBytes (codeOf 0 t) ++ bytesOf t)
-unfolding encode bodyBytes
-table-is t =
-    let n = size t 0 in
-    let p = pool-size t in
-    let b : length (bodyBytes (compile t)) ≡ 6 + 12 * entriesOf t + poolOf t = omega (arith, length-body (compile t), n, p) in
-    rw (b, n, p) (simp append-assoc)
+  table-is : encode (compile edition t) ≡ headerBytes edition (entriesOf t) (poolOf t) ++ (entriesBytes (codeOf 0 t) ++ bytesOf t)
+  unfolding encode bodyBytes
+  table-is =
+      let n = size t 0 in
+      let p = pool-size t in
+      let b : length (bodyBytes (compile edition t)) ≡ 6 + 12 * entriesOf t + poolOf t = omega (arith, length-body (compile edition t), n, p) in
+      rw (b, n, p) (simp append-assoc)
 
 -- the whole of the tokens is one expression
 pub whole-level : (ks : List Token) {t : Tree} {n : ℕ} → parseAll ks ≡ ok t n → (levelOf ks 0 0 ≡ ok t (length ks)) × (n ≡ length ks)
@@ -95,23 +97,23 @@ module _ {ks : List Token} {entries pool long : ℕ} (j : Judged ks entries pool
   pub header-fits : 10 ≤ long
   header-fits = omega (arith, j .room)
 
-  pub table-filled : {was head mid now : List ℕ} {r : Emitted} → head ≡ sets was 0 (headerBytes entries pool) → Writes (levelOf ks 0 0) 0 0 head mid r → now ≡ sets mid (10 + 12 * entries) (broughtFrom ks 0 (length ks)) → Filled ks was now
-  table-filled {was} {head} {mid} {now} h w p =
+  pub table-filled : (edition : Edition) {was head mid now : List ℕ} {r : Emitted} → head ≡ sets was 0 (headerBytes edition entries pool) → Writes (levelOf ks 0 0) 0 0 head mid r → now ≡ sets mid (10 + 12 * entries) (broughtFrom ks 0 (length ks)) → Filled edition ks was now
+  table-filled edition {was} {head} {mid} {now} h w p =
       let t = j .tree in
       let l = whole-level ks (j .is-ok) .0 in
       let same : w .tree ≡ t = let x = w .is-ok in cc in
       let code = entriesBytes (codeOf 0 t) in
       let n : length code ≡ 12 * entriesOf t = length-entries (codeOf 0 t) ∙ ap (λ (m : ℕ). 12 * m) (size t 0) in
-      let lh = length-header (entriesOf t) (poolOf t) in
-      let a : head ≡ sets was 0 (headerBytes (entriesOf t) (poolOf t)) = h ∙ ap₂ (λ (x y : ℕ). sets was 0 (headerBytes x y)) (j .entries-are) (j .pool-is) in
+      let lh = length-header edition (entriesOf t) (poolOf t) in
+      let a : head ≡ sets was 0 (headerBytes edition (entriesOf t) (poolOf t)) = h ∙ ap₂ (λ (x y : ℕ). sets was 0 (headerBytes edition x y)) (j .entries-are) (j .pool-is) in
       let b : mid ≡ sets head 10 code = w .bytes ∙ ap (λ (u : Tree). sets head 10 (entriesBytes (codeOf 0 u))) same in
       let c : now ≡ sets mid (10 + length code) (bytesOf t) = p ∙ ap₂ (λ (x : ℕ) (y : List ℕ). sets mid x y) (omega (arith, n, j .entries-are)) (brought-all ks l) in
       let two : now ≡ sets head 10 (code ++ bytesOf t) = c ∙ ap (λ (o : List ℕ). sets o (10 + length code) (bytesOf t)) b ∙ sym (sets-append code (bytesOf t) head 10) in
-      let three : now ≡ sets was 0 (headerBytes (entriesOf t) (poolOf t) ++ (code ++ bytesOf t)) =
+      let three : now ≡ sets was 0 (headerBytes edition (entriesOf t) (poolOf t) ++ (code ++ bytesOf t)) =
       two ∙ ap (λ (o : List ℕ). sets o 10 (code ++ bytesOf t)) a
-      ∙ ap (λ (m : ℕ). sets (sets was 0 (headerBytes (entriesOf t) (poolOf t))) m (code ++ bytesOf t)) (omega (arith, lh))
-      ∙ sym (sets-append (headerBytes (entriesOf t) (poolOf t)) (code ++ bytesOf t) was 0) in
-      record { tree = t; is-ok = j .is-ok; bytes = three ∙ ap (sets was 0) (sym (table-is t)) }
+      ∙ ap (λ (m : ℕ). sets (sets was 0 (headerBytes edition (entriesOf t) (poolOf t))) m (code ++ bytesOf t)) (omega (arith, lh))
+      ∙ sym (sets-append (headerBytes edition (entriesOf t) (poolOf t)) (code ++ bytesOf t) was 0) in
+      record { tree = t; is-ok = j .is-ok; bytes = three ∙ ap (sets was 0) (sym (table-is edition t)) }
 
 -- ---- the refusals of a tree
 
@@ -162,17 +164,17 @@ free f room e = go (f .forms) (f .patterns) (f .kinds) (f .logic) (ltb 512 (f .e
     go true true true true false false false p y q r s t u z =
         record { forms = p; patterns = y; kinds = q; logic = r; few = ltb-false 512 (f .entries) s; shallow = ltb-false 32 (f .depth) t; fits = ltb-false room (entryStart (f .entries) + f .pool) u }
 
-pub refusal-by : (t : Tree) (room : ℕ) → refusalOf t room ≡ refusalBy (foundOf t) room
+pub refusal-by : (edition : Edition) (t : Tree) (room : ℕ) → refusalOf edition t room ≡ refusalBy (foundOf t) room
 unfolding refusalOf
-refusal-by t room = rw (table-size t)
+refusal-by edition t room = rw (table-size edition t)
 
 module _ {ks : List Token} {f : Found} (k : Known ks f) (room : ℕ) {n : ℕ} (en : n ≡ refusalBy f room) where
-  number-is : refusalOf (k .tree) room ≡ n
-  number-is = refusal-by (k .tree) room ∙ ap (λ (g : Found). refusalBy g room) (k .has) ∙ sym en
+  number-is : (edition : Edition) → refusalOf edition (k .tree) room ≡ n
+  number-is edition = refusal-by edition (k .tree) room ∙ ap (λ (g : Found). refusalBy g room) (k .has) ∙ sym en
 
-  pub answers-refused : (long : ℕ) (starts : List ℕ) {was : List ℕ} {r : Translated} → (n ≡ 0 → ⊥) → r ≡ answerOf (refusal n 0) → Answers (ofResult long starts room (parseAll ks)) was was r
+  pub answers-refused : (edition : Edition) (long : ℕ) (starts : List ℕ) {was : List ℕ} {r : Translated} → (n ≡ 0 → ⊥) → r ≡ answerOf (refusal n 0) → Answers (ofResult edition long starts room (parseAll ks)) was was r
   unfolding ofResult ofTree
-  answers-refused long starts z e = rw (k .is-ok, number-is, ne-eqb n 0 z) (record { answer = e; bytes = refl })
+  answers-refused edition long starts z e = rw (k .is-ok, number-is edition, ne-eqb n 0 z) (record { answer = e; bytes = refl })
 
   pub judged : n ≡ 0 → Judged ks (f .entries) (f .pool) room
   judged z =
@@ -182,13 +184,13 @@ module _ {ks : List Token} {f : Found} (k : Known ks f) (room : ℕ) {n : ℕ} (
       let p = ap (λ (g : Found). g .pool) h in
       record { tree = k .tree; is-ok = k .is-ok; entries-are = sym e; pool-is = sym p; few = fr .few; small = omega (arith, p, k .small); room = fr .fits }
 
-  pub answers-table : (long : ℕ) (starts : List ℕ) {was now : List ℕ} {r : Translated} → n ≡ 0 → r ≡ tableAnswer (f .entries) (f .pool) → Filled ks was now
-      → Answers (ofResult long starts room (parseAll ks)) was now r
+  pub answers-table : (edition : Edition) (long : ℕ) (starts : List ℕ) {was now : List ℕ} {r : Translated} → n ≡ 0 → r ≡ tableAnswer (f .entries) (f .pool) → Filled edition ks was now
+      → Answers (ofResult edition long starts room (parseAll ks)) was now r
   unfolding ofResult ofTree
-  answers-table long starts {was} z e w =
+  answers-table edition long starts {was} z e w =
       let t = k .tree in
       let same : w .tree ≡ t = let x = w .is-ok in let y = k .is-ok in cc in
       let a = ap (λ (g : Found). g .entries) (k .has) in
       let b = ap (λ (g : Found). g .pool) (k .has) in
-      let len : entryStart (f .entries) + f .pool ≡ length (encode (compile t)) = omega (arith, table-size t, a, b) in
-      rw (k .is-ok, number-is, z) (record { answer = e ∙ ap (λ (x : ℕ). record { number = 0; place = 0; length = x }) len; bytes = w .bytes ∙ ap (λ (u : Tree). sets was 0 (encode (compile u))) same })
+      let len : entryStart (f .entries) + f .pool ≡ length (encode (compile edition t)) = omega (arith, table-size edition t, a, b) in
+      rw (k .is-ok, number-is edition, z) (record { answer = e ∙ ap (λ (x : ℕ). record { number = 0; place = 0; length = x }) len; bytes = w .bytes ∙ ap (λ (u : Tree). sets was 0 (encode (compile edition u))) same })

@@ -12,6 +12,7 @@ use Rattle.word.specs.Word.{Bytes}
 use Rattle.notice.specs.Field.{printable}
 use Rattle.notice.proofs.Keys.{printable-bytes}
 use Rattle.opcode.specs.Opcode.{logic}
+use Rattle.opcode.specs.declared.Edition.{Edition}
 use Rattle.table.specs.Table.{blank, encode, decode}
 use Rattle.table.specs.Check.{entriesRight, endRight, skipsRight, programRight, checkOf}
 use Rattle.table.specs.Theorems.{Limits}
@@ -55,8 +56,8 @@ mutual
   pool-bytes-in no-more = λ i. omega arith
   pool-bytes-in (one-more {ts} {t} d e f) = bytes-append (bytesIn ts) (bytesOf t) (pool-bytes-in d) (pool-bytes e)
 
-module _ (t : Tree) (d : Sound t) (few : entriesOf t ≤ 512) (small : poolOf t ≤ 4096) where
-  pub limits : Limits (compile t)
+module _ (edition : Edition) (t : Tree) (d : Sound t) (few : entriesOf t ≤ 512) (small : poolOf t ≤ 4096) where
+  pub limits : Limits (compile edition t)
   limits =
       let n = size t 0 in
       let p = pool-size t in
@@ -69,11 +70,11 @@ module _ (t : Tree) (d : Sound t) (few : entriesOf t ≤ 512) (small : poolOf t 
         bytes = pool-bytes d;
       }
 
-  pub decodes : decode (encode (compile t)) ≡ compile t
-  decodes = decode-encode (compile t) limits
+  pub decodes : decode (encode (compile edition t)) ≡ compile edition t
+  decodes = decode-encode (compile edition t) limits
 
-  pub compiled-passes : isLogic t ≡ true → formsRight t ≡ true → patternsRight t ≡ true → depthOf t ≤ 32 → checkOf (encode (compile t)) ≡ true
+  pub compiled-passes : isLogic t ≡ true → formsRight t ≡ true → patternsRight t ≡ true → depthOf t ≤ 32 → checkOf (encode (compile edition t)) ≡ true
   compiled-passes l f p h =
-      check-encode (compile t) limits
+      check-encode (compile edition t) limits
       ∙ are-true _ _ (all-right (bytesOf t) (codeOf 0 t) (λ i k. good-at t d small few i k .0))
       (are-true _ _ (eq-shape _ _ (leaves d 0 [] (omega arith) ∙ rw l)) (are-true _ _ (skips-right t d h) (patterns-right t d f p)))

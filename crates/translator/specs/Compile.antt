@@ -8,6 +8,7 @@ use lib.Ieee.{binary64, toBits}
 use lib.ListN.{length}
 use mir.Syntax.{w64}
 use mir.Val.{ofZ}
+use Rattle.opcode.specs.declared.Edition.{Edition}
 use Rattle.opcode.specs.Number.{int32Op, int64Op, real64Op, textOp, nameOp, andOp, orOp, skipIfFalseOp, skipIfTrueOp, beginsWithOp}
 use Rattle.lexer.specs.Token.{Token, name, int32, int64, real, text, symbol}
 use Rattle.grammar.specs.Tree.{Tree, leaf, group, unary, binary, call, Trees, none, _then_}
@@ -74,5 +75,6 @@ unfoldable mutual
   bytesIn none = []
   bytesIn (_then_ ts t) = bytesIn ts ++ bytesOf t
 
-abbrev pub compile : Tree → Program
-compile t = record { entries = codeOf 0 t; pool = bytesOf t }
+-- the table of an edition: the editions have the same entries and pool
+abbrev pub compile : Edition → Tree → Program
+compile e t = record { edition = e; entries = codeOf 0 t; pool = bytesOf t }

@@ -6,6 +6,7 @@ use mathlib.Core.List.{List, _++_}
 use lib.ListN.{length}
 use lib.Seq.{sets}
 use Rattle.word.specs.Word.{wordBytes}
+use Rattle.opcode.specs.declared.Edition.{Edition}
 use Rattle.table.specs.Table.{entriesBytes, tableKind, encode}
 use Rattle.lexer.specs.Token.{Token}
 use Rattle.grammar.specs.Tree.{Tree}
@@ -54,10 +55,10 @@ pub record Judged (ks : List Token) (entries pool long : ℕ) : Type 0 where
   pub room : entryStart entries + pool ≤ long
 
 -- The table of the tree stands at the start of the buffer, and every later byte is as it was.
-pub record Filled (ks : List Token) (was now : List ℕ) : Type 0 where
+pub record Filled (e : Edition) (ks : List Token) (was now : List ℕ) : Type 0 where
   pub tree : Tree
   pub is-ok : parseAll ks ≡ ok tree (length ks)
-  pub bytes : now ≡ sets was 0 (encode (compile tree))
+  pub bytes : now ≡ sets was 0 (encode (compile e tree))
 
 -- The tokens are one expression, of which this is known, and its pool is within the limits.
 pub record Known (ks : List Token) (f : Found) : Type 0 where
@@ -70,9 +71,9 @@ pub record Known (ks : List Token) (f : Found) : Type 0 where
 abbrev pub tableAnswer : ℕ → ℕ → Translated
 tableAnswer entries pool = record { number = 0; place = 0; length = entryStart entries + pool }
 
--- "u32 length of all after it; u16 kind 2; u16 entry count N ..; u16 pool length .."
-abbrev pub headerBytes : ℕ → ℕ → List ℕ
-headerBytes entries pool = wordBytes 4 (6 + 12 * entries + pool) ++ (wordBytes 2 tableKind ++ (wordBytes 2 entries ++ wordBytes 2 pool))
+-- "u32 length of all after it; u16 kind 2; u16 entry count N ..; u16 pool length ..", the kind by the edition
+abbrev pub headerBytes : Edition → ℕ → ℕ → List ℕ
+headerBytes e entries pool = wordBytes 4 (6 + 12 * entries + pool) ++ (wordBytes 2 (tableKind e) ++ (wordBytes 2 entries ++ wordBytes 2 pool))
 
 -- `refusalOf` of specs/Translation.antt, by what is known of the expression
 abbrev pub refusalBy : Found → ℕ → ℕ

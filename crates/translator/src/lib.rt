@@ -7,11 +7,12 @@ ghost use Rattle.lexer.specs.Kind.{naming, opening, ending};
 ghost use Rattle.grammar.specs.Parse.{levelOf, prefixOf, operandOf, parseAll};
 ghost use Rattle.grammar.specs.Stream.{tokensIn};
 ghost use Rattle.translator.specs.Emit.{Accepts, Writes, Judged, Filled, Known, tableAnswer, headerBytes, refusalBy};
-ghost use Rattle.translator.specs.Translation.{refusal, answerOf, ofResult, ofTokens, translationOf, Answers, Small};
+ghost use Rattle.translator.specs.Translation.{refusal, answerOf, ofResult, ofTokens, translationIn, editionBy, translationOf, Answers, Small};
 use grammar::Found;
 use grammar::Parsed;
 use grammar::stream;
 use lexer::Lexing;
+use opcode::Edition;
 
 mod entry;
 mod pool;
@@ -171,23 +172,31 @@ fn arguments(
     }
 }
 
-// "u32 length of all after it; u16 kind 2; u16 entry count N ..; u16 pool length .."
-fn put_header(out: &mut [u8], entries: usize, pool: usize)
+// "u32 length of all after it; u16 kind 2; u16 entry count N ..; u16 pool length ..", the kind by the edition.
+fn put_header(edition: Edition, out: &mut [u8], entries: usize, pool: usize)
     requires { ⌜ (entries ≤ 512) × (pool ≤ 4096) × (10 ≤ length (now out)) ⌝ }
-    ensures { λ _. ⌜ now (out .exit) ≡ sets (now (out .entry)) 0 (headerBytes entries pool) ⌝ }
+    ensures { λ _. ⌜ now (out .exit) ≡ sets (now (out .entry)) 0 (headerBytes edition entries pool) ⌝ }
 {
     word::write_u32(out, 0, (6 + 12 * entries + pool) as u32);
-    word::write_u16(out, 4, table::KIND);
+    word::write_u16(out, 4, table::kind(edition));
     word::write_u16(out, 6, entries as u16);
     word::write_u16(out, 8, pool as u16);
 }
 
 // The whole table: header, entries, pool.
-fn put_table(text: &[u8], kinds: &[u8], starts: &[u16], out: &mut [u8], entries: usize, pool: usize)
+fn put_table(
+    edition: Edition,
+    text: &[u8],
+    kinds: &[u8],
+    starts: &[u16],
+    out: &mut [u8],
+    entries: usize,
+    pool: usize,
+)
     requires { ⌜ (length (now text) ≤ 4096) × (length (now kinds) ≤ 4096) × Judged (tokensIn (now text) (now kinds) (now starts)) entries pool (length (now out)) ⌝ }
-    ensures { λ _. ⌜ Filled (tokensIn (now (text .entry)) (now (kinds .entry)) (now (starts .entry))) (now (out .entry)) (now (out .exit)) ⌝ }
+    ensures { λ _. ⌜ Filled edition (tokensIn (now (text .entry)) (now (kinds .entry)) (now (starts .entry))) (now (out .entry)) (now (out .exit)) ⌝ }
 {
-    put_header(out, entries, pool);
+    put_header(edition, out, entries, pool);
     level(text, kinds, starts, out, 0, 0, 0, 0);
     pool::put_pool(text, kinds, starts, out, 10 + 12 * entries);
 }
@@ -248,6 +257,7 @@ fn place_of(text: &[u8], starts: &[u16], p: usize) -> usize
 
 // Writes the table over the start of the buffer, once all is judged, and answers its length.
 fn accepted(
+    edition: Edition,
     text: &[u8],
     kinds: &[u8],
     starts: &[u16],
@@ -257,9 +267,9 @@ fn accepted(
 ) -> Translated
     requires { ⌜ (length (now text) ≤ 4096) × (length (now kinds) ≤ 4096) × Judged (tokensIn (now text) (now kinds) (now starts)) entries pool (length (now buffer)) ⌝ }
     ensures { λ r. ⌜ r ≡ tableAnswer entries pool ⌝ }
-    ensures { λ _. ⌜ Filled (tokensIn (now (text .entry)) (now (kinds .entry)) (now (starts .entry))) (now (buffer .entry)) (now (buffer .exit)) ⌝ }
+    ensures { λ _. ⌜ Filled edition (tokensIn (now (text .entry)) (now (kinds .entry)) (now (starts .entry))) (now (buffer .entry)) (now (buffer .exit)) ⌝ }
 {
-    put_table(text, kinds, starts, buffer, entries, pool);
+    put_table(edition, text, kinds, starts, buffer, entries, pool);
     Translated {
         number: 0,
         place: 0,
@@ -268,53 +278,93 @@ fn accepted(
 }
 
 // Of an expression: all is judged before the first byte is written.
-fn expression(text: &[u8], kinds: &[u8], starts: &[u16], buffer: &mut [u8], f: Found) -> Translated
+fn expression(
+    edition: Edition,
+    text: &[u8],
+    kinds: &[u8],
+    starts: &[u16],
+    buffer: &mut [u8],
+    f: Found,
+) -> Translated
     requires { ⌜ (length (now text) ≤ 4096) × (length (now kinds) ≤ 4096) × Known (tokensIn (now text) (now kinds) (now starts)) f ⌝ }
-    ensures { λ r. ⌜ Answers (ofResult (length (now (text .entry))) (now (starts .entry)) (length (now (buffer .entry))) (parseAll (tokensIn (now (text .entry)) (now (kinds .entry)) (now (starts .entry))))) (now (buffer .entry)) (now (buffer .exit)) r ⌝ }
+    ensures { λ r. ⌜ Answers (ofResult edition (length (now (text .entry))) (now (starts .entry)) (length (now (buffer .entry))) (parseAll (tokensIn (now (text .entry)) (now (kinds .entry)) (now (starts .entry))))) (now (buffer .entry)) (now (buffer .exit)) r ⌝ }
 {
     let number = first_refusal(f, buffer.len());
     if number != 0 {
         return refused(number, 0);
     }
-    accepted(text, kinds, starts, buffer, f.entries, f.pool)
+    accepted(edition, text, kinds, starts, buffer, f.entries, f.pool)
 }
 
 // Of the tokens of a text. It asks that the pool of what they say is within the limits, which holds of every text's tokens.
-fn tokens(text: &[u8], kinds: &[u8], starts: &[u16], buffer: &mut [u8]) -> Translated
+fn tokens(
+    edition: Edition,
+    text: &[u8],
+    kinds: &[u8],
+    starts: &[u16],
+    buffer: &mut [u8],
+) -> Translated
     requires { ⌜ (length (now text) ≤ 4096) × (length (now kinds) ≤ 4096) × Small (tokensIn (now text) (now kinds) (now starts)) ⌝ }
-    ensures { λ r. ⌜ Answers (ofTokens (length (now (text .entry))) (now (kinds .entry)) (now (starts .entry)) (length (now (buffer .entry))) (tokensIn (now (text .entry)) (now (kinds .entry)) (now (starts .entry)))) (now (buffer .entry)) (now (buffer .exit)) r ⌝ }
+    ensures { λ r. ⌜ Answers (ofTokens edition (length (now (text .entry))) (now (kinds .entry)) (now (starts .entry)) (length (now (buffer .entry))) (tokensIn (now (text .entry)) (now (kinds .entry)) (now (starts .entry)))) (now (buffer .entry)) (now (buffer .exit)) r ⌝ }
 {
     if grammar::too_deep(kinds) {
         return refused(6, 0);
     }
     match grammar::parse(text, kinds, starts) {
-        Parsed::Whole(_, f) => expression(text, kinds, starts, buffer, f),
+        Parsed::Whole(_, f) => expression(edition, text, kinds, starts, buffer, f),
         Parsed::Broken(p) => refused(2, place_of(text, starts, p)),
     }
 }
 
 // Text to table, with room for the tokens lent: an element for each byte, if the text is not too long.
-fn translate_in(text: &[u8], kinds: &mut [u8], starts: &mut [u16], buffer: &mut [u8]) -> Translated
+fn translate_in(
+    edition: Edition,
+    text: &[u8],
+    kinds: &mut [u8],
+    starts: &mut [u16],
+    buffer: &mut [u8],
+) -> Translated
     requires { ⌜ (length (now text) ≤ 4096 → length (now text) ≤ length (now kinds)) × (length (now text) ≤ 4096 → length (now text) ≤ length (now starts)) ⌝ }
-    ensures { λ r. ⌜ Answers (translationOf (now (text .entry)) (length (now (buffer .entry)))) (now (buffer .entry)) (now (buffer .exit)) r ⌝ }
+    ensures { λ r. ⌜ Answers (translationIn edition (now (text .entry)) (length (now (buffer .entry)))) (now (buffer .entry)) (now (buffer .exit)) r ⌝ }
 {
     match lexer::lex(text, kinds, starts) {
-        Lexing::Tokens(n) => tokens(text, &kinds[0..n], &starts[0..n], buffer),
+        Lexing::Tokens(n) => tokens(edition, text, &kinds[0..n], &starts[0..n], buffer),
         Lexing::Refused(number, place) => refused(number, place),
     }
 }
 
-// Text to table. A refusal leaves every byte of the buffer as it was; a table stands at the buffer's start, and every later byte stays.
+// Text to table of an edition. A refusal leaves every byte of the buffer as it was; a table stands at the buffer's start, and every later byte stays.
 // A short text has short arrays, since every element of an array is set before it is used.
-pub fn translate(text: &[u8], buffer: &mut [u8]) -> Translated
-    ensures { λ r. ⌜ Answers (translationOf (now (text .entry)) (length (now (buffer .entry)))) (now (buffer .entry)) (now (buffer .exit)) r ⌝ }
+fn translate_edition(edition: Edition, text: &[u8], buffer: &mut [u8]) -> Translated
+    ensures { λ r. ⌜ Answers (translationIn edition (now (text .entry)) (length (now (buffer .entry)))) (now (buffer .entry)) (now (buffer .exit)) r ⌝ }
 {
     if text.len() <= 256 {
         let mut few = [0u8; 256];
         let mut places = [0u16; 256];
-        return translate_in(text, &mut few, &mut places, buffer);
+        return translate_in(edition, text, &mut few, &mut places, buffer);
     }
     let mut kinds = [0u8; 4096];
     let mut starts = [0u16; 4096];
-    translate_in(text, &mut kinds, &mut starts, buffer)
+    translate_in(edition, text, &mut kinds, &mut starts, buffer)
+}
+
+// Request 9: "The caller names the edition when translating", 1 or 2.
+fn named(number: usize) -> Edition
+    ensures { λ r. ⌜ r ≡ editionBy number ⌝ }
+{
+    if number == 1 {
+        Edition::First
+    } else {
+        Edition::Second
+    }
+}
+
+// Text to table of the edition named; "25 for an edition other than 1 or 2, before 10."
+pub fn translate(edition: usize, text: &[u8], buffer: &mut [u8]) -> Translated
+    ensures { λ r. ⌜ Answers (translationOf edition (now (text .entry)) (length (now (buffer .entry)))) (now (buffer .entry)) (now (buffer .exit)) r ⌝ }
+{
+    if (edition != 1) & (edition != 2) {
+        return refused(25, 0);
+    }
+    translate_edition(named(edition), text, buffer)
 }

@@ -1,4 +1,4 @@
-// Translates each text on standard input into a lent part of a buffer, whose length stands before the text.
+// Translates each text on standard input into a lent part of a buffer, in an edition: the part's length and the edition's number stand before the text.
 // Prints number, place and table length, the table, and whether every later byte of the buffer, also past the lent part, is as it was.
 ghost use Prim.Native.Nat.{_≤_};
 ghost use lib.ListN.{length};
@@ -40,19 +40,19 @@ fn put_buffer(buffer: &[u8], len: usize) {
     }
 }
 
-fn answer(text: &[u8], buffer: &mut [u8], room: usize)
+fn answer(edition: usize, text: &[u8], buffer: &mut [u8], room: usize)
     requires { ⌜ room ≤ length (now buffer) ⌝ }
 {
-    let t = translator::translate(text, &mut buffer[0..room]);
+    let t = translator::translate(edition, text, &mut buffer[0..room]);
     put_number(t.number as u64);
     put_number(t.place as u64);
     put_number(t.length as u64);
     put_buffer(buffer, t.length);
 }
 
-// One length and one text. Answers whether there were both.
+// One length with an edition's number, and one text. Answers whether there were both.
 fn next_case() -> bool {
-    let mut head = [0u8; 4];
+    let mut head = [0u8; 12];
     let mut text = [0u8; 8192];
     let mut buffer = [0xa5u8; 65600];
     let first = cases::next_part(&mut head);
@@ -61,11 +61,12 @@ fn next_case() -> bool {
         return false;
     }
     let room = word::read_u32(&head, 0) as usize;
+    let edition = word::read_u64(&head, 4) as usize;
     if 65600 < room {
         return false;
     }
     let n = second.len;
-    answer(&text[0..n], &mut buffer, room);
+    answer(edition, &text[0..n], &mut buffer, room);
     true
 }
 

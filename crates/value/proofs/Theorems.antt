@@ -23,6 +23,7 @@ use Rattle.utf8.specs.declared.Counted.the-variants.{Characters, IllFormed}
 use Rattle.utf8.specs.Utf8.{HasCharacters, WellFormed, Counts}
 use Rattle.utf8.specs.Scan.{countOf}
 use Rattle.utf8.proofs.Theorems.{one-answer, right, counted-is}
+use Rattle.opcode.specs.declared.Edition.{Edition}
 use Rattle.opcode.specs.declared.Load.{Load}
 use Rattle.opcode.specs.declared.Arithmetic.{Arithmetic}
 use Rattle.opcode.specs.declared.Bitwise.{Bitwise}
@@ -46,7 +47,7 @@ use Rattle.notice.specs.Layout.{fieldsOf}
 use Rattle.notice.specs.Lookup.{lookupOf, fieldNamed, FoundIs}
 use Rattle.notice.proofs.Theorems.{lookup}
 use Rattle.value.specs.Value.{Value, bottom, opaque, Item, logic, value, numberOf, valueOf, typeOf, isText, textIn, sizeBy, equalValues, combineNumbers, combineOf, compareOf, fitOf, allTexts, anyFits, anyFit, anyEqual, fitValues, truthIn, valueIn, strictOr, tallyOf, startOf, fieldValue, foundValue, namedValue, valueNamed, inPool, int32, int64, real, text}
-use Rattle.value.specs.Theorems.{UnaryKind, BinaryKind, ManyKind, LoadKind, StrictUnary, StrictBinary, StrictMany, SizeCharacters, SizeBottom, SizeFolded, LaterNoText, EqualsTrue, FalseAnd, TrueOr, EqualOtherwise, Tally, ValueNamed, LoadInt32, LoadInt64, LoadReal64, LoadText, LoadName}
+use Rattle.value.specs.Theorems.{UnaryKind, BinaryKind, ManyKind, LoadKind, ShiftsAlone, StrictUnary, StrictBinary, StrictMany, SizeCharacters, SizeBottom, SizeFolded, LaterNoText, EqualsTrue, FalseAnd, TrueOr, EqualOtherwise, Tally, ValueNamed, LoadInt32, LoadInt64, LoadReal64, LoadText, LoadName}
 
 pub unary-kind : UnaryKind
 unary-kind Unary.Not x = refl
@@ -54,9 +55,9 @@ unary-kind (Unary.Change o) x = refl
 unary-kind (Unary.Test o) x = refl
 
 pub binary-kind : BinaryKind
-binary-kind (Binary.Combine o) x y = refl
-binary-kind (Binary.Compare o) x y = refl
-binary-kind (Binary.Connect o) x y = refl
+binary-kind edition (Binary.Combine o) x y = refl
+binary-kind edition (Binary.Compare o) x y = refl
+binary-kind edition (Binary.Connect o) x y = refl
 
 pub many-kind : ManyKind
 many-kind o x ys = refl
@@ -67,6 +68,13 @@ load-kind pool notice Load.Int64 a b = refl
 load-kind pool notice Load.Real64 a b = refl
 load-kind pool notice Load.Text a b = refl
 load-kind pool notice Load.Name a b = refl
+
+pub shifts-alone : ShiftsAlone
+shifts-alone (Binary.Combine (Combine.Shift o)) x y = inl (o, refl)
+shifts-alone (Binary.Combine (Combine.Bitwise o)) x y = inr refl
+shifts-alone (Binary.Combine (Combine.Arithmetic o)) x y = inr refl
+shifts-alone (Binary.Compare o) x y = inr refl
+shifts-alone (Binary.Connect o) x y = inr refl
 
 pub strict-unary : StrictUnary
 strict-unary Unary.Not = refl
@@ -82,13 +90,13 @@ strict-unary (Unary.Test Test.Nan) = refl
 strict-unary (Unary.Test Test.Require) = refl
 
 -- numbers' own laws, one at a time
-none-combine : (o : Combine) (n : Number) → (combineNumbers o Number.None n ≡ Number.None) × (combineNumbers o n Number.None ≡ Number.None)
-none-combine (Combine.Shift o) n = (left-none n Arithmetic.Add Bitwise.And o Order.Less .2, right-none n Arithmetic.Add Bitwise.And o Order.Less .2)
-none-combine (Combine.Bitwise o) n = (left-none n Arithmetic.Add o Shift.Left Order.Less .1, right-none n Arithmetic.Add o Shift.Left Order.Less .1)
-none-combine (Combine.Arithmetic o) n = (left-none n o Bitwise.And Shift.Left Order.Less .0, right-none n o Bitwise.And Shift.Left Order.Less .0)
+none-combine : (e : Edition) (o : Combine) (n : Number) → (combineNumbers e o Number.None n ≡ Number.None) × (combineNumbers e o n Number.None ≡ Number.None)
+none-combine e (Combine.Shift o) n = (left-none n Arithmetic.Add Bitwise.And e o Order.Less .2, right-none n Arithmetic.Add Bitwise.And e o Order.Less .2)
+none-combine e (Combine.Bitwise o) n = (left-none n Arithmetic.Add o e Shift.Left Order.Less .1, right-none n Arithmetic.Add o e Shift.Left Order.Less .1)
+none-combine e (Combine.Arithmetic o) n = (left-none n o Bitwise.And e Shift.Left Order.Less .0, right-none n o Bitwise.And e Shift.Left Order.Less .0)
 
 none-equal : (n : Number) → (equalOf Number.None n ≡ Bottom) × (equalOf n Number.None ≡ Bottom)
-none-equal n = (left-none n Arithmetic.Add Bitwise.And Shift.Left Order.Less .3, right-none n Arithmetic.Add Bitwise.And Shift.Left Order.Less .3)
+none-equal n = (left-none n Arithmetic.Add Bitwise.And Edition.First Shift.Left Order.Less .3, right-none n Arithmetic.Add Bitwise.And Edition.First Shift.Left Order.Less .3)
 
 and-false : (t : Bool) → (t && false) ≡ false
 and-false true = refl
@@ -101,7 +109,7 @@ bottom-compare : (o : Compare) (v : Value) → (compareOf o bottom v ≡ Bottom)
 bottom-compare Compare.Equal v = bottom-equal v
 bottom-compare Compare.NotEqual v = (rw (bottom-equal v .0), rw (bottom-equal v .1))
 bottom-compare (Compare.Order o) v =
-    (left-none (numberOf v) Arithmetic.Add Bitwise.And Shift.Left o .4, right-none (numberOf v) Arithmetic.Add Bitwise.And Shift.Left o .4)
+    (left-none (numberOf v) Arithmetic.Add Bitwise.And Edition.First Shift.Left o .4, right-none (numberOf v) Arithmetic.Add Bitwise.And Edition.First Shift.Left o .4)
 
 -- where either side is bottom, nothing else need be known
 is-bottom : (v : Value) → eqb (typeOf v) 0 ≡ true → v ≡ bottom
@@ -127,25 +135,25 @@ compare-bottom o v w e = go (which-bottom v w e)
     go (inl m) = rw m (sym (bottom-compare o w .0))
     go (inr m) = rw m (sym (bottom-compare o v .1))
 
-pub combine-bottom : (o : Combine) (v w : Value) → (eqb (typeOf v) 0 || eqb (typeOf w) 0) ≡ true → bottom ≡ combineOf o v w
-combine-bottom o v w e = go (which-bottom v w e)
+pub combine-bottom : (edition : Edition) (o : Combine) (v w : Value) → (eqb (typeOf v) 0 || eqb (typeOf w) 0) ≡ true → bottom ≡ combineOf edition o v w
+combine-bottom edition o v w e = go (which-bottom v w e)
   where
-    go : (v ≡ bottom) ⊎ (w ≡ bottom) → bottom ≡ combineOf o v w
-    go (inl m) = rw m (ap valueOf (sym (none-combine o (numberOf w) .0)))
-    go (inr m) = rw m (ap valueOf (sym (none-combine o (numberOf v) .1)))
+    go : (v ≡ bottom) ⊎ (w ≡ bottom) → bottom ≡ combineOf edition o v w
+    go (inl m) = rw m (ap valueOf (sym (none-combine edition o (numberOf w) .0)))
+    go (inr m) = rw m (ap valueOf (sym (none-combine edition o (numberOf v) .1)))
 
 pub strict-binary : StrictBinary
-strict-binary (Binary.Combine o) x e =
-    let n = none-combine o (numberOf (valueIn x)) in (ap (λ (n : Number). value (valueOf n)) (n .0), ap (λ (n : Number). value (valueOf n)) (n .1))
-strict-binary (Binary.Compare o) x e = let c = bottom-compare o (valueIn x) in (ap logic (c .0), ap logic (c .1))
-strict-binary (Binary.Connect Connective.And) x e = true-false (sym e)
-strict-binary (Binary.Connect Connective.Xor) x e = ends (truthIn x)
+strict-binary edition (Binary.Combine o) x e =
+    let n = none-combine edition o (numberOf (valueIn x)) in (ap (λ (n : Number). value (valueOf n)) (n .0), ap (λ (n : Number). value (valueOf n)) (n .1))
+strict-binary edition (Binary.Compare o) x e = let c = bottom-compare o (valueIn x) in (ap logic (c .0), ap logic (c .1))
+strict-binary edition (Binary.Connect Connective.And) x e = true-false (sym e)
+strict-binary edition (Binary.Connect Connective.Xor) x e = ends (truthIn x)
   where
     ends : (t : Truth) → (logic (xorOf Bottom t) ≡ logic Bottom) × (logic (xorOf t Bottom) ≡ logic Bottom)
     ends True = (refl, refl)
     ends Bottom = (refl, refl)
     ends False = (refl, refl)
-strict-binary (Binary.Connect Connective.Or) x e = true-false (sym e)
+strict-binary edition (Binary.Connect Connective.Or) x e = true-false (sym e)
 
 bottom-or : (t : Truth) → (t ≡ False) ⊎ (t ≡ Bottom) → orOf Bottom t ≡ Bottom
 bottom-or t (inl e) = rw e
@@ -198,12 +206,12 @@ pub equals-true : EqualsTrue
 equals-true x y ys zs e = ap logic (some-equal x y ys zs e)
 
 pub false-and : FalseAnd
-false-and (logic t) y e = ap logic (false-and-t t (truthIn y) e)
-false-and (value v) y e = true-false (sym e)
+false-and edition (logic t) y e = ap logic (false-and-t t (truthIn y) e)
+false-and edition (value v) y e = true-false (sym e)
 
 pub true-or : TrueOr
-true-or (logic t) y e = ap logic (true-or-t t (truthIn y) e)
-true-or (value v) y e = true-false (sym e)
+true-or edition (logic t) y e = ap logic (true-or-t t (truthIn y) e)
+true-or edition (value v) y e = true-false (sym e)
 
 pub equal-otherwise : EqualOtherwise
 equal-otherwise v w e (inl n) = rw (e, n) (none-equal (numberOf w) .0)

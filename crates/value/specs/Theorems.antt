@@ -14,8 +14,11 @@ use Rattle.truth.specs.declared.Truth.the-variants.{Bottom, True}
 use Rattle.truth.specs.Truth.{isFalse, isTrue}
 use Rattle.utf8.specs.Utf8.{HasCharacters, WellFormed}
 use Rattle.opcode.specs.Opcode.{Kind, unaryTakes, unaryGives, binaryTakes, binaryGives}
+use Rattle.opcode.specs.declared.Edition.{Edition}
 use Rattle.opcode.specs.declared.Load.{Load}
 use Rattle.opcode.specs.declared.Unary.{Unary}
+use Rattle.opcode.specs.declared.Shift.{Shift}
+use Rattle.opcode.specs.declared.Combine.{Combine}
 use Rattle.opcode.specs.declared.Connective.{Connective}
 use Rattle.opcode.specs.declared.Binary.{Binary}
 use Rattle.opcode.specs.declared.Fit.{Fit}
@@ -30,13 +33,17 @@ abbrev pub UnaryKind : Type 0
 UnaryKind = (o : Unary) (x : Item) → kindOf (unaryOf o x) ≡ unaryGives o
 
 abbrev pub BinaryKind : Type 0
-BinaryKind = (o : Binary) (x y : Item) → kindOf (binaryOf o x y) ≡ binaryGives o
+BinaryKind = (e : Edition) (o : Binary) (x y : Item) → kindOf (binaryOf e o x y) ≡ binaryGives o
 
 abbrev pub ManyKind : Type 0
 ManyKind = (o : Many) (x : Item) (ys : List Item) → kindOf (manyItems o x ys) ≡ Kind.logic
 
 abbrev pub LoadKind : Type 0
 LoadKind = (pool notice : List ℕ) (o : Load) (a b : ℕ) → kindOf (loadOf pool notice o a b) ≡ Kind.value
+
+-- Document 02, request 9: the editions "differ in the three shifts alone".
+abbrev pub ShiftsAlone : Type 0
+ShiftsAlone = (o : Binary) (x y : Item) → ((q : Shift) × (o ≡ Binary.Combine (Combine.Shift q))) ⊎ (binaryOf Edition.First o x y ≡ binaryOf Edition.Second o x y)
 
 -- "bottom in a value makes the enclosing value or comparison bottom": every operator of one operand gives bottom on bottom ..
 abbrev pub StrictUnary : Type 0
@@ -45,8 +52,8 @@ StrictUnary = (o : Unary) → unaryOf o (bottomOf (unaryTakes o)) ≡ bottomOf (
 -- .. every operator of two but `&&` and `||` does so with bottom on either side, whatever is on the other ..
 abbrev pub StrictBinary : Type 0
 StrictBinary =
-    (o : Binary) (x : Item) → isStrict o ≡ true
-    → (binaryOf o (bottomOf (binaryTakes o)) x ≡ bottomOf (binaryGives o)) × (binaryOf o x (bottomOf (binaryTakes o)) ≡ bottomOf (binaryGives o))
+    (e : Edition) (o : Binary) (x : Item) → isStrict o ≡ true
+    → (binaryOf e o (bottomOf (binaryTakes o)) x ≡ bottomOf (binaryGives o)) × (binaryOf e o x (bottomOf (binaryTakes o)) ≡ bottomOf (binaryGives o))
 
 -- .. and every operator of several does so where the first is bottom.
 abbrev pub StrictMany : Type 0
@@ -73,10 +80,10 @@ EqualsTrue = (x y : Item) (ys zs : List Item) → equalValues (valueIn x) (value
 
 -- false && x is false and true || x is true, for every x: what a skip rests on.
 abbrev pub FalseAnd : Type 0
-FalseAnd = (x y : Item) → isFalse (truthIn x) ≡ true → binaryOf (Binary.Connect Connective.And) x y ≡ x
+FalseAnd = (e : Edition) (x y : Item) → isFalse (truthIn x) ≡ true → binaryOf e (Binary.Connect Connective.And) x y ≡ x
 
 abbrev pub TrueOr : Type 0
-TrueOr = (x y : Item) → isTrue (truthIn x) ≡ true → binaryOf (Binary.Connect Connective.Or) x y ≡ x
+TrueOr = (e : Edition) (x y : Item) → isTrue (truthIn x) ≡ true → binaryOf e (Binary.Connect Connective.Or) x y ≡ x
 
 -- "string with string by bytes, number with number; otherwise bottom": where not both are strings and one is no number.
 abbrev pub EqualOtherwise : Type 0

@@ -21,6 +21,7 @@ use Rattle.utf8.specs.declared.Counted.the-variants.{Characters, IllFormed}
 use Rattle.utf8.specs.Scan.{countOf}
 use Rattle.pattern.specs.Wildcard.{wildcardOf}
 use Rattle.opcode.specs.Opcode.{Kind}
+use Rattle.opcode.specs.declared.Edition.{Edition}
 use Rattle.opcode.specs.declared.Load.{Load}
 use Rattle.opcode.specs.declared.Change.{Change}
 use Rattle.opcode.specs.declared.Test.{Test}
@@ -138,13 +139,13 @@ testOf Test.Nan v = nanOf v
 testOf Test.Require v = ifPresent v True
 
 -- "16..26: `<< >> >>> & ^ | * / % + -`": numbers only
-abbrev pub combineNumbers : Combine → Number → Number → Number
-combineNumbers (Combine.Shift o) a b = shiftOf o a b
-combineNumbers (Combine.Bitwise o) a b = bitwiseOf o a b
-combineNumbers (Combine.Arithmetic o) a b = arithmeticOf o a b
+abbrev pub combineNumbers : Edition → Combine → Number → Number → Number
+combineNumbers e (Combine.Shift o) a b = shiftOf e o a b
+combineNumbers e (Combine.Bitwise o) a b = bitwiseOf o a b
+combineNumbers e (Combine.Arithmetic o) a b = arithmeticOf o a b
 
-abbrev pub combineOf : Combine → Value → Value → Value
-combineOf o v w = valueOf (combineNumbers o (numberOf v) (numberOf w))
+abbrev pub combineOf : Edition → Combine → Value → Value → Value
+combineOf e o v w = valueOf (combineNumbers e o (numberOf v) (numberOf w))
 
 -- "string with string by bytes, number with number; otherwise bottom"
 abbrev pub equalValues : Value → Value → Truth
@@ -212,10 +213,10 @@ unaryOf Unary.Not x = logic (notOf (truthIn x))
 unaryOf (Unary.Change o) x = value (changeOf o (valueIn x))
 unaryOf (Unary.Test o) x = logic (testOf o (valueIn x))
 
-abbrev pub binaryOf : Binary → Item → Item → Item
-binaryOf (Binary.Combine o) x y = value (combineOf o (valueIn x) (valueIn y))
-binaryOf (Binary.Compare o) x y = logic (compareOf o (valueIn x) (valueIn y))
-binaryOf (Binary.Connect o) x y = logic (connectOf o (truthIn x) (truthIn y))
+abbrev pub binaryOf : Edition → Binary → Item → Item → Item
+binaryOf e (Binary.Combine o) x y = value (combineOf e o (valueIn x) (valueIn y))
+binaryOf e (Binary.Compare o) x y = logic (compareOf o (valueIn x) (valueIn y))
+binaryOf e (Binary.Connect o) x y = logic (connectOf o (truthIn x) (truthIn y))
 
 abbrev pub manyItems : Many → Item → List Item → Item
 manyItems o x ys = logic (manyOf o (valueIn x) (map valueIn ys))

@@ -6,6 +6,7 @@ ghost use mathlib.Core.List.{List};
 ghost use Prim.Native.Nat.{ℕ};
 ghost use Rattle.notice.specs.Layout.{checkOf as noticeCheck, Indexed};
 ghost use Rattle.notice.specs.declared.Layout.the-variants.{WellFormed};
+ghost use Rattle.opcode.specs.declared.Edition.{Edition};
 ghost use Rattle.opcode.specs.declared.Load.{Load};
 ghost use Rattle.opcode.specs.declared.Unary.{Unary};
 ghost use Rattle.opcode.specs.declared.Binary.{Binary};
@@ -20,6 +21,7 @@ use opcode::Change;
 use opcode::Combine;
 use opcode::Compare;
 use opcode::Connective;
+use opcode::Edition;
 use opcode::Many;
 use opcode::Test;
 pub use texts::fetch;
@@ -145,22 +147,22 @@ pub fn test(op: Test, s: Slot) -> Slot
 }
 
 // Ops 16..26.
-pub fn combine(op: Combine, s: Slot, t: Slot) -> Slot
-    ensures { λ r. ⌜ ((p : List ℕ) → (q : List ℕ) → itemIn p q r ≡ binaryOf (Binary.Combine op) (itemIn p q s) (itemIn p q t)) ⌝ }
+pub fn combine(edition: Edition, op: Combine, s: Slot, t: Slot) -> Slot
+    ensures { λ r. ⌜ ((p : List ℕ) → (q : List ℕ) → itemIn p q r ≡ binaryOf edition (Binary.Combine op) (itemIn p q s) (itemIn p q t)) ⌝ }
 {
-    valued(values::combine(op, value_in(s), value_in(t)))
+    valued(values::combine(edition, op, value_in(s), value_in(t)))
 }
 
 // Ops 32..37.
 pub fn compare<'a>(pool: &'a [u8], notice: &'a [u8], op: Compare, s: Slot, t: Slot) -> Slot
-    ensures { λ r. ⌜ itemIn (now (pool .entry)) (now (notice .entry)) r ≡ binaryOf (Binary.Compare op) (itemIn (now (pool .entry)) (now (notice .entry)) s) (itemIn (now (pool .entry)) (now (notice .entry)) t) ⌝ }
+    ensures { λ r. ⌜ ((e : Edition) → itemIn (now (pool .entry)) (now (notice .entry)) r ≡ binaryOf e (Binary.Compare op) (itemIn (now (pool .entry)) (now (notice .entry)) s) (itemIn (now (pool .entry)) (now (notice .entry)) t)) ⌝ }
 {
     decided(values::compare(pool, notice, op, value_in(s), value_in(t)))
 }
 
 // Ops 41..43.
 pub fn connect(op: Connective, s: Slot, t: Slot) -> Slot
-    ensures { λ r. ⌜ ((p : List ℕ) → (q : List ℕ) → itemIn p q r ≡ binaryOf (Binary.Connect op) (itemIn p q s) (itemIn p q t)) ⌝ }
+    ensures { λ r. ⌜ ((e : Edition) → (p : List ℕ) → (q : List ℕ) → itemIn p q r ≡ binaryOf e (Binary.Connect op) (itemIn p q s) (itemIn p q t)) ⌝ }
 {
     decided(joined(op, truth_in(s), truth_in(t)))
 }

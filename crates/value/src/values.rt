@@ -16,6 +16,7 @@ use number::Number;
 use opcode::Change;
 use opcode::Combine;
 use opcode::Compare;
+use opcode::Edition;
 use opcode::Fit;
 use opcode::Test;
 use truth::Truth;
@@ -195,11 +196,11 @@ pub fn test(op: Test, v: Typed) -> Truth
     }
 }
 
-fn combine_numbers(op: Combine, a: Number, b: Number) -> Number
-    ensures { λ r. ⌜ r ≡ combineNumbers op a b ⌝ }
+fn combine_numbers(edition: Edition, op: Combine, a: Number, b: Number) -> Number
+    ensures { λ r. ⌜ r ≡ combineNumbers edition op a b ⌝ }
 {
     match op {
-        Combine::Shift(o) => number::shift(o, a, b),
+        Combine::Shift(o) => number::shift(edition, o, a, b),
         Combine::Bitwise(o) => number::bitwise(o, a, b),
         Combine::Arithmetic(o) => number::arithmetic(o, a, b),
     }
@@ -213,13 +214,13 @@ fn any_bottom(v: Typed, w: Typed) -> bool
 }
 
 // `<< >> >>> & ^ | * / % + -`
-pub fn combine(op: Combine, v: Typed, w: Typed) -> Typed
-    ensures { λ r. ⌜ ((p : List ℕ) → (q : List ℕ) → typedOf p q r ≡ combineOf op (typedOf p q v) (typedOf p q w)) ⌝ }
+pub fn combine(edition: Edition, op: Combine, v: Typed, w: Typed) -> Typed
+    ensures { λ r. ⌜ ((p : List ℕ) → (q : List ℕ) → typedOf p q r ≡ combineOf edition op (typedOf p q v) (typedOf p q w)) ⌝ }
 {
     if any_bottom(v, w) {
         return Typed::Bottom;
     }
-    value_of(combine_numbers(op, number_of(v), number_of(w)))
+    value_of(combine_numbers(edition, op, number_of(v), number_of(w)))
 }
 
 // `==`: "string with string by bytes, number with number; otherwise bottom"

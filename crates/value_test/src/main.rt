@@ -5,6 +5,7 @@ use libc::STDOUT_FILENO;
 use notice::Layout;
 use opcode::Binary;
 use opcode::Change;
+use opcode::Edition;
 use opcode::Load;
 use opcode::Many;
 use opcode::Op;
@@ -163,21 +164,51 @@ fn one<'a>(pool: &'a [u8], notice: &'a [u8], op: Unary, s: Slot) -> Slot {
     }
 }
 
-fn two<'a>(pool: &'a [u8], notice: &'a [u8], op: Binary, s: Slot, t: Slot) -> Slot {
+fn two<'a>(
+    pool: &'a [u8],
+    notice: &'a [u8],
+    edition: Edition,
+    op: Binary,
+    s: Slot,
+    t: Slot,
+) -> Slot {
     match op {
-        Binary::Combine(o) => value::combine(o, s, t),
+        Binary::Combine(o) => value::combine(edition, o, s, t),
         Binary::Compare(o) => value::compare(pool, notice, o, s, t),
         Binary::Connect(o) => value::connect(o, s, t),
     }
 }
 
-fn operate<'a>(pool: &'a [u8], notice: &'a [u8], op: Op, entries: &'a [u8], count: usize) -> Slot {
+fn operate<'a>(
+    pool: &'a [u8],
+    notice: &'a [u8],
+    edition: Edition,
+    op: Op,
+    entries: &'a [u8],
+    count: usize,
+) -> Slot {
     let first = operand(pool, notice, entries, 0);
     match op {
         Op::Unary(o) => one(pool, notice, o, first),
-        Op::Binary(o) => two(pool, notice, o, first, operand(pool, notice, entries, 1)),
+        Op::Binary(o) => two(
+            pool,
+            notice,
+            edition,
+            o,
+            first,
+            operand(pool, notice, entries, 1),
+        ),
         Op::Many(o) => many(pool, notice, o, entries, count),
         _ => first,
+    }
+}
+
+// An op has 256 added for the second edition.
+fn edition_of(number: u16) -> Edition {
+    if number < 256 {
+        Edition::First
+    } else {
+        Edition::Second
     }
 }
 
@@ -190,8 +221,13 @@ fn next_case<'a>(pool: &'a [u8], notice: &'a [u8]) -> bool {
         return false;
     }
     let count = n / 12 - 1;
-    let op = opcode::op_of(word::read_u16(&entries, count * 12));
-    put_slot(pool, notice, operate(pool, notice, op, &entries, count));
+    let number = word::read_u16(&entries, count * 12);
+    let op = opcode::op_of(number % 256);
+    put_slot(
+        pool,
+        notice,
+        operate(pool, notice, edition_of(number), op, &entries, count),
+    );
     true
 }
 

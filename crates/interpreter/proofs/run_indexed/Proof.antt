@@ -8,44 +8,50 @@ use borrow.Author.Needs.{needs}
 use denote.Ref.{now}
 use lib.ListN.{length}
 use Rattle.opcode.specs.Opcode.{opOf}
+use Rattle.opcode.specs.declared.Edition.{Edition}
 use Rattle.opcode.specs.declared.Op.{Op}
+use Rattle.table.specs.Table.{editionOf}
 use Rattle.table.proofs.Theorems.{checked-layout}
 use Rattle.table.proofs.Laid.{laid}
-use Rattle.interpreter.proofs.Visits.{Going, Visiting, Tallied, tested, begin, few, ended, entry-fits, load-fits, load-law, load-known, unary-fits, unary-law, binary-fits, binary-law, many-fits, many-law, skip-fits, skip-room, skip-law, no-unknown, tally-start, tally-more}
+use Rattle.interpreter.proofs.Visits.{Going, Visiting, Tallied, tested, begin, few, ended, entry-fits, load-fits, load-law, load-known, unary-fits, unary-law, binary-fits, binary-law, combine-law, many-fits, many-law, skip-fits, skip-room, skip-law, no-unknown, tally-start, tally-more}
 use Rattle.interpreter.proofs.run_indexed.Statement.{statement}
 use Rattle.interpreter.proofs.run_indexed.Tie as tie
 
 abbrev Inv-loop2 : tie.InvT-loop2
-Inv-loop2 table notice starts budget n pool stack next depth left first at k i x known₀ j₀ known j = Tallied pool notice stack depth k i known j
+Inv-loop2 table notice starts budget n edition pool stack next depth left first at k i x known₀ j₀ known j = Tallied pool notice stack depth k i known j
 
 abbrev μ-loop2 : tie.MeasureT-loop2
-μ-loop2 table notice starts budget n pool stack next depth left first at k i x known₀ j₀ known j = depth - j
+μ-loop2 table notice starts budget n edition pool stack next depth left first at k i x known₀ j₀ known j = depth - j
 
 abbrev Inv-loop : tie.InvT-loop
-Inv-loop table notice starts budget n pool stack₀ next₀ depth₀ left₀ first₀ stack next depth left first = Going table pool notice n budget stack next depth left first
+Inv-loop table notice starts budget n edition pool stack₀ next₀ depth₀ left₀ first₀ stack next depth left first = Going table pool notice n budget stack next depth left first
 
 abbrev μ-loop : tie.MeasureT-loop
-μ-loop table notice starts budget n pool stack₀ next₀ depth₀ left₀ first₀ stack next depth left first = left
+μ-loop table notice starts budget n edition pool stack₀ next₀ depth₀ left₀ first₀ stack next depth left first = left
 
 -- a turn: what the loop's test says, that the entry's number is small, and that the entry lies in the table
 abbrev Turn : Type 0
 Turn = tie.In-loop Inv-loop2 μ-loop2 Inv-loop μ-loop
 
-told : (c : Turn) → (c .before .loop .next < c .before .before .before .count .result) × (0 < c .before .loop .left)
-told c = tested (c .before .loop .next) (c .before .before .before .count .result) (c .before .loop .left) (c .loop-test .taken)
+told : (c : Turn) → (c .before .loop .next < c .before .before .before .before .count .result) × (0 < c .before .loop .left)
+told c = tested (c .before .loop .next) (c .before .before .before .before .count .result) (c .before .loop .left) (c .loop-test .taken)
 
 early : (c : Turn) → c .before .loop .next < 512
 early c = omega (arith, told c, few (c .before .loop .inv))
 
-inside : (c : Turn) → 22 + 12 * c .before .loop .next ≤ length (now (c .before .before .before .before .before .before .args .table))
+inside : (c : Turn) → 22 + 12 * c .before .loop .next ≤ length (now (c .before .before .before .before .before .before .before .args .table))
 inside c = entry-fits (c .before .loop .inv) (told c .0)
+
+-- the edition is the table's
+edition-is : (c : Turn) → c .before .before .before .edition .result ≡ editionOf (now (c .before .before .before .before .before .before .before .args .table))
+edition-is c = c .before .before .before .edition .ensures
 
 -- the turn's visit, once the operator is decoded; then by the operator's group
 abbrev Visit : Turn → Op → Type 0
 Visit c o =
-    let a = c .before .before .before .before .before .before .args in
+    let a = c .before .before .before .before .before .before .before .args in
     let l = c .before .loop in
-    Visiting (a .table .now) (c .before .before .pool .result .now) (a .notice .now) (c .before .before .before .count .result) (a .budget) (l .stack) (l .next) (l .depth) (l .left) (l .first) o
+    Visiting (a .table .now) (c .before .before .pool .result .now) (a .notice .now) (c .before .before .before .before .count .result) (a .budget) (l .stack) (l .next) (l .depth) (l .left) (l .first) o
 
 visit : (d : tie.After-op-of Inv-loop2 μ-loop2 Inv-loop μ-loop) {o : Op} → d .op-of .result ≡ o → Visit (d .before .before) o
 visit d e =
@@ -86,8 +92,9 @@ run-indexed-spec =
     μ-loop
     -- before the loop
     (λ c κs. laid (c .before .before .args .table .now) (checked-layout _ (c .before .before .pre .0)) .head)
-    (λ c κs. let l = laid (c .before .before .before .args .table .now) (checked-layout _ (c .before .before .before .pre .0)) in (l .head, omega (arith, l .whole)))
-    (λ c. begin _ _ _ (c .before .before .before .before .pre .0) (c .before .count .ensures .0) (c .pool .ensures))
+    (λ c κs. laid (c .before .before .before .args .table .now) (checked-layout _ (c .before .before .before .pre .0)) .head)
+    (λ c κs. let l = laid (c .before .before .before .before .args .table .now) (checked-layout _ (c .before .before .before .before .pre .0)) in (l .head, omega (arith, l .whole)))
+    (λ c. begin _ _ _ (c .before .before .before .before .before .pre .0) (c .before .before .count .ensures .0) (c .pool .ensures))
     -- a turn: the visit is counted, and the entry's operator read
     (λ c. told c .1)
     (λ c. omega (arith, early c))
@@ -190,8 +197,8 @@ run-indexed-spec =
     (λ c. omega (arith, binary-fits (binary (search))))
     (λ c κs. omega (arith, early (search)))
     (λ c. omega (arith, told (search)))
-    (λ c. binary-law (binary (search)) (c .before .combine .result) (c .before .before .before .before .before .k3 .given .1) (c .before .combine .ensures _ _) (c .noted5 .ensures _ _))
-    -- `compare`
+    (λ c. combine-law (binary (search)) (c .before .combine .result) (edition-is (search)) (c .before .before .before .before .before .k3 .given .1) (c .before .combine .ensures _ _) (c .noted5 .ensures _ _))
+    -- `compare`, the same in either edition
     (λ c. search needs)
     (λ c. omega (arith, binary-fits (binary (search))))
     (λ c. omega (arith, binary-fits (binary (search))))
@@ -204,8 +211,8 @@ run-indexed-spec =
     (λ c. omega (arith, binary-fits (binary (search))))
     (λ c κs. omega (arith, early (search)))
     (λ c. omega (arith, told (search)))
-    (λ c. binary-law (binary (search)) (c .before .compare .result) (c .before .before .before .before .before .k4 .given .1) (c .before .compare .ensures) (c .noted6 .ensures _ _))
-    -- `connect`
+    (λ c. binary-law (binary (search)) (c .before .compare .result) (c .before .before .before .before .before .k4 .given .1) (c .before .compare .ensures Edition.First) (c .noted6 .ensures _ _))
+    -- `connect`, the same in either edition
     (λ c. search needs)
     (λ c. omega (arith, binary-fits (binary (search))))
     (λ c. omega (arith, binary-fits (binary (search))))
@@ -218,7 +225,7 @@ run-indexed-spec =
     (λ c. omega (arith, binary-fits (binary (search))))
     (λ c κs. omega (arith, early (search)))
     (λ c. omega (arith, told (search)))
-    (λ c. binary-law (binary (search)) (c .before .connect .result) (c .before .before .before .before .before .k5 .given .1) (c .before .connect .ensures _ _) (c .noted7 .ensures _ _))
+    (λ c. binary-law (binary (search)) (c .before .connect .result) (c .before .before .before .before .before .k5 .given .1) (c .before .connect .ensures Edition.First _ _) (c .noted7 .ensures _ _))
     -- an operator of many operands
     (λ c. search needs)
     (λ c κs. inside (search))

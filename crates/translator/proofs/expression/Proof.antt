@@ -24,7 +24,7 @@ refused-requires c κs = search needs
 returns : tie.Need-returns
 returns c =
     let a = c .before .before .before .before .before .before .before .args in
-    answers-refused (c .before .before .before .before .before .before .before .pre .2) (length (a .buffer .now)) (c .before .before .first-refusal .ensures) (length (a .text .now)) (a .starts .now) (c .before .if1 .taken) (c .refused .ensures)
+    answers-refused (c .before .before .before .before .before .before .before .pre .2) (length (a .buffer .now)) (c .before .before .first-refusal .ensures) (a .edition) (length (a .text .now)) (a .starts .now) (c .before .if1 .taken) (c .refused .ensures)
 
 accepted-requires : tie.Need-accepted-requires
 accepted-requires c κs =
@@ -37,7 +37,7 @@ same-length c = search needs
 returns-2 : tie.Need-returns-2
 returns-2 c =
     let a = c .before .before .before .before .before .before .before .before .before .before .args in
-    answers-table (c .before .before .before .before .before .before .before .before .before .before .pre .2) (length (a .buffer .now)) (c .before .before .before .before .before .first-refusal .ensures) (length (a .text .now)) (a .starts .now) (c .before .before .before .before .if1 .left) (c .before .before .accepted .ensures .0) (c .before .before .accepted .ensures .1)
+    answers-table (c .before .before .before .before .before .before .before .before .before .before .pre .2) (length (a .buffer .now)) (c .before .before .before .before .before .first-refusal .ensures) (a .edition) (length (a .text .now)) (a .starts .now) (c .before .before .before .before .if1 .left) (c .before .before .accepted .ensures .0) (c .before .before .accepted .ensures .1)
 
 pub expression-spec : {M : Type 1} → statement M
 expression-spec =

@@ -6,6 +6,7 @@ use Rattle.translator.proofs.put_header.Statement.{statement}
 use Rattle.translator.proofs.put_header.Tie as tie
 use Rattle.translator.proofs.put_header.Reads as reads
 use Rattle.translator.proofs.put_header.Lts as lts
+use Rattle.table.proofs.kind.Reads as kind-reads
 use Rattle.word.proofs.write_u16.Reads as write-u16-reads
 use Rattle.word.proofs.write_u32.Reads as write-u32-reads
 
@@ -23,6 +24,9 @@ cast-write-u32 c = search needs
 
 write-u32-requires : tie.Need-write-u32-requires
 write-u32-requires c κs = search needs
+
+kind-requires : tie.Need-kind-requires
+kind-requires c κs = search needs
 
 write-u16-requires : tie.Need-write-u16-requires
 write-u16-requires c κs = search needs
@@ -44,8 +48,8 @@ same-length c = search needs
 
 returns : tie.Need-returns
 returns c =
-    let s = c .before .before .before .before .before .before .before .before .before .before .before .before .before .before .before .before .before in
-    header-written (s .args .out .now) (c .before .before .before .before .before .before .before .before .before .before .before .before .before .before .write-u32 .last .0) (c .before .before .before .before .before .before .before .before .before .before .write-u16 .last .0) (c .before .before .before .before .before .before .write-u162 .last .0) (c .before .before .write-u163 .last .0) _ (s .args .entries) (s .args .pool) refl (c .before .before .before .before .before .before .before .before .before .before .before .before .before .before .write-u32 .ensures) (c .before .before .before .before .before .before .before .before .before .before .write-u16 .ensures) (c .before .before .before .before .before .before .write-u162 .ensures) (c .before .before .write-u163 .ensures)
+    let a = c .before .before .before .before .before .before .before .before .before .before .before .before .before .before .before .before .before .before .args in
+    header-written (a .edition) (a .out .now) (c .before .before .before .before .before .before .before .before .before .before .before .before .before .before .before .write-u32 .last .0) (c .before .before .before .before .before .before .before .before .before .before .write-u16 .last .0) (c .before .before .before .before .before .before .write-u162 .last .0) (c .before .before .write-u163 .last .0) _ (c .before .before .before .before .before .before .before .before .before .before .before .kind .result) (a .entries) (a .pool) refl (c .before .before .before .before .before .before .before .before .before .before .before .kind .ensures) (c .before .before .before .before .before .before .before .before .before .before .before .before .before .before .before .write-u32 .ensures) (c .before .before .before .before .before .before .before .before .before .before .write-u16 .ensures) (c .before .before .before .before .before .before .write-u162 .ensures) (c .before .before .write-u163 .ensures)
 
 pub put-header-spec : {M : Type 1} → statement M
 put-header-spec =
@@ -56,6 +60,7 @@ put-header-spec =
     add-write-u32-2
     cast-write-u32
     write-u32-requires
+    kind-requires
     write-u16-requires
     cast-write-u16
     write-u16-requires-2

@@ -26,7 +26,7 @@ put-header-requires c κs =
 level-requires : tie.Need-level-requires
 level-requires c κs =
     let a = c .before .before .before .before .before .before .before .before .before .args in
-    let long = sym (kept-by (a .out .now) _ 0 (headerBytes (a .entries) (a .pool)) (c .before .before .before .put-header .ensures)) in
+    let long = sym (kept-by (a .out .now) _ 0 (headerBytes (a .edition) (a .entries) (a .pool)) (c .before .before .before .put-header .ensures)) in
     (c .before .before .before .before .before .before .before .before .before .pre .0, c .before .before .before .before .before .before .before .before .before .pre .1, omega arith, level-accepts (subst (λ (n : ℕ). Judged (tokensIn (a .text .now) (a .kinds .now) (a .starts .now)) (a .entries) (a .pool) n) long (c .before .before .before .before .before .before .before .before .before .pre .2)))
 
 mul-put-pool : tie.Need-mul-put-pool
@@ -42,7 +42,7 @@ put-pool-requires c κs =
     let a = c .before .before .before .before .before .before .before .before .before .before .before .before .before .args in
     let ks = tokensIn (a .text .now) (a .kinds .now) (a .starts .now) in
     let len = length-tokens (a .text .now) (a .kinds .now) (a .starts .now) in
-    let long = sym (kept (c .before .before .before .level .ensures) ∙ kept-by (a .out .now) _ 0 (headerBytes (a .entries) (a .pool)) (c .before .before .before .before .before .before .before .put-header .ensures)) in
+    let long = sym (kept (c .before .before .before .level .ensures) ∙ kept-by (a .out .now) _ 0 (headerBytes (a .edition) (a .entries) (a .pool)) (c .before .before .before .before .before .before .before .put-header .ensures)) in
     let j = subst (λ (n : ℕ). Judged ks (a .entries) (a .pool) n) long (c .before .before .before .before .before .before .before .before .before .before .before .before .before .pre .2) in
     omega (arith, pool-fits j, ap (λ (n : ℕ). length (broughtFrom ks 0 n)) len)
 
@@ -55,7 +55,7 @@ returns c =
     let a = c .before .before .before .before .before .before .before .before .before .before .before .before .before .before .before .before .args in
     let ks = tokensIn (a .text .now) (a .kinds .now) (a .starts .now) in
     let len = length-tokens (a .text .now) (a .kinds .now) (a .starts .now) in
-    table-filled (c .before .before .before .before .before .before .before .before .before .before .before .before .before .before .before .before .pre .2) (c .before .before .before .before .before .before .before .before .before .before .put-header .ensures) (c .before .before .before .before .before .before .level .ensures) (rw (← len) at (c .before .before .put-pool .ensures))
+    table-filled (c .before .before .before .before .before .before .before .before .before .before .before .before .before .before .before .before .pre .2) (a .edition) (c .before .before .before .before .before .before .before .before .before .before .put-header .ensures) (c .before .before .before .before .before .before .level .ensures) (rw (← len) at (c .before .before .put-pool .ensures))
 
 pub put-table-spec : {M : Type 1} → statement M
 put-table-spec =

@@ -24,7 +24,7 @@ refused-requires c κs = search needs
 returns : tie.Need-returns
 returns c =
     let a = c .before .before .before .before .before .before .before .args in
-    answers-deep (length (a .text .now)) (a .kinds .now) (a .starts .now) (length (a .buffer .now)) (tokensIn (a .text .now) (a .kinds .now) (a .starts .now)) (c .before .before .too-deep .ensures) (c .before .if1 .taken) (c .refused .ensures)
+    answers-deep (a .edition) (length (a .text .now)) (a .kinds .now) (a .starts .now) (length (a .buffer .now)) (tokensIn (a .text .now) (a .kinds .now) (a .starts .now)) (c .before .before .too-deep .ensures) (c .before .if1 .taken) (c .refused .ensures)
 
 parse-requires : tie.Need-parse-requires
 parse-requires c κs = search needs
@@ -52,12 +52,12 @@ same-length c = search needs
 returns-2 : tie.Need-returns-2
 returns-2 c =
     let a = c .before .before .before .before .before .before .before .before .before .before .before .before .before .before .args in
-    answers-parsed (length (a .text .now)) (a .kinds .now) (a .starts .now) (length (a .buffer .now)) (tokensIn (a .text .now) (a .kinds .now) (a .starts .now)) (c .before .before .before .before .before .before .before .before .before .too-deep .ensures) (c .before .before .before .before .before .before .before .before .if1 .left) (c .before .before .expression .ensures)
+    answers-parsed (a .edition) (length (a .text .now)) (a .kinds .now) (a .starts .now) (length (a .buffer .now)) (tokensIn (a .text .now) (a .kinds .now) (a .starts .now)) (c .before .before .before .before .before .before .before .before .before .too-deep .ensures) (c .before .before .before .before .before .before .before .before .if1 .left) (c .before .before .expression .ensures)
 
 returns-3 : tie.Need-returns-3
 returns-3 c =
     let a = c .before .before .before .before .before .before .before .before .before .before .before .before .args in
-    answers-broken (length (a .text .now)) (a .kinds .now) (a .starts .now) (length (a .buffer .now)) (tokensIn (a .text .now) (a .kinds .now) (a .starts .now)) (c .before .before .before .before .before .before .before .too-deep .ensures) (c .before .before .before .before .before .before .if1 .left) (c .before .before .before .before .before .parse .ensures) (c .before .before .before .p .given .1) (c .before .place-of .ensures) (c .refused2 .ensures)
+    answers-broken (a .edition) (length (a .text .now)) (a .kinds .now) (a .starts .now) (length (a .buffer .now)) (tokensIn (a .text .now) (a .kinds .now) (a .starts .now)) (c .before .before .before .before .before .before .before .too-deep .ensures) (c .before .before .before .before .before .before .if1 .left) (c .before .before .before .before .before .parse .ensures) (c .before .before .before .p .given .1) (c .before .place-of .ensures) (c .refused2 .ensures)
 
 pub tokens-spec : {M : Type 1} → statement M
 tokens-spec =

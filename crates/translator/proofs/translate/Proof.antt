@@ -1,58 +1,43 @@
-use Prim.Native.Nat.{ℕ}
-use native.Mathlib.Omega.{arith}
-use lib.ListN.{length-replicate}
+use lib.ListN.{length}
+use Rattle.translator.proofs.Answering.{answers-other, answers-edition}
 use borrow.Author.Needs.{needs}
 use Rattle.translator.proofs.translate.Statement.{statement}
 use Rattle.translator.proofs.translate.Tie as tie
 use Rattle.translator.proofs.translate.Reads as reads
 use Rattle.translator.proofs.translate.Lts as lts
-use Rattle.translator.proofs.translate_in.Reads as translate-in-reads
+use Rattle.translator.proofs.named.Reads as named-reads
+use Rattle.translator.proofs.refused.Reads as refused-reads
+use Rattle.translator.proofs.translate_edition.Reads as translate-edition-reads
 
-slice-aggregate-translate-in : tie.Need-slice-aggregate-translate-in
-slice-aggregate-translate-in c = search needs
+refused-requires : tie.Need-refused-requires
+refused-requires c κs = search needs
 
-slice-aggregate-translate-in-2 : tie.Need-slice-aggregate-translate-in-2
-slice-aggregate-translate-in-2 c = search needs
+returns : tie.Need-returns
+returns c =
+    let a = c .before .before .before .before .args in
+    answers-other (a .edition) (a .text .now) (length (a .buffer .now)) (c .before .if1 .taken) (c .refused .ensures)
 
-translate-in-requires : tie.Need-translate-in-requires
-translate-in-requires c κs =
-    let k = length-replicate {A = ℕ} 256 0 in
-    ((λ h. omega (arith, k, h, c .before .before .before .if1 .taken)), (λ h. omega (arith, k, h, c .before .before .before .if1 .taken)))
+named-requires : tie.Need-named-requires
+named-requires c κs = search needs
+
+translate-edition-requires : tie.Need-translate-edition-requires
+translate-edition-requires c κs = search needs
 
 same-length : tie.Need-same-length
 same-length c = search needs
 
-returns : tie.Need-returns
-returns c = c .before .before .before .before .translate-in .ensures
-
-slice-aggregate-translate-in-3 : tie.Need-slice-aggregate-translate-in-3
-slice-aggregate-translate-in-3 c = search needs
-
-slice-aggregate-translate-in-4 : tie.Need-slice-aggregate-translate-in-4
-slice-aggregate-translate-in-4 c = search needs
-
-translate-in-requires-2 : tie.Need-translate-in-requires-2
-translate-in-requires-2 c κs =
-    let k = length-replicate {A = ℕ} 4096 0 in
-    ((λ h. omega (arith, k, h)), (λ h. omega (arith, k, h)))
-
-same-length-2 : tie.Need-same-length-2
-same-length-2 c = search needs
-
 returns-2 : tie.Need-returns-2
-returns-2 c = c .before .before .before .before .translate-in2 .ensures
+returns-2 c =
+    let a = c .before .before .before .before .before .before .before .before .args in
+    answers-edition (a .edition) (a .text .now) (length (a .buffer .now)) (c .before .before .before .before .before .if1 .left) (c .before .before .before .before .named .ensures) (c .before .before .translate-edition .ensures)
 
 pub translate-spec : {M : Type 1} → statement M
 translate-spec =
     tie.close
     (tie.spec
-    slice-aggregate-translate-in
-    slice-aggregate-translate-in-2
-    translate-in-requires
-    same-length
+    refused-requires
     returns
-    slice-aggregate-translate-in-3
-    slice-aggregate-translate-in-4
-    translate-in-requires-2
-    same-length-2
+    named-requires
+    translate-edition-requires
+    same-length
     returns-2)

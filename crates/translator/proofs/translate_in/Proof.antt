@@ -71,7 +71,7 @@ returns : tie.Need-returns
 returns c =
     let a = c .before .before .before .before .before .before .before .before .before .before .before .before .before .before .before .before .before .before .before .before .before .before .args in
     let t = tokened (a .text .now) (λ i. omega (arith, c .before .before .before .before .before .before .before .before .before .before .before .before .before .before .before .before .before .before .before .before .before .shared-slice-known .given i)) (c .before .before .before .before .before .before .before .before .before .before .before .before .before .before .before .lex .ensures .0) (c .before .before .before .before .before .before .before .before .before .n .given .1) in
-    translated t (kinds-front t (a .kinds .now) _ (c .before .before .before .before .before .before .before .before .before .before .before .before .before .before .before .before .before .before .before .before .before .before .pre .0) (c .before .before .before .before .before .before .before .before .before .before .before .before .before .before .before .lex .ensures .1 .0)) (starts-front t (a .starts .now) _ (c .before .before .before .before .before .before .before .before .before .before .before .before .before .before .before .before .before .before .before .before .before .before .pre .1) (c .before .before .before .before .before .before .before .before .before .before .before .before .before .before .before .lex .ensures .1 .1)) (length (a .buffer .now)) (c .before .before .tokens .ensures)
+    translated t (kinds-front t (a .kinds .now) _ (c .before .before .before .before .before .before .before .before .before .before .before .before .before .before .before .before .before .before .before .before .before .before .pre .0) (c .before .before .before .before .before .before .before .before .before .before .before .before .before .before .before .lex .ensures .1 .0)) (starts-front t (a .starts .now) _ (c .before .before .before .before .before .before .before .before .before .before .before .before .before .before .before .before .before .before .before .before .before .before .pre .1) (c .before .before .before .before .before .before .before .before .before .before .before .before .before .before .before .lex .ensures .1 .1)) (a .edition) (length (a .buffer .now)) (c .before .before .tokens .ensures)
 
 same-length-4 : tie.Need-same-length-4
 same-length-4 c = search needs
@@ -80,7 +80,9 @@ same-length-5 : tie.Need-same-length-5
 same-length-5 c = search needs
 
 returns-2 : tie.Need-returns-2
-returns-2 c = refused-first (c .before .before .before .before .before .before .before .before .before .before .before .before .before .before .before .args .text .now) (length (c .before .before .before .before .before .before .before .before .before .before .before .before .before .before .before .args .buffer .now)) (c .before .before .before .before .before .before .before .before .lex .ensures .0) (c .before .before .number .given .1) (c .refused .ensures)
+returns-2 c =
+    let a = c .before .before .before .before .before .before .before .before .before .before .before .before .before .before .before .args in
+    refused-first (a .edition) (a .text .now) (length (a .buffer .now)) (c .before .before .before .before .before .before .before .before .lex .ensures .0) (c .before .before .number .given .1) (c .refused .ensures)
 
 pub translate-in-spec : {M : Type 1} → statement M
 translate-in-spec =

@@ -18,7 +18,7 @@ valued-requires c κs = search needs
 
 returns : tie.Need-returns
 returns c =
-    λ p q. c .valued .ensures p q ∙ ap value (c .before .combine .ensures p q ∙ ap₂ (combineOf (c .before .before .before .before .args .op)) (c .before .before .before .value-in .ensures p q) (c .before .before .value-in2 .ensures p q))
+    λ p q. c .valued .ensures p q ∙ ap value (c .before .combine .ensures p q ∙ ap₂ (combineOf (c .before .before .before .before .args .edition) (c .before .before .before .before .args .op)) (c .before .before .before .value-in .ensures p q) (c .before .before .value-in2 .ensures p q))
 
 pub combine-spec : {M : Type 1} → statement M
 combine-spec =

@@ -19,7 +19,7 @@ decided-requires c κs = search needs
 returns : tie.Need-returns
 returns c =
     let a = c .before .before .before .before .before .before .args in let p = a .pool .now in let q = a .notice .now in
-    c .decided .ensures p q ∙ ap logic (c .before .compare .ensures ∙ ap₂ (compareOf (a .op)) (c .before .before .before .value-in .ensures p q) (c .before .before .value-in2 .ensures p q))
+    λ e. c .decided .ensures p q ∙ ap logic (c .before .compare .ensures ∙ ap₂ (compareOf (a .op)) (c .before .before .before .value-in .ensures p q) (c .before .before .value-in2 .ensures p q))
 
 pub compare-spec : {M : Type 1} → statement M
 compare-spec =

@@ -18,7 +18,7 @@ decided-requires c κs = search needs
 
 returns : tie.Need-returns
 returns c =
-    λ p q. c .decided .ensures p q ∙ ap logic (c .before .joined .ensures ∙ ap₂ (connectOf (c .before .before .before .before .args .op)) (c .before .before .before .truth-in .ensures p q) (c .before .before .truth-in2 .ensures p q))
+    λ e p q. c .decided .ensures p q ∙ ap logic (c .before .joined .ensures ∙ ap₂ (connectOf (c .before .before .before .before .args .op)) (c .before .before .before .truth-in .ensures p q) (c .before .before .truth-in2 .ensures p q))
 
 pub connect-spec : {M : Type 1} → statement M
 connect-spec =

@@ -29,14 +29,14 @@ returns c =
     let a = c .before .before .before .before .before .before .before .before .before .before .args in
     let n = c .before .before .before .before .before .before .check in
     let r = c .before .before .translate-and-run in
-    run-matches (a .text .now) (a .buffer .now) (a .notice .now) _ (a .visits) (r .result) (n .result) (n .ensures) (c .before .before .before .before .enum-told .given .1)
+    run-matches (a .edition) (a .text .now) (a .buffer .now) (a .notice .now) _ (a .visits) (r .result) (n .result) (n .ensures) (c .before .before .before .before .enum-told .given .1)
     (λ i. omega (arith, c .before .before .before .before .before .before .before .before .before .shared-slice-known .given i)) (r .ensures)
 
 returns-2 : tie.Need-returns-2
 returns-2 c =
     let a = c .before .before .before .before .before .before .before .before .args in
     let n = c .before .before .before .before .check in
-    fault-matches (a .text .now) (a .buffer .now) (a .notice .now) _ (a .visits) (c .refused .result) (n .result) _ (n .ensures) (c .before .before .layout .given .1) refl (c .refused .ensures)
+    fault-matches (a .edition) (a .text .now) (a .buffer .now) (a .notice .now) _ (a .visits) (c .refused .result) (n .result) _ (n .ensures) (c .before .before .layout .given .1) refl (c .refused .ensures)
 
 pub match-text-spec : {M : Type 1} → statement M
 match-text-spec =

@@ -20,7 +20,7 @@ returns : tie.Need-returns
 returns c =
     let a = c .before .before .before .before .before .before .before .before .before .before .args in
     let t = c .before .before .before .before .before .translate in
-    refused-run (a .text .now) (a .buffer .now) (a .notice .now) _ (a .visits) (t .result) (t .ensures) (c .refused .result) (c .before .if1 .taken) (c .refused .ensures)
+    refused-run (a .edition) (a .text .now) (a .buffer .now) (a .notice .now) _ (a .visits) (t .result) (t .ensures) (c .refused .result) (c .before .if1 .taken) (c .refused .ensures)
 
 sub-check-and-run : tie.Need-sub-check-and-run
 sub-check-and-run c = search needs
@@ -32,7 +32,7 @@ part-check-and-run-end : tie.Need-part-check-and-run-end
 part-check-and-run-end c =
     let a = c .before .before .before .before .before .before .before .before .before .before .args in
     let t = c .before .before .before .before .before .translate in
-    fits (a .text .now) (a .buffer .now) (a .notice .now) _ (a .visits) (t .result) (t .ensures)
+    fits (a .edition) (a .text .now) (a .buffer .now) (a .notice .now) _ (a .visits) (t .result) (t .ensures)
 
 check-and-run-requires : tie.Need-check-and-run-requires
 check-and-run-requires c κs = search needs
@@ -44,7 +44,7 @@ returns-2 : tie.Need-returns-2
 returns-2 c =
     let a = c .before .before .before .before .before .before .before .before .before .before .before .before .args in
     let t = c .before .before .before .before .before .before .before .translate in
-    table-run (a .text .now) (a .buffer .now) (a .notice .now) _ (a .visits) (t .result) (t .ensures) (c .check-and-run .result) (t .result .length - 0) (sub-zero _) (c .before .before .before .if1 .left)
+    table-run (a .edition) (a .text .now) (a .buffer .now) (a .notice .now) _ (a .visits) (t .result) (t .ensures) (c .check-and-run .result) (t .result .length - 0) (sub-zero _) (c .before .before .before .if1 .left)
     (λ i. omega (arith, c .before .before .before .before .before .before .before .before .before .before .before .shared-slice-known .given i)) (c .check-and-run .ensures)
 
 pub translate-and-run-spec : {M : Type 1} → statement M

@@ -12,7 +12,7 @@ any-bottom-requires c κs = search needs
 returns : tie.Need-returns
 returns c =
     let a = c .before .before .args in
-    λ p q. combine-bottom (a .op) (typedOf p q (a .v)) (typedOf p q (a .w)) (sym (c .before .any-bottom .ensures p q) ∙ c .if1 .taken)
+    λ p q. combine-bottom (a .edition) (a .op) (typedOf p q (a .v)) (typedOf p q (a .w)) (sym (c .before .any-bottom .ensures p q) ∙ c .if1 .taken)
 
 number-of-requires : tie.Need-number-of-requires
 number-of-requires c κs = search needs
@@ -28,7 +28,7 @@ value-of-requires c κs = search needs
 
 returns-2 : tie.Need-returns-2
 returns-2 c =
-    λ p q. c .value-of .ensures p q ∙ ap valueOf (c .before .combine-numbers .ensures ∙ ap₂ (combineNumbers (c .before .before .before .before .before .before .args .op)) (c .before .before .before .number-of .ensures p q) (c .before .before .number-of2 .ensures p q))
+    λ p q. c .value-of .ensures p q ∙ ap valueOf (c .before .combine-numbers .ensures ∙ ap₂ (combineNumbers (c .before .before .before .before .before .before .args .edition) (c .before .before .before .before .before .before .args .op)) (c .before .before .before .number-of .ensures p q) (c .before .before .number-of2 .ensures p q))
 
 pub combine-spec : {M : Type 1} → statement M
 combine-spec =
