@@ -151,6 +151,12 @@ uint8_t virentolex_check_notice(const uint8_t *notice, size_t notice_len, size_t
  * Numbers, by document 02's request 6: an integer and a real are compared by exact value. In arithmetic
  * with a real an integer is rounded to the nearest double, ties to even, and so is an integer result of
  * + - * / that int64 does not hold. A zero divisor gives bottom. Shifts are those of the table's edition.
+ *
+ * More fields never turn a verdict round (document 02, request 10): take a table that
+ * virentolex_translate wrote, and two well-formed notices of which the second holds every field of the
+ * first, with the same kind and bytes, and perhaps others. If the first gives true, so does the second;
+ * if false, likewise. Only bottom may become another. Of other tables that pass the check this need not
+ * hold.
  */
 uint8_t virentolex_run(const uint8_t *table, size_t table_len,
                        const uint8_t *notice, size_t notice_len,

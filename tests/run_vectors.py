@@ -1,12 +1,13 @@
 #!/usr/bin/env python3
-"""run_vectors.py [VECTORS]: writes crates/interpreter_test/stdin and stdout from VECTORS/run.txt, 01-run.txt, 02-run.txt, 06-run.txt, 07-run.txt and 09-run.txt, document 01's own runs, and runs at the limits that the documents name.
+"""run_vectors.py [VECTORS]: writes crates/interpreter_test/stdin and stdout from VECTORS/run.txt, 01-run.txt, 02-run.txt, 06-run.txt, 07-run.txt, 09-run.txt and 10-more.txt, document 01's own runs, and runs at the limits that the documents name.
 
-A vector's answer is its own, and is held to evaluate.py. Those of the other cases follow from the documents' sentences, which are named beside them. Where an answer does not name the undecided entry, as in the vectors from before
+A vector's answer is its own, and is held to evaluate.py. 10-more.txt has texts, whose tables are those of compiled.py, and verdicts alone. Those of the other cases follow from the documents' sentences, which are named beside them. Where an answer does not name the undecided entry, as in the vectors from before
 request 7, it is that of evaluate.py."""
 import struct
 import sys
 from pathlib import Path
 
+import compiled
 import evaluate
 
 OP42 = bytes.fromhex("0F0000000100010009000100024F702A000000")
@@ -175,6 +176,17 @@ def editions():
     yield table([NAME, NUMBER, EQUAL], kind=4), OP42[:-1], "11 0 bottom 0 65535"
 
 
+def more(path):
+    """Document 02, request 10: "If the first gives true, so does the second; if false, likewise." """
+    for line in path.read_text().splitlines():
+        edition, text, *notices, first, second = line.split()
+        t = compiled.table_of(evaluate.plain(text), int(edition))
+        assert first in ("bottom", second), line
+        for notice, verdict in zip(map(evaluate.plain, notices), (first, second)):
+            assert evaluate.run(t, notice)[0] == verdict, line
+            yield t, notice, "0 0 %s %d %d" % evaluate.run(t, notice)
+
+
 def main(vectors=Path(__file__).resolve().with_name("vectors")):
     here = Path(__file__).resolve().parent.parent / "crates" / "interpreter_test"
     rows = [*cases(), *wildcards(), *sizes(), *meters(), *undecided(), *editions()]
@@ -182,6 +194,7 @@ def main(vectors=Path(__file__).resolve().with_name("vectors")):
         for line in (Path(vectors) / name).read_text().splitlines():
             t, notice, *answer = line.split()
             rows.append((evaluate.plain(t), evaluate.plain(notice), " ".join(answer)))
+    rows += more(Path(vectors) / "10-more.txt")
     answers = [evaluate.answer_of(*row) for row in rows]
     for (t, notice, answer), whole in zip(rows, answers):
         if whole is None:

@@ -1,12 +1,14 @@
 #!/usr/bin/env python3
-"""translator_vectors.py [VECTORS]: writes crates/translator_test/stdin and stdout from translate.txt, 01-translate.txt and 09-translate.txt in the folder VECTORS, document 01's own examples, and texts at the limits that it and document 02 name.
+"""translator_vectors.py [VECTORS]: writes crates/translator_test/stdin and stdout from translate.txt, 01-translate.txt, 09-translate.txt and the texts of 10-more.txt in the folder VECTORS, document 01's own examples, and texts at the limits that it and document 02 name.
 
 A case is two parts: the buffer's length and the edition's number, then the text. The examples and limits are asked of both editions and the vectors from before request 9 of the two by turns; the second has the answers of the first but
-for the table's kind. A vector's answer is its own. A vector with a buffer of 65,536 bytes is asked again with none, and one with a table also with a buffer of the table's length and with one byte less: "9 | lent buffer shorter than the table", the
+for the table's kind. A vector's answer is its own; the tables of 10-more.txt, which has none, are those of compiled.py. A vector with a buffer of 65,536 bytes is asked again with none, and one with a table also with a buffer of the table's length and with one byte less: "9 | lent buffer shorter than the table", the
 last of the refusals. The answers of the other cases follow from the documents' sentences, which are named beside them."""
 import struct
 import sys
 from pathlib import Path
+
+import compiled
 
 LARGE = 65536
 ONE, EQUAL = (1, 0, 1), (32, 0, 0)
@@ -156,6 +158,13 @@ def asked(path):
         yield from ((int(*edition), *row) for row in rows) if edition else by_edition(1 + turn % 2, rows)
 
 
+def more(path):
+    """The texts of request 10's vectors, all of which are accepted."""
+    for line in path.read_text().splitlines():
+        edition, text = int(line.split()[0]), bytes.fromhex(line.split()[1])
+        yield edition, text, LARGE, 0, 0, compiled.table_of(text, edition)
+
+
 def main(vectors=Path(__file__).resolve().with_name("vectors")):
     here = Path(__file__).resolve().parent.parent / "crates" / "translator_test"
     path = Path(vectors)
@@ -163,6 +172,7 @@ def main(vectors=Path(__file__).resolve().with_name("vectors")):
     rows = [*by_edition(1, own), *by_edition(2, own), *editions()]
     for name in ("translate.txt", "01-translate.txt", "09-translate.txt"):
         rows += asked(path / name)
+    rows += more(path / "10-more.txt")
     part = lambda s: struct.pack("<I", len(s)) + s
     (here / "stdin").write_bytes(b"".join(part(struct.pack("<IQ", room, edition)) + part(text) for edition, text, room, *_ in rows))
     (here / "stdout").write_text("".join("%d %d %d %s kept\n" % (number, place, len(t), t.hex() or "-") for *_, number, place, t in rows))

@@ -69,7 +69,7 @@ pub fn patterned(length: usize, salt: usize) -> Vec<u8> {
         .collect()
 }
 
-fn truth(verdict: virentolex::Verdict) -> Truth {
+pub fn truth(verdict: virentolex::Verdict) -> Truth {
     match verdict {
         virentolex::Verdict::False => Truth::False,
         virentolex::Verdict::Bottom => Truth::Bottom,
@@ -83,7 +83,7 @@ pub fn entry_number(undecided: Option<usize>) -> usize {
 }
 
 /// The kinds in turn, by the case's number.
-const KINDS: [&str; 28] = [
+const KINDS: [&str; 29] = [
     "text",
     "table",
     "notice",
@@ -112,6 +112,7 @@ const KINDS: [&str; 28] = [
     "undecided",
     "many",
     "shift",
+    "more",
 ];
 /// So many operators are tried in one case of theirs.
 const OPERATORS: usize = 20;
@@ -143,6 +144,7 @@ impl Case<'_> {
             "undecided" => self.undecided(),
             "many" => self.many(),
             "shift" => self.shift(),
+            "more" => self.more(),
             "operator" => (0..OPERATORS).try_for_each(|_| self.operator()),
             _ => self.program(),
         }
@@ -574,6 +576,7 @@ mod tests {
                 "find",
                 "many",
                 "meter",
+                "more",
                 "notice",
                 "operator",
                 "program",

@@ -18,6 +18,8 @@ mod many;
 mod many_edges;
 mod meter_corners;
 mod meters;
+mod more;
+mod more_edges;
 mod notices;
 mod operands;
 mod operations;

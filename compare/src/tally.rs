@@ -2,8 +2,8 @@
 
 use crate::edges::EDGES;
 use crate::{
-    corners, editions, find_edges, many_edges, quorum_edges, shift_edges, size, spellings,
-    ubf_edges, undecided_edges, wildcard,
+    corners, editions, find_edges, many_edges, more_edges, quorum_edges, shift_edges, size,
+    spellings, ubf_edges, undecided_edges, wildcard,
 };
 use reference::op::OPS;
 use std::collections::BTreeMap;
@@ -52,6 +52,7 @@ const WORDS: [(&str, &[&str]); 12] = [
             "undecided",
             "many",
             "shift",
+            "more",
         ],
     ),
     ("verdict", &["True", "False", "Bottom"]),
@@ -106,6 +107,7 @@ impl Tally {
         let told = OPS.iter().map(|op| ("entry of op", op.code().to_string()));
         let many = many_edges::names().into_iter().map(|one| ("many", one));
         let shifts = shift_edges::names().into_iter().map(|one| ("shift", one));
+        let more = more_edges::names().into_iter().map(|one| ("more", one));
         let editions = editions::names().into_iter().map(|one| ("edition", one));
         let all = numbers
             .chain(words)
@@ -118,6 +120,7 @@ impl Tally {
             .chain(many)
             .chain(shifts)
             .chain(editions)
+            .chain(more)
             .chain(spellings);
         all.filter(|key| !self.counts.contains_key(key))
             .map(|(of, one)| format!("{of} {one}"))

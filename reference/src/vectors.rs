@@ -22,10 +22,11 @@
 //! - `08-many.txt`: tables end to end, notice, verdict buffer's length, number, place, count, verdict bytes
 //! - `09-translate.txt`: edition, text, buffer length, number, place, table; `09-run.txt`, `09-check.txt`: as
 //!   `07-run.txt` and `01-check.txt`, of tables of both editions
+//! - `10-more.txt`: edition, text, notice, larger notice, both verdicts
 //! - `11-find.txt`: notice, name, index of the field that has it or `-`, names looked at
 //!
 //! Runs of files without 07 or 09 in front are from before request 7, so that their answers have no entry.
-//! Texts of files without 09 in front are from before request 9: of the first edition.
+//! Texts of files without 09 or 10 in front are from before request 9: of the first edition.
 
 use crate::quorum::{self, Decision, Shown};
 use crate::wildcard::Pattern;
@@ -66,6 +67,7 @@ fn answer(file: &str, words: &[&str]) -> Option<(usize, String)> {
         ("05-read.txt", 5) => Some((2, ubf(words, crate::ubf::read)?)),
         ("05-write.txt", 5) => Some((2, ubf(words, crate::ubf::write)?)),
         ("08-many.txt", 7) => Some((3, many(words)?)),
+        ("10-more.txt", 6) => Some((4, more(words)?)),
         ("11-find.txt", 4) => Some((2, find(words)?)),
         _ => None,
     }
@@ -84,15 +86,19 @@ fn translate(edition: usize, words: &[&str]) -> Option<String> {
 
 fn run(words: &[&str]) -> Option<String> {
     let answer = crate::run(&bytes(words[0])?, &bytes(words[1])?);
-    let verdict = match answer.verdict {
-        Truth::True => "true",
-        Truth::False => "false",
-        Truth::Bottom => "bottom",
-    };
+    let verdict = verdict(answer.verdict);
     Some(format!(
         "{} {} {verdict} {} {}",
         answer.number, answer.place, answer.steps, answer.undecided
     ))
+}
+
+fn verdict(verdict: Truth) -> &'static str {
+    match verdict {
+        Truth::True => "true",
+        Truth::False => "false",
+        Truth::Bottom => "bottom",
+    }
 }
 
 /// The words but the last, which request 7 has added.
@@ -205,6 +211,13 @@ fn many(words: &[&str]) -> Option<String> {
         answer.count,
         hex(&verdicts[..answer.count])
     ))
+}
+
+/// A text's meaning on a notice and on a larger one.
+fn more(words: &[&str]) -> Option<String> {
+    let (edition, text) = (words[0].parse().ok()?, bytes(words[1])?);
+    let meaning = |notice| Some(verdict(crate::meaning(edition, &text, &bytes(notice)?)?));
+    Some(format!("{} {}", meaning(words[2])?, meaning(words[3])?))
 }
 
 /// A name sought in a notice; no case is refused.

@@ -28,6 +28,7 @@ fn the_vectors_agree() {
         ("09-translate.txt", 500),
         ("09-run.txt", 600),
         ("09-check.txt", 300),
+        ("10-more.txt", 300),
         ("11-find.txt", 500),
     ];
     for (file, cases) in files {

@@ -375,7 +375,8 @@ fn undecided_of(number: u16) -> Option<usize> {
     (number != NO_ENTRY).then_some(number.into())
 }
 
-/// Runs a table on a notice. Both are checked first: 12, then 11.
+/// Runs a table on a notice. Both are checked first: 12, then 11. With a table that `translate` wrote, more
+/// fields in the notice never turn true or false into another verdict.
 pub fn run(table: &[u8], notice: &[u8]) -> Ran {
     let mut place = 0;
     let mut verdict = 0;

@@ -72,3 +72,40 @@ fn runs_of_both_editions() {
         assert_eq!(told, answer.join(" "), "{words:?}");
     });
 }
+
+/// The fields of a notice: kind, name and value.
+fn fields(notice: &[u8]) -> Vec<(u16, &[u8], &[u8])> {
+    let read = |k| virentolex::read(notice, k);
+    let all = (0..).map(read).take_while(|field| field.number == 0);
+    all.map(|field| (field.kind, field.name, field.value))
+        .collect()
+}
+
+/// Document 02, request 10: edition, text, notice, larger notice, both verdicts. "If the first gives true, so
+/// does the second; if false, likewise."
+#[test]
+fn more_fields_never_turn_a_verdict_round() {
+    cases("10-more.txt", 300, |words| {
+        let [edition, text, notice, larger, first, second] = words else {
+            panic!("{words:?}");
+        };
+        let (notice, larger) = (bytes(notice), bytes(larger));
+        let held = fields(&larger);
+        assert!(fields(&notice).iter().all(|field| held.contains(field)));
+        let mut table = vec![0; virentolex::TABLE_MAX];
+        let t = virentolex::translate_numbered(number(edition), &bytes(text), &mut table);
+        assert_eq!(t.number, 0, "{words:?}");
+        let run = |notice: &[u8]| {
+            let r = virentolex::run(&table[..t.length], notice);
+            assert_eq!(r.number, 0, "{words:?}");
+            r.verdict.to_string()
+        };
+        let verdicts = (run(&notice), run(&larger));
+        assert_eq!(
+            (&verdicts.0[..], &verdicts.1[..]),
+            (*first, *second),
+            "{words:?}"
+        );
+        assert!(verdicts.0 == "bottom" || verdicts.0 == verdicts.1);
+    });
+}

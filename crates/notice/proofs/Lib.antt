@@ -18,3 +18,4 @@ pub mod Theorems
 pub mod Readings
 pub mod Halves
 pub mod RoundTrip
+pub mod More

@@ -70,7 +70,7 @@ checked-more n last s at bytes e c =
     }
 
 -- a check that finds no fault: the first field stands, and the others pass
-stands-suc : (n : ℕ) (last s : List ℕ) (at : ℕ) → checkFrom (suc n) last s at ≡ WellFormed → (standsAt last s at ≡ true) × (checkFrom n (nameAt s at) s (nextAt s at) ≡ WellFormed)
+pub stands-suc : (n : ℕ) (last s : List ℕ) (at : ℕ) → checkFrom (suc n) last s at ≡ WellFormed → (standsAt last s at ≡ true) × (checkFrom n (nameAt s at) s (nextAt s at) ≡ WellFormed)
 unfolding checkFrom
 stands-suc n last s at e = go (standsAt last s at) refl e
   where

@@ -8,3 +8,4 @@ pub mod Read
 pub mod Write
 pub mod Theorems
 pub mod RoundTrip
+pub mod More

@@ -52,16 +52,16 @@ use Rattle.router.proofs.Made.{accepted-made}
 written-table : (o : Outcome) (buffer written : List ℕ) (r : Translated) → length (o .table) ≤ length buffer → Answers o buffer written r → take (r .length) written ≡ o .table
 written-table o buffer written r h a = rw (a .answer, a .bytes) (stored buffer (o .table) h)
 
+-- an accepted text's meaning is its tree's
+pub text-means : (edition : Edition) (text notice : List ℕ) (tree : Tree) → Accepted text tree → textMeaning edition text notice ≡ some (meaning edition tree notice)
+text-means edition text notice tree a = let x = a .expression in rw (x .lexed, parses (map (λ p. p .token) (x .placed)) tree .1 (x .derived))
+
 module _ (edition : Edition) (text notice : List ℕ) (tree : Tree) (b : Bytes text) (a : Accepted text tree) where
   made : Made tree
   made = let x = a .expression in accepted-made (map (λ p. p .token) (x .placed)) tree (x .derived) (lexed-text text (x .placed) b (x .lexed) .right) (a .right .forms)
 
   whole : Whole edition tree notice
   whole = let h = pool-small text tree b a in runs-whole edition tree notice (omega arith) made
-
-  -- the text's meaning is the tree's
-  text-means : textMeaning edition text notice ≡ some (meaning edition tree notice)
-  text-means = let x = a .expression in rw (x .lexed, parses (map (λ p. p .token) (x .placed)) tree .1 (x .derived))
 
   -- the accepted text's own table, by the definitions, and a machine of the runner on it
   met : noticeCheck notice ≡ WellFormed → {visits : ℕ} {m : Machine} → Visited (encode (compile edition tree)) notice visits m
@@ -75,7 +75,7 @@ module _ (edition : Edition) (text notice : List ℕ) (tree : Tree) (b : Bytes t
       record {
         passes = p;
         answered = ap (λ (x : Ran). x .number) r;
-        means = text-means ∙ ap some (sym (ap (λ (x : Ran). x .verdict) r ∙ ap (λ (x : Program). verdictOf (runOf x notice)) d ∙ ap verdictOf e));
+        means = text-means edition text notice tree a ∙ ap some (sym (ap (λ (x : Ran). x .verdict) r ∙ ap (λ (x : Program). verdictOf (runOf x notice)) d ∙ ap verdictOf e));
         verdict-run = ap (λ (x : Ran). x .verdict) r;
         steps-run = ap (λ (x : Ran). x .steps) r;
         ends = ap (λ (x : Program). runOf x notice .next) d ∙ ap (λ (s : State). s .next) e ∙ sym (size tree 0) ∙ sym (ap (λ (x : Program). length (x .entries)) d);

@@ -1,3 +1,5 @@
 pub mod Parts
 pub mod FieldValues
 pub mod Theorems
+pub mod Order
+pub mod Laws

@@ -95,17 +95,20 @@ none-combine e (Combine.Shift o) n = (left-none n Arithmetic.Add Bitwise.And e o
 none-combine e (Combine.Bitwise o) n = (left-none n Arithmetic.Add o e Shift.Left Order.Less .1, right-none n Arithmetic.Add o e Shift.Left Order.Less .1)
 none-combine e (Combine.Arithmetic o) n = (left-none n o Bitwise.And e Shift.Left Order.Less .0, right-none n o Bitwise.And e Shift.Left Order.Less .0)
 
+pub bottom-combine : (e : Edition) (o : Combine) (v : Value) → (combineOf e o bottom v ≡ bottom) × (combineOf e o v bottom ≡ bottom)
+bottom-combine e o v = let n = none-combine e o (numberOf v) in (ap valueOf (n .0), ap valueOf (n .1))
+
 none-equal : (n : Number) → (equalOf Number.None n ≡ Bottom) × (equalOf n Number.None ≡ Bottom)
 none-equal n = (left-none n Arithmetic.Add Bitwise.And Edition.First Shift.Left Order.Less .3, right-none n Arithmetic.Add Bitwise.And Edition.First Shift.Left Order.Less .3)
 
-and-false : (t : Bool) → (t && false) ≡ false
+pub and-false : (t : Bool) → (t && false) ≡ false
 and-false true = refl
 and-false false = refl
 
 bottom-equal : (v : Value) → (equalValues bottom v ≡ Bottom) × (equalValues v bottom ≡ Bottom)
 bottom-equal v = (none-equal (numberOf v) .0, rw (and-false (isText v)) (none-equal (numberOf v) .1))
 
-bottom-compare : (o : Compare) (v : Value) → (compareOf o bottom v ≡ Bottom) × (compareOf o v bottom ≡ Bottom)
+pub bottom-compare : (o : Compare) (v : Value) → (compareOf o bottom v ≡ Bottom) × (compareOf o v bottom ≡ Bottom)
 bottom-compare Compare.Equal v = bottom-equal v
 bottom-compare Compare.NotEqual v = (rw (bottom-equal v .0), rw (bottom-equal v .1))
 bottom-compare (Compare.Order o) v =
@@ -139,20 +142,19 @@ pub combine-bottom : (edition : Edition) (o : Combine) (v w : Value) → (eqb (t
 combine-bottom edition o v w e = go (which-bottom v w e)
   where
     go : (v ≡ bottom) ⊎ (w ≡ bottom) → bottom ≡ combineOf edition o v w
-    go (inl m) = rw m (ap valueOf (sym (none-combine edition o (numberOf w) .0)))
-    go (inr m) = rw m (ap valueOf (sym (none-combine edition o (numberOf v) .1)))
+    go (inl m) = rw m (sym (bottom-combine edition o w .0))
+    go (inr m) = rw m (sym (bottom-combine edition o v .1))
+
+pub bottom-xor : (t : Truth) → (xorOf Bottom t ≡ Bottom) × (xorOf t Bottom ≡ Bottom)
+bottom-xor True = (refl, refl)
+bottom-xor Bottom = (refl, refl)
+bottom-xor False = (refl, refl)
 
 pub strict-binary : StrictBinary
-strict-binary edition (Binary.Combine o) x e =
-    let n = none-combine edition o (numberOf (valueIn x)) in (ap (λ (n : Number). value (valueOf n)) (n .0), ap (λ (n : Number). value (valueOf n)) (n .1))
+strict-binary edition (Binary.Combine o) x e = let c = bottom-combine edition o (valueIn x) in (ap value (c .0), ap value (c .1))
 strict-binary edition (Binary.Compare o) x e = let c = bottom-compare o (valueIn x) in (ap logic (c .0), ap logic (c .1))
 strict-binary edition (Binary.Connect Connective.And) x e = true-false (sym e)
-strict-binary edition (Binary.Connect Connective.Xor) x e = ends (truthIn x)
-  where
-    ends : (t : Truth) → (logic (xorOf Bottom t) ≡ logic Bottom) × (logic (xorOf t Bottom) ≡ logic Bottom)
-    ends True = (refl, refl)
-    ends Bottom = (refl, refl)
-    ends False = (refl, refl)
+strict-binary edition (Binary.Connect Connective.Xor) x e = let c = bottom-xor (truthIn x) in (ap logic (c .0), ap logic (c .1))
 strict-binary edition (Binary.Connect Connective.Or) x e = true-false (sym e)
 
 bottom-or : (t : Truth) → (t ≡ False) ⊎ (t ≡ Bottom) → orOf Bottom t ≡ Bottom

@@ -1,3 +1,5 @@
 pub mod Value
 pub mod Held
 pub mod Theorems
+pub mod Order
+pub mod Laws
