@@ -23,6 +23,9 @@
  *                  19 no right Staff field          20 a ninth person
  *    UBF(A)        22 text outside the syntax      23 not one tuple of fields; a real64 field
  *    many tables   24 over 64 tables                 9 verdict buffer shorter than their number
+ *    stores        26 no store, or a buffer over 65,536 or under 8 bytes
+ *                  27 64 tables held                28 no room
+ *                  29 number not held                9 verdict buffer under 64 bytes
  *
  * What every caller must see to, since nothing checks a caller in C:
  *
@@ -39,8 +42,8 @@
  * use no heap and call nothing but memset. The stack is not part of the proofs. Measured: translating
  * takes 14 kB for a flat text, 18 kB with `wildcard`, and 349 kB for the deepest texts tried (24
  * parentheses, every operator level and 24 prefix operators between each two); a run whose `contains`
- * goes on by borders takes 10 kB, among many tables too, the other functions at most 6 kB, of which
- * reading UBF(A) takes 4.
+ * goes on by borders takes 10 kB, among many tables and those of a store too, the other functions at
+ * most 6 kB, of which reading UBF(A) takes 4.
  */
 #ifndef VIRENTOLEX_H
 #define VIRENTOLEX_H
@@ -57,8 +60,11 @@ extern "C" {
 #define VIRENTOLEX_TRUE 1
 #define VIRENTOLEX_BOTTOM 2
 
-/* In place of a verdict, where virentolex_run_many was passed a table that fails its check. */
+/* In place of a verdict, where a table of virentolex_run_many or of a store fails its check. */
 #define VIRENTOLEX_REFUSED 3
+
+/* In place of a verdict, where a store holds no table of the number. */
+#define VIRENTOLEX_FREE 4
 
 /*
  * The kinds of fields, with the size of their values. What the function `size` of a subscription counts
@@ -92,6 +98,15 @@ extern "C" {
 /* The bytes of a decision before its table, and the most bytes of a whole one. */
 #define VIRENTOLEX_DECISION_HEAD 528
 #define VIRENTOLEX_DECISION_MAX 10778
+
+/*
+ * The least and the most bytes of a store's buffer, the places of a store, and what a table takes in it
+ * beside its own bytes.
+ */
+#define VIRENTOLEX_STORE_MIN 8
+#define VIRENTOLEX_STORE_MAX 65536
+#define VIRENTOLEX_STORE_PLACES 64
+#define VIRENTOLEX_STORE_RECORD 4
 
 /* The most bytes of a UBF(A) text that is written; one that is read may be longer. */
 #define VIRENTOLEX_UBF_TEXT_MAX 32839
@@ -324,6 +339,83 @@ uint8_t virentolex_run_many(const uint8_t *tables, size_t tables_len,
                             const uint8_t *notice, size_t notice_len,
                             uint8_t *verdicts, size_t verdicts_len,
                             size_t *place, size_t *count);
+
+/*
+ * A store holds up to 64 tables in one lent buffer of VIRENTOLEX_STORE_MIN to VIRENTOLEX_STORE_MAX
+ * bytes, each under a number 0 to 63, which it keeps until it is removed. All that the store is lies
+ * at the buffer's start, as docs/FORMATS.md lays it out, so that it may be moved, copied and kept.
+ * Everything is checked first, so any bytes may be passed as a store.
+ *
+ * Over any sequence of these calls from an empty store, as long as nobody else changes these bytes,
+ * no call answers 26, and each answers as a plain list of 64 places would. A call costs a walk over
+ * the records held, not over their bytes, but for the check of a table that is added, and the move of
+ * those behind one removed.
+ */
+
+/*
+ * Makes an empty store at the start of the buffer, whatever is in it.
+ *
+ * Answers 0, or 26 for a buffer over VIRENTOLEX_STORE_MAX or under VIRENTOLEX_STORE_MIN bytes.
+ * store   after 0 its first 8 bytes are the empty store, and the bytes after it are as they were.
+ *         After a refusal every byte is as it was.
+ */
+uint8_t virentolex_store_make(uint8_t *store, size_t store_len);
+
+/*
+ * Adds a table to a store, under the lowest free number.
+ *
+ * Answers 0, or the first that applies of: 26 if the buffer begins with no store, or is over
+ * VIRENTOLEX_STORE_MAX bytes; 12 if the table fails its check; 27 if 64 tables are held; 28 if the
+ * tables held and the new one, VIRENTOLEX_STORE_RECORD bytes for each of these, and 8 for the store,
+ * exceed store_len.
+ * *number   the table's number, 0 to 63; VIRENTOLEX_STORE_PLACES if refused.
+ * store     after 0 it begins with the store that holds the table too, and the bytes after that are
+ *           as they were. After a refusal every byte is as it was.
+ */
+uint8_t virentolex_store_add(uint8_t *store, size_t store_len,
+                             const uint8_t *table, size_t table_len,
+                             size_t *number);
+
+/*
+ * Removes the table of a number from a store. The room is used again; the other tables keep their
+ * numbers, but may lie elsewhere in the buffer.
+ *
+ * Answers 0, or the first that applies of: 26 as virentolex_store_add says; 29 if no table has the
+ * number.
+ * store   after 0 it begins with the store without the table, and the bytes after that are as they
+ *         were. After a refusal every byte is as it was.
+ */
+uint8_t virentolex_store_remove(uint8_t *store, size_t store_len, size_t number);
+
+/*
+ * Fetches the table of a number from a store, as a part of the buffer.
+ *
+ * Answers 0, or the first that applies of: 26 as virentolex_store_add says; 29 if no table has the
+ * number.
+ * *start, *end   the table is the store's bytes from *start up to *end, until something is added or
+ *                removed; *start <= *end <= store_len. Both are 0 if refused, so that the part is
+ *                empty.
+ */
+uint8_t virentolex_store_fetch(const uint8_t *store, size_t store_len, size_t number,
+                               size_t *start, size_t *end);
+
+/*
+ * Runs every table that a store holds on one notice, which is checked once. It equals fetching and
+ * running them one by one.
+ *
+ * Answers 0, or the first that applies of: 26 as virentolex_store_add says; 11 if the notice fails
+ * its layout; 9 if verdicts_len < VIRENTOLEX_STORE_PLACES.
+ * *place     after 11 as virentolex_check_notice says; else 0.
+ * verdicts   after 0 its first VIRENTOLEX_STORE_PLACES bytes are, number by number, what
+ *            virentolex_run answers for the table of that number as *verdict, or VIRENTOLEX_REFUSED
+ *            where it answers 12 (of bytes that others wrote: what was added passes), or
+ *            VIRENTOLEX_FREE if no table has the number; the bytes after them are as they were. After
+ *            a refusal every byte is as it was.
+ */
+uint8_t virentolex_store_match(const uint8_t *store, size_t store_len,
+                               const uint8_t *notice, size_t notice_len,
+                               uint8_t *verdicts, size_t verdicts_len,
+                               size_t *place);
 
 #ifdef __cplusplus
 }

@@ -1189,7 +1189,7 @@ pub fn guarded(table: &[u8], notice: &[u8]) -> (u8, usize, u8, usize, u16) {
 // ---- many tables
 
 /// A notice's fields, so that a name is found without a walk: where each starts, and a byte that most other names do not have.
-struct Index {
+pub(crate) struct Index {
     starts: [MaybeUninit<u16>; 64],
     tags: [u8; 64],
     count: usize,
@@ -1206,7 +1206,7 @@ unsafe fn tag(name: &[u8]) -> u8 {
 
 impl Index {
     /// The index of a notice, or the place of its first fault.
-    fn of(notice: &[u8]) -> Result<Index, usize> {
+    pub(crate) fn of(notice: &[u8]) -> Result<Index, usize> {
         let mut index = Index {
             starts: [MaybeUninit::uninit(); 64],
             tags: [0; 64],
@@ -1270,6 +1270,20 @@ fn extent(s: &[u8]) -> usize {
     size.min(s.len())
 }
 
+/// The verdict byte of one table, checked and decoded in one pass: 3 if it is refused. The index is that of the notice.
+#[inline(always)]
+pub(crate) unsafe fn verdict_byte(
+    table: &[u8],
+    notice: &[u8],
+    index: &Index,
+    code: &mut Code,
+) -> u8 {
+    match decode(table, code) {
+        Some(p) => number_of(run_by(&p, notice, |name| index.find(notice, name)).0),
+        None => 3,
+    }
+}
+
 /// Up to 64 tables end to end on one notice (document 02, request 8): number, place, how many verdict bytes. The notice is checked
 /// and its index made once; each table is checked and decoded in one pass and then run.
 pub fn many(tables: &[u8], notice: &[u8], verdicts: &mut [u8]) -> (u8, usize, usize) {
@@ -1293,11 +1307,8 @@ pub fn many(tables: &[u8], notice: &[u8], verdicts: &mut [u8]) -> (u8, usize, us
     let mut code = no_code();
     let mut start = 0;
     for (&end, verdict) in ends[..count].iter().zip(verdicts) {
-        *verdict = match decode(&tables[start..end], &mut code) {
-            // SAFETY: the notice has been checked, and the index is of it
-            Some(p) => number_of(unsafe { run_by(&p, notice, |name| index.find(notice, name)) }.0),
-            None => 3,
-        };
+        // SAFETY: the notice has been checked, and the index is of it
+        *verdict = unsafe { verdict_byte(&tables[start..end], notice, &index, &mut code) };
         start = end;
     }
     (0, 0, count)

@@ -2,6 +2,7 @@
 
 pub mod expert;
 pub mod ours;
+pub mod store;
 pub mod translate;
 pub mod ubf;
 mod wildcard;

@@ -1,6 +1,7 @@
 //! Ours beside the expert's Rust, one machine, one run. `bench` prints every table, `bench quick` the same in a tenth
 //! of the time, `bench agree` compares the answers of both sides on many random cases and times nothing, `bench worst` times
-//! ours alone on the worst inputs found, `bench ubf` prints the tables of UBF(A) alone, `bench many` those of many subscriptions.
+//! ours alone on the worst inputs found, `bench ubf` prints the tables of UBF(A) alone, `bench many` those of many subscriptions,
+//! `bench store` those of the store.
 //! How it is built and run, with the flags: bench/run.
 
 mod agree;
@@ -13,6 +14,7 @@ mod meters;
 mod program;
 mod quorum;
 mod shifts;
+mod stores;
 mod strings;
 mod worst;
 
@@ -255,16 +257,19 @@ fn main() {
         "agree" => {
             doors::agree(200_000);
             many::agree(20_000);
+            stores::agree(5_000);
             return agree::agree(200_000);
         }
         "worst" => return worst::rows(),
         "ubf" => return doors::rows(WHOLE),
         "many" => return many::rows(WHOLE),
-        _ => panic!("bench [quick | agree | worst | ubf | many]"),
+        "store" => return stores::rows(WHOLE),
+        _ => panic!("bench [quick | agree | worst | ubf | many | store]"),
     };
     agree::agree(2_000);
     doors::agree(2_000);
     many::agree(200);
+    stores::agree(200);
     linear();
     println!(
         "medians of {} rounds, the sides in turn; ratio: ours over expert in the same round",
@@ -273,6 +278,7 @@ fn main() {
     inner(pace);
     guarded(pace);
     many::rows(pace);
+    stores::rows(pace);
     quorum::shows(pace);
     checks(pace);
     translation(pace);

@@ -7,10 +7,10 @@ use bench::{expert, ours};
 use std::hint::black_box;
 
 /// "The router holds 40 tables."
-const TABLES: usize = 40;
+pub const TABLES: usize = 40;
 
 /// The tables of 40 subscriptions of 3 to 50 entries, in no order of size. None has 6 or 7 entries, which no clauses make.
-fn tables() -> Vec<Vec<u8>> {
+pub fn tables() -> Vec<Vec<u8>> {
     let size = |i: usize| match 3 + 47 * i / (TABLES - 1) {
         6 => 8,
         7 => 14,

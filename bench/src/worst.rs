@@ -5,6 +5,7 @@
 use crate::clock::{self, Pace};
 use crate::hostile::{self, alike, eight, name, notice, often, string, table, Entry, FOLD};
 use bench::ours;
+use bench::store::ours as store;
 use std::hint::black_box;
 
 /// An input in one size: the number it is answered by, how many bytes it makes the function look at (`Family`), and the call.
@@ -15,7 +16,7 @@ struct Case {
 }
 
 /// An input that grows: `of(1)` is the half and `of(2)` the whole. The bytes of a case are
-/// - of a text, a UBF(A) text and a notice its length, of a decision its length and the notice's;
+/// - of a text, a UBF(A) text and a notice its length, of a decision its length and the notice's, of a store its buffer's;
 /// - of a table in a check its length, and a name's bytes for each entry that names them;
 /// - of a run, of many too, its table's length, for each string operator the bytes of both its operands with each literal, for each `size` those
 ///   of its string, and for each name the bytes of all the notice's fields but their values.
@@ -81,6 +82,10 @@ pub fn rows() {
     told("virentolex_run: names and numbers", names_and_numbers());
     told("virentolex_run: patterns", patterns());
     told("virentolex_run_many", many());
+    told(
+        "virentolex_store_* (with the store copied, but for a match)",
+        stores(),
+    );
     told("virentolex_check", checks());
     told("virentolex_check_notice, virentolex_read", notices());
     told("virentolex_write (with 16,384 bytes copied)", writes());
@@ -382,6 +387,89 @@ fn many() -> Vec<Family> {
             let bytes = groups(&group) * both(4095, 2048);
             let table = table(&often(&group), &pool);
             deliver(table, 32 * k, hostile::EMPTY.to_vec(), bytes)
+        }),
+    ]
+}
+
+/// A store that holds these tables, and so many bytes more.
+fn store_of(tables: &[Vec<u8>], spare: usize) -> Vec<u8> {
+    let size: usize = tables.iter().map(|table| 4 + table.len()).sum();
+    let mut buffer = vec![0; 8 + size + spare];
+    assert_eq!(store::make(&mut buffer), 0);
+    for (id, table) in tables.iter().enumerate() {
+        assert_eq!(store::add(&mut buffer, table), (0, id));
+    }
+    buffer
+}
+
+/// A call on a copy of the store, which looks at these bytes beside it.
+fn on_store(store: Vec<u8>, bytes: usize, call: impl Fn(&mut [u8]) -> u8 + 'static) -> Case {
+    let mut copy = store.clone();
+    Case {
+        number: 0,
+        bytes: store.len() + bytes,
+        call: Box::new(move || {
+            copy.copy_from_slice(&store);
+            call(black_box(&mut copy))
+        }),
+    }
+}
+
+/// A match of these tables, whose runs look at these bytes beside them.
+fn matched(table: Vec<u8>, count: usize, notice: Vec<u8>, bytes: usize) -> Case {
+    let (store, mut verdicts) = (store_of(&vec![table; count], 0), [0; 64]);
+    Case {
+        number: 0,
+        bytes: store.len() + notice.len() + count * bytes,
+        call: Box::new(move || store::matching(black_box(&store), &notice, &mut verdicts).0),
+    }
+}
+
+fn stores() -> Vec<Family> {
+    // `1 == 1` with so much pool
+    let plain = |pool: usize| {
+        let one = (1, 0, 1);
+        table(&[one, one, (32, 0, 0)], &vec![b'p'; pool])
+    };
+    vec![
+        family("fetch: the last of 64 tables of 46 bytes", move |k| {
+            let store = store_of(&vec![plain(0); 32 * k], 0);
+            on_store(store, 0, move |store| store::fetch(store, 32 * k - 1).0)
+        }),
+        family("remove: the first of 63, 65,520 bytes", move |k| {
+            let store = store_of(&vec![plain(990); 32 * k - 1], 0);
+            on_store(store, 0, |store| store::remove(store, 0))
+        }),
+        family("remove: a small one before 15 of 4,142 bytes", move |k| {
+            let tables = [vec![plain(0)], vec![plain(4096); 8 * k - 1]].concat();
+            on_store(store_of(&tables, 0), 0, |store| store::remove(store, 0))
+        }),
+        family(
+            "add: 414 names of 64 bytes, 10,000 bytes, 63 held",
+            move |k| {
+                let group = eight(&[name(64, 0)], &[name(64, 0)], 59);
+                let table = table(&hostile::times(&group, 23 * k), &vec![b'n'; 2048 * k]);
+                let store = store_of(&vec![plain(0); 32 * k - 1], 4 + table.len());
+                let bytes = 23 * k * 9 * 64;
+                on_store(store, bytes, move |store| store::add(store, &table).0)
+            },
+        ),
+        family("match: 6 tables, 414 lookups each, as above", |k| {
+            let names = alike(64, 64);
+            let group = eight(&[name(64, 0)], &[name(64, 0)], 59);
+            let table = table(&often(&group), &names[63]);
+            let fields: Vec<_> = names
+                .into_iter()
+                .map(|name| (name, 1, vec![0; 4]))
+                .collect();
+            let bytes = groups(&group) * 9 * 64 * 69;
+            matched(table, 3 * k, notice(&fields), bytes)
+        }),
+        family("match: 6 tables, contains in the pool, as above", |k| {
+            let (group, pool) = hostile::almost_contained(2048, 1);
+            let bytes = groups(&group) * both(4095, 2048);
+            let table = table(&often(&group), &pool);
+            matched(table, 3 * k, hostile::EMPTY.to_vec(), bytes)
         }),
     ]
 }

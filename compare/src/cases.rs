@@ -83,7 +83,7 @@ pub fn entry_number(undecided: Option<usize>) -> usize {
 }
 
 /// The kinds in turn, by the case's number.
-const KINDS: [&str; 29] = [
+const KINDS: [&str; 30] = [
     "text",
     "table",
     "notice",
@@ -113,6 +113,7 @@ const KINDS: [&str; 29] = [
     "many",
     "shift",
     "more",
+    "store",
 ];
 /// So many operators are tried in one case of theirs.
 const OPERATORS: usize = 20;
@@ -145,6 +146,7 @@ impl Case<'_> {
             "many" => self.many(),
             "shift" => self.shift(),
             "more" => self.more(),
+            "store" => self.store(),
             "operator" => (0..OPERATORS).try_for_each(|_| self.operator()),
             _ => self.program(),
         }
@@ -583,6 +585,7 @@ mod tests {
                 "quorum",
                 "shift",
                 "size",
+                "store",
                 "table",
                 "text",
                 "ubf",

@@ -121,7 +121,7 @@ fn laid(random: &mut Random, notice: &[u8]) -> Vec<u8> {
 
 /// The byte for what a run alone answers: "0 false, 1 true, 2 bottom, 3 table refused"; 255 for what no run
 /// on a right notice does.
-fn byte_of(alone: virentolex::Ran) -> u8 {
+pub fn byte_of(alone: virentolex::Ran) -> u8 {
     match (alone.number, alone.verdict) {
         (0, virentolex::Verdict::False) => 0,
         (0, virentolex::Verdict::True) => 1,

@@ -3,7 +3,7 @@
 use crate::edges::EDGES;
 use crate::{
     corners, editions, find_edges, many_edges, more_edges, quorum_edges, shift_edges, size,
-    spellings, ubf_edges, undecided_edges, wildcard,
+    spellings, store_edges, ubf_edges, undecided_edges, wildcard,
 };
 use reference::op::OPS;
 use std::collections::BTreeMap;
@@ -18,7 +18,7 @@ const MOST_NAMED: usize = 64;
 const RAREST: usize = 8;
 
 /// What must occur in a run of many cases.
-const NUMBERS: [(&str, &[u8]); 13] = [
+const NUMBERS: [(&str, &[u8]); 18] = [
     ("translate", &[0, 1, 2, 3, 4, 5, 6, 7, 8, 9, 10, 18, 25]),
     ("check", &[0, 12]),
     ("run", &[0, 11, 12]),
@@ -32,6 +32,11 @@ const NUMBERS: [(&str, &[u8]); 13] = [
     ("ubf read", &[0, 13, 14, 15, 16, 22, 23]),
     ("ubf write", &[0, 11, 15, 23]),
     ("run_many", &[0, 9, 11, 24]),
+    ("store make", &[0, 26]),
+    ("store add", &[0, 12, 26, 27, 28]),
+    ("store remove", &[0, 26, 29]),
+    ("store fetch", &[0, 26, 29]),
+    ("store match", &[0, 9, 11, 26]),
 ];
 const WORDS: [(&str, &[&str]); 12] = [
     (
@@ -53,6 +58,7 @@ const WORDS: [(&str, &[&str]); 12] = [
             "many",
             "shift",
             "more",
+            "store",
         ],
     ),
     ("verdict", &["True", "False", "Bottom"]),
@@ -109,6 +115,7 @@ impl Tally {
         let shifts = shift_edges::names().into_iter().map(|one| ("shift", one));
         let more = more_edges::names().into_iter().map(|one| ("more", one));
         let editions = editions::names().into_iter().map(|one| ("edition", one));
+        let stores = store_edges::names().into_iter().map(|one| ("store", one));
         let all = numbers
             .chain(words)
             .chain(ops)
@@ -121,6 +128,7 @@ impl Tally {
             .chain(shifts)
             .chain(editions)
             .chain(more)
+            .chain(stores)
             .chain(spellings);
         all.filter(|key| !self.counts.contains_key(key))
             .map(|(of, one)| format!("{of} {one}"))

@@ -14,6 +14,7 @@ pub mod notice;
 pub mod op;
 pub mod quorum;
 pub mod run;
+pub mod store;
 pub mod table;
 pub mod tokens;
 pub mod ubf;

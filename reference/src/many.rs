@@ -48,12 +48,17 @@ pub fn parts(tables: &[u8]) -> Vec<Part<'_>> {
     parts
 }
 
-/// "0 false, 1 true, 2 bottom, 3 table refused"
+/// A remainder is refused.
 fn verdict_byte(part: Part, notice: &[u8]) -> u8 {
-    let Part::Whole(table) = part else {
-        return 3;
-    };
-    // "The result must be the same as calling one by one"
+    match part {
+        Part::Whole(table) => byte_of(table, notice),
+        Part::Remainder(_) => 3,
+    }
+}
+
+/// "0 false, 1 true, 2 bottom, 3 table refused", of a table on a notice that is right: "The result must be the
+/// same as calling one by one".
+pub fn byte_of(table: &[u8], notice: &[u8]) -> u8 {
     let answer = run(table, notice);
     match (answer.number, answer.verdict) {
         (0, Truth::False) => 0,

@@ -24,11 +24,14 @@
 //!   `07-run.txt` and `01-check.txt`, of tables of both editions
 //! - `10-more.txt`: edition, text, notice, larger notice, both verdicts
 //! - `11-find.txt`: notice, name, index of the field that has it or `-`, names looked at
+//! - `12-store.txt`: buffer length, number of calls, the calls (`a` table, `r` number, `f` number), `:`, the number of
+//!   making the store empty, then for each call number:answer: of `a` the table's number, of `r` 0, of `f` the table
 //!
 //! Runs of files without 07 or 09 in front are from before request 7, so that their answers have no entry.
 //! Texts of files without 09 or 10 in front are from before request 9: of the first edition.
 
 use crate::quorum::{self, Decision, Shown};
+use crate::store;
 use crate::wildcard::Pattern;
 use crate::Truth;
 
@@ -69,6 +72,7 @@ fn answer(file: &str, words: &[&str]) -> Option<(usize, String)> {
         ("08-many.txt", 7) => Some((3, many(words)?)),
         ("10-more.txt", 6) => Some((4, more(words)?)),
         ("11-find.txt", 4) => Some((2, find(words)?)),
+        ("12-store.txt", _) => store(words),
         _ => None,
     }
 }
@@ -227,6 +231,39 @@ fn find(words: &[&str]) -> Option<String> {
     (answer.number == 0).then(|| format!("{index} {}", answer.looked))
 }
 
+/// A store made empty in a buffer of that length, and the calls on it. With no calls an empty word stands for them.
+fn store(words: &[&str]) -> Option<(usize, String)> {
+    let given = words.iter().position(|word| *word == ":")? + 1;
+    let mut calls = words.get(2..given - 1)?.to_vec();
+    calls.retain(|call| !call.is_empty());
+    if words[1].parse() != Ok(calls.len()) {
+        return None;
+    }
+    let mut buffer = vec![0; words[0].parse().ok()?];
+    let mut answers = vec![store::make(&mut buffer).to_string()];
+    for call in calls {
+        answers.push(store_call(&mut buffer, call)?);
+    }
+    Some((given, answers.join(" ")))
+}
+
+/// One call on the store in the buffer, and its answer.
+fn store_call(buffer: &mut [u8], call: &str) -> Option<String> {
+    let rest = call.get(1..)?;
+    Some(match call.as_bytes()[0] {
+        b'a' => {
+            let added = store::add(buffer, &bytes(rest)?);
+            format!("{}:{}", added.number, added.id)
+        }
+        b'r' => format!("{}:0", store::remove(buffer, rest.parse().ok()?)),
+        b'f' => {
+            let (number, part) = store::fetch(buffer, rest.parse().ok()?);
+            format!("{number}:{}", hex(&buffer[part]))
+        }
+        _ => return None,
+    })
+}
+
 fn shown(answer: Shown) -> String {
     let reached = u8::from(answer.reached);
     format!(
@@ -274,5 +311,9 @@ mod tests {
         }
         assert!(agree("07-run.txt", "- - 12 0 bottom 0 0").is_err());
         assert_eq!(agree("read.txt", "0400000001000000 2 17 0 0 - -"), Ok(1));
+        let lines = "8 0  : 0\n7 1 f0 : 26 26:-\n8 2 a- r64 : 0 12:64 29:0";
+        assert_eq!(agree("12-store.txt", lines), Ok(3));
+        assert!(agree("12-store.txt", "8 1 f0 : 0 0:-").is_err());
+        assert!(agree("12-store.txt", "8 2 f0 : 0 29:-").is_err());
     }
 }

@@ -30,6 +30,7 @@ fn the_vectors_agree() {
         ("09-check.txt", 300),
         ("10-more.txt", 300),
         ("11-find.txt", 500),
+        ("12-store.txt", 250),
     ];
     for (file, cases) in files {
         let lines = read_to_string(format!("{folder}/{file}")).expect(file);

@@ -5,6 +5,10 @@
 //! refusal's number in the customer's papers, 0 if nothing was refused. No function asks anything of its caller.
 #![deny(unsafe_op_in_unsafe_fn)]
 
+mod store;
+
+pub use store::*;
+
 use std::fmt;
 
 /// The functions of librouter.a, as `include/virentolex.h` declares them.
@@ -140,7 +144,7 @@ pub const DECISION_MAX: usize = DECISION_HEAD + TABLE_MAX;
 
 /// The most tables of one call of `run_many`.
 pub const TABLES_MAX: usize = 64;
-/// The byte of `run_many` for a table that fails its check.
+/// The byte of `run_many`, and of a store's match, for a table that fails its check.
 pub const REFUSED: u8 = 3;
 
 /// The most bytes of a UBF(A) text that is written; one that is read may be longer.
@@ -210,7 +214,8 @@ impl Verdict {
         }
     }
 
-    /// The verdict that a byte of `run_many` is; none for `REFUSED`, and for what is no such byte.
+    /// The verdict that a byte of `run_many` or of a store's match is; none for `REFUSED`, for `FREE`, and for
+    /// what is no such byte.
     pub fn of_byte(byte: u8) -> Option<Verdict> {
         (byte < REFUSED).then(|| Verdict::of_number(byte))
     }

@@ -753,6 +753,13 @@ fn the_examples_of_the_formats() {
     assert_eq!(d.bytes(), example("opened"));
     assert_eq!(d.show(&notice), shown(0, 0, 1, false));
     assert_eq!(d.into_buffer(), example("counted"));
+    let mut store = Store::make(vec![0; 64]).unwrap();
+    assert_eq!(store.bytes(), example("empty"));
+    assert_eq!(store.add(&OP_IS_42), Ok(0));
+    assert_eq!(store.bytes(), example("held"));
+    assert_eq!(store.remove(0), Ok(()));
+    assert_eq!(store.bytes()[..8], example("empty")[..8]);
+    assert_eq!(store.bytes()[8..], example("held")[8..]);
 }
 
 fn converted(number: u8, place: usize, length: usize) -> Converted {

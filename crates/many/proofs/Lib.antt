@@ -1,3 +1,4 @@
 pub mod Stretches
 pub mod Verdicts
+pub mod Holding
 pub mod Theorems

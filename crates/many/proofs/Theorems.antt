@@ -2,22 +2,31 @@
 use mathlib.Core.Path.{_≡_, refl, sym, ap, _∙_}
 use mathlib.Core.Bool.{Bool, true, false, cond}
 use mathlib.Core.List.{List, [], _∷_, _++_}
+use mathlib.Core.Option.{none, some}
 use Prim.Native.Nat.{ℕ, zero, suc, _+_, _≤_, _<_}
 use native.Mathlib.Omega.{arith}
 use native.Mathlib.Decide.{decLe}
 use lib.Dec.{leb, eqb}
 use lib.ListN.{length, getD, take, drop, length-drop, length-map, take-append-drop, List·getD-append, List·getD-map}
-use lib.Seq.{sets-eq, drop-at, drop-cons}
+use lib.Seq.{sets-eq, drop-at}
 use borrow.Author.Tests.{leb-true, eq-eqb, ne-eqb}
+use Rattle.common.specs.Choice.{pick}
 use Rattle.notice.specs.Layout.{checkOf as noticeCheck}
 use Rattle.notice.specs.declared.Layout.{Layout}
 use Rattle.notice.specs.declared.Layout.the-variants.{WellFormed, Fault}
 use Rattle.interpreter.specs.Running.{runningOf}
 use Rattle.interpreter.specs.declared.Ran.{Ran}
+use Rattle.store.specs.declared.Part.{Part}
+use Rattle.store.specs.Layout.{rightOf, placesIn}
+use Rattle.store.specs.Calls.{heldRefusal}
 use Rattle.many.specs.declared.Delivered.{Delivered}
+use Rattle.many.specs.declared.Matched.{Matched}
 use Rattle.many.specs.Many.{extentOf, stretchesFrom, stretchesOf, verdictByte, verdictsOf, refusalOf, manyRefusal, Delivers}
-use Rattle.many.specs.Theorems.{joined, EndToEnd, OneByOne, PastStays}
+use Rattle.many.specs.Held.{placeByte, heldVerdicts, refusedBy, matchRefusal, Matches}
+use Rattle.many.specs.Theorems.{joined, EndToEnd, OneByOne, PastStays, StoreOneByOne, StorePastStays}
 use Rattle.many.proofs.Stretches.{extent-bounds, from-none, from-some}
+use Rattle.many.proofs.Verdicts.{no-default}
+use Rattle.many.proofs.Holding.{byte-free, byte-held, bytes-64, byte-at}
 
 -- ---- the stretches
 
@@ -74,10 +83,6 @@ module _ (tables notice verdicts after : List ℕ) (r : Delivered) (d : Delivers
         let z : 0 + length (verdictsOf tables notice) ≡ length (verdictsOf tables notice) = omega arith in
         (rw accepted at (d .bytes)) ∙ (rw z at (sets-eq (verdictsOf tables notice) verdicts 0 room))
 
--- an element does not depend on what stands for none
-no-default : (l : List ℕ) (i d e : ℕ) → i < length l → getD l i d ≡ getD l i e
-no-default l i d e h = ap (λ (t : List ℕ). getD t 0 0) (sym (drop-cons l i d h) ∙ drop-cons l i e h)
-
 pub one-by-one : OneByOne
 one-by-one tables notice verdicts after r d z =
     let c = all-counted tables notice verdicts after r d z in
@@ -104,3 +109,59 @@ past-stays tables notice verdicts after r d = go (decLe 1 (r .number))
         let c : length (verdictsOf tables notice) ≡ r .count = one-each tables notice verdicts after r d z ∙ sym (all-counted tables notice verdicts after r d z) in
         ap (drop (r .count)) (written tables notice verdicts after r d z)
         ∙ (drop-at (verdictsOf tables notice) (drop (length (verdictsOf tables notice)) verdicts) (r .count) c ∙ ap (λ (n : ℕ). drop n verdicts) c)
+
+-- ---- the tables that a store holds
+
+module _ (store notice verdicts after : List ℕ) (r : Matched) (m : Matches store notice verdicts after r) where
+  match-number : r .number ≡ matchRefusal store notice (length verdicts)
+  match-number = ap (λ (a : Matched). a .number) (m .answer)
+
+  module _ (z : r .number ≡ 0) where
+    unrefused : (rightOf store ≡ true) × (64 ≤ length verdicts)
+    unrefused = go (rightOf store) refl (noticeCheck notice) (sym match-number ∙ z)
+      where
+        by-room : (b : Bool) → leb 64 (length verdicts) ≡ b → _≡_ {A = ℕ} (cond b 0 9) 0 → 64 ≤ length verdicts
+        by-room true p e = leb-true 64 (length verdicts) p
+        by-room false p e = absurd (omega arith)
+
+        go : (b : Bool) → rightOf store ≡ b → (l : Layout) → refusedBy (pick b (λ _. some (placesIn store)) (λ _. none)) l (length verdicts) ≡ 0 → (rightOf store ≡ true) × (64 ≤ length verdicts)
+        go false p l e = absurd (omega arith)
+        go true p (Fault place) e = absurd (omega arith)
+        go true p WellFormed e = (p, by-room (leb 64 (length verdicts)) refl e)
+
+    match-accepted : eqb (matchRefusal store notice (length verdicts)) 0 ≡ true
+    match-accepted = eq-eqb (matchRefusal store notice (length verdicts)) 0 (sym match-number ∙ z)
+
+    -- the 64 bytes, and what is past them
+    match-bytes : after ≡ heldVerdicts store notice ++ drop (length (heldVerdicts store notice)) verdicts
+    match-bytes =
+        let l = bytes-64 store notice in
+        let room : 0 + length (heldVerdicts store notice) ≤ length verdicts = omega (arith, unrefused .1) in
+        let y : 0 + length (heldVerdicts store notice) ≡ length (heldVerdicts store notice) = omega arith in
+        (rw match-accepted at (m .bytes)) ∙ (rw y at (sets-eq (heldVerdicts store notice) verdicts 0 room))
+
+    match-byte : (n : ℕ) → n < 64 → getD after n 0 ≡ placeByte notice (getD (placesIn store) n none)
+    match-byte n h =
+        ap (λ (t : List ℕ). getD t n 0) match-bytes
+        ∙ (List·getD-append (heldVerdicts store notice) (drop (length (heldVerdicts store notice)) verdicts) 0 n (omega (arith, bytes-64 store notice)) ∙ byte-at store notice n h)
+
+pub store-one-by-one : StoreOneByOne
+store-one-by-one store notice verdicts after r m z n p h e =
+    let ok = unrefused store notice verdicts after r m z .0 in
+    let b = match-byte store notice verdicts after r m z n h in
+    let k : p .refusal ≡ heldRefusal store n = ap (λ (x : Part). x .refusal) e in (
+      λ f. b ∙ sym (byte-free store notice n ok (λ y. f (k ∙ y))),
+      λ f table ran g q. b ∙ (sym (byte-held store notice n ok (sym k ∙ f)) ∙ ap verdictByte (sym (q ∙ ap (λ (t : List ℕ). runningOf t notice) g))),
+    )
+
+pub store-past-stays : StorePastStays
+store-past-stays store notice verdicts after r m = go (decLe 1 (r .number))
+  where
+    go : Dec (1 ≤ r .number) → drop 64 after ≡ drop 64 verdicts
+    go (yes n) =
+        let f : eqb (matchRefusal store notice (length verdicts)) 0 ≡ false = ne-eqb (matchRefusal store notice (length verdicts)) 0 (λ e. omega (arith, match-number store notice verdicts after r m)) in
+        ap (drop 64) (rw f at (m .bytes))
+    go (no n) =
+        let z : r .number ≡ 0 = omega arith in
+        ap (drop 64) (match-bytes store notice verdicts after r m z)
+        ∙ (drop-at (heldVerdicts store notice) (drop (length (heldVerdicts store notice)) verdicts) 64 (bytes-64 store notice) ∙ ap (λ (k : ℕ). drop k verdicts) (bytes-64 store notice))

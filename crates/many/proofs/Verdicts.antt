@@ -5,8 +5,8 @@ use mathlib.Core.List.{List, _∷_, map}
 use Prim.Native.Nat.{ℕ, suc, _+_, _-_, _≤_, _<_}
 use native.Mathlib.Omega.{arith}
 use native.Mathlib.Numerals.{add-one}
-use lib.ListN.{length, set, take, drop, length-set}
-use lib.Seq.{sets}
+use lib.ListN.{length, getD, set, take, drop, length-set}
+use lib.Seq.{sets, drop-cons}
 use borrow.Author.Tests.{le-leb, lt-leb, eq-eqb}
 use Rattle.truth.specs.Truth.{numberOf as verdictNumber}
 use Rattle.notice.specs.Layout.{checkOf as noticeCheck}
@@ -18,6 +18,10 @@ use Rattle.interpreter.proofs.Answers.{table-refused}
 use Rattle.many.specs.declared.Delivered.{Delivered}
 use Rattle.many.specs.Many.{stretchesOf, verdictByte, verdictsOf, Delivers}
 use Rattle.many.proofs.Stretches.{Ends, walked, walks}
+
+-- an element does not depend on what stands for none
+pub no-default : (l : List ℕ) (i d e : ℕ) → i < length l → getD l i d ≡ getD l i e
+no-default l i d e h = ap (λ (t : List ℕ). getD t 0 0) (sym (drop-cons l i d h) ∙ drop-cons l i e h)
 
 -- ---- the byte of one table
 

@@ -5,8 +5,12 @@ use mathlib.Core.List.{List, [], _∷_, _++_}
 use lib.ListN.{length, getD, drop}
 use Rattle.interpreter.specs.Running.{runningOf}
 use Rattle.interpreter.specs.declared.Ran.{Ran}
+use Rattle.store.specs.Calls.{partOf, fetchedOf}
+use Rattle.store.specs.declared.Part.{Part}
 use Rattle.many.specs.Many.{stretchesOf, verdictByte, Delivers}
+use Rattle.many.specs.Held.{Matches}
 use Rattle.many.specs.declared.Delivered.{Delivered}
+use Rattle.many.specs.declared.Matched.{Matched}
 
 -- "tables laid end to end": the stretches, one after the other, are the bytes.
 abbrev pub joined : List (List ℕ) → List ℕ
@@ -26,3 +30,18 @@ OneByOne =
 -- "Bytes past the last verdict stay."
 abbrev pub PastStays : Type 0
 PastStays = (tables notice verdicts after : List ℕ) (r : Delivered) → Delivers tables notice verdicts after r → drop (r .count) after ≡ drop (r .count) verdicts
+
+-- ---- the tables that a store holds
+
+-- One call is the same as fetching and running one by one: where `match_store` is not refused, byte n is 4 if `find` refuses the number n,
+-- and else what `run` answers for the table that `fetch` answers, by the promises of all four.
+abbrev pub StoreOneByOne : Type 0
+StoreOneByOne =
+    (store notice verdicts after : List ℕ) (r : Matched) → Matches store notice verdicts after r → r .number ≡ 0 →
+    (n : ℕ) (p : Part) → n < 64 → p ≡ partOf store n →
+    ((p .refusal ≡ 0 → ⊥) → getD after n 0 ≡ 4)
+    × (p .refusal ≡ 0 → (table : List ℕ) (ran : Ran) → table ≡ fetchedOf store n → ran ≡ runningOf table notice → getD after n 0 ≡ verdictByte ran)
+
+-- Bytes past the 64 stay.
+abbrev pub StorePastStays : Type 0
+StorePastStays = (store notice verdicts after : List ℕ) (r : Matched) → Matches store notice verdicts after r → drop 64 after ≡ drop 64 verdicts

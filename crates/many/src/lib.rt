@@ -11,11 +11,21 @@ ghost use Rattle.interpreter.specs.Running.{runningOf};
 ghost use Rattle.many.specs.Many.{extentOf, stretchesOf, verdictByte, verdictsOf, Delivers};
 use notice::Layout;
 
+mod held;
+
+pub use held::match_store;
+
 // What is answered: document 02's number, the place of 11, and how many verdicts were written.
 pub struct Delivered {
     pub number: u8,
     pub place: usize,
     pub count: usize,
+}
+
+// What is answered of a store: document 02's number, and the place of 11.
+pub struct Matched {
+    pub number: u8,
+    pub place: usize,
 }
 
 fn refused(number: u8, place: usize) -> Delivered

@@ -10,8 +10,7 @@ use lib.ListN.{length}
 use borrow.Author.Tests.{le-leb, lt-leb, ne-eqb}
 use Rattle.table.specs.Table.{mostBytes}
 use Rattle.table.specs.Check.{checkOf as tableCheck}
-use Rattle.table.proofs.Tests.{both-true}
-use Rattle.table.proofs.Laid.{laid}
+use Rattle.table.proofs.Theorems.{checked-short}
 use Rattle.quorum.specs.Decision.{openedWith}
 use Rattle.quorum.specs.Showing.{nothingYet, openRefusal, Opens}
 
@@ -33,11 +32,6 @@ module _ (room : ℕ) (table : List ℕ) (needed : ℕ) where
       pub may-open : 528 + length table ≤ room → 0 ≡ openRefusal room table needed
       may-open l = rw (e, le-leb 1 needed g, le-leb needed 8 h, le-leb (528 + length table) room l)
 
--- a table that passes the check is short
-pub table-short : (table : List ℕ) → tableCheck table ≡ true → length table ≤ mostBytes
-unfolding tableCheck
-table-short table e = let l = laid table (both-true _ _ e .0) in omega (arith, l .few, l .small, l .whole)
-
 -- an opening that is not refused
 pub record Openable (room : ℕ) (table : List ℕ) (needed : ℕ) : Type 0 where
   pub checked : tableCheck table ≡ true
@@ -57,7 +51,7 @@ openable room table needed e = go (tableCheck table) (decLe 1 needed) (decLe nee
     go true (no b) c d p = never (too-few room table needed p (omega arith)) (omega arith)
     go true (yes b) (no c) d p = never (too-many room table needed p b (omega arith)) (omega arith)
     go true (yes b) (yes c) (no d) p = never (no-room room table needed p b c (omega arith)) (omega arith)
-    go true (yes b) (yes c) (yes d) p = record { checked = p; some-needed = b; few-needed = c; fits = d; short = table-short table p }
+    go true (yes b) (yes c) (yes d) p = record { checked = p; some-needed = b; few-needed = c; fits = d; short = checked-short table p }
 
 module _ (s table : List ℕ) (needed : ℕ) (number : ℕ) (e : number ≡ openRefusal (length s) table needed) where
   pub open-refused : (number ≡ 0 → ⊥) → Opens s table needed s (nothingYet number)

@@ -15,7 +15,9 @@ ghost use Rattle.notice.specs.Write.{field, writtenOf, writtenBytes};
 ghost use Rattle.interpreter.specs.Running.{runningOf};
 ghost use Rattle.quorum.specs.Showing.{openOf, openedBytes, showOf, shownBytes, Gives};
 ghost use Rattle.many.specs.Many.{manyOf, manyBytes};
+ghost use Rattle.many.specs.Held.{matchOf, matchedBytes};
 ghost use Rattle.ubf.specs.Answer.{readAnswer, readBytes, writeAnswer, writeBytes};
+ghost use Rattle.store.specs.Calls.{makeRefusal, madeBytes, addedOf, addedBytes, heldRefusal, removedBytes, partOf};
 use notice::Layout;
 
 pub mod matching;
@@ -270,5 +272,66 @@ pub extern "C" fn virentolex_run_many<'a>(
     let a = many::run_many(tables, notice, verdicts);
     *place = a.place;
     *count = a.count;
+    a.number
+}
+
+// "a standing store in one lent buffer of at most 64 KiB: make it empty". A refusal changes no byte.
+#[no_mangle]
+pub extern "C" fn virentolex_store_make(store: &mut [u8]) -> u8
+    ensures { λ r. ⌜ r ≡ makeRefusal (now (store .entry)) ⌝ }
+    ensures { λ _. ⌜ now (store .exit) ≡ madeBytes (now (store .entry)) ⌝ }
+{
+    store::make(store)
+}
+
+// "add a table and get the lowest free number 0..63"; "Refused, add answers 64". A refusal changes no byte.
+#[no_mangle]
+pub extern "C" fn virentolex_store_add(store: &mut [u8], table: &[u8], number: &mut usize) -> u8
+    ensures { λ r. ⌜ record { refusal = r; number = now (number .exit) } ≡ addedOf (now (store .entry)) (now (table .entry)) ⌝ }
+    ensures { λ _. ⌜ now (store .exit) ≡ addedBytes (now (store .entry)) (now (table .entry)) ⌝ }
+{
+    let a = store::add(store, table);
+    *number = a.number;
+    a.refusal
+}
+
+// "remove by number". A refusal changes no byte.
+#[no_mangle]
+pub extern "C" fn virentolex_store_remove(store: &mut [u8], number: usize) -> u8
+    ensures { λ r. ⌜ r ≡ heldRefusal (now (store .entry)) number ⌝ }
+    ensures { λ _. ⌜ now (store .exit) ≡ removedBytes (now (store .entry)) number ⌝ }
+{
+    store::remove(store, number)
+}
+
+// "fetch by number as a part of the buffer": the table is the bytes from `start` to `end`, both 0 if refused.
+#[no_mangle]
+pub extern "C" fn virentolex_store_fetch(
+    store: &[u8],
+    number: usize,
+    start: &mut usize,
+    end: &mut usize,
+) -> u8
+    ensures { λ r. ⌜ record { refusal = r; start = now (start .exit); end = now (end .exit) } ≡ partOf (now (store .entry)) number ⌝ }
+{
+    let p = store::find(store, number);
+    *start = p.start;
+    *end = p.end;
+    p.refusal
+}
+
+// Every table that a store holds on one notice, one byte by number: 0 false, 1 true, 2 bottom, 3 table refused, 4 for a free place. A refusal changes no byte.
+#[no_mangle]
+pub extern "C" fn virentolex_store_match<'a>(
+    store: &'a [u8],
+    notice: &'a [u8],
+    verdicts: &mut [u8],
+    place: &mut usize,
+) -> u8
+    ensures { λ r. ⌜ record { number = r; place = now (place .exit) } ≡ matchOf (now (store .entry)) (now (notice .entry)) (length (now (verdicts .entry))) ⌝ }
+    ensures { λ _. ⌜ now (verdicts .exit) ≡ matchedBytes (now (store .entry)) (now (notice .entry)) (now (verdicts .entry)) ⌝ }
+{
+    let a = many::match_store(store, notice, verdicts);
+    *place = a.place;
     a.number
 }

@@ -2,7 +2,7 @@
 use mathlib.Core.Path.{_≡_, refl, sym, ap, _∙_}
 use mathlib.Core.Bool.{Bool, true, false, _&&_, _||_, or-true}
 use mathlib.Core.List.{List}
-use Prim.Native.Nat.{ℕ, suc, _-_, _^_, _<_}
+use Prim.Native.Nat.{ℕ, suc, _-_, _^_, _≤_, _<_}
 use native.Mathlib.Numerals.{add-one}
 use native.Mathlib.Omega.{arith}
 use lib.Dec.{leb, ltb}
@@ -11,7 +11,7 @@ use lib.ListN.{length}
 use borrow.Author.Tests.{ltb-true, lt-ltb, leb-true, le-leb}
 use mir.Syntax.{w32, w64}
 use mir.Val.{SFits, ofZ}
-use Rattle.table.specs.Table.{encode, decode, layoutOf, countOf, entryAt, entriesOf, poolOf}
+use Rattle.table.specs.Table.{mostBytes, encode, decode, layoutOf, countOf, entryAt, entriesOf, poolOf}
 use Rattle.table.specs.Check.{inRange, entriesRight, shapeFrom, shapeAt, endRight, skipsRight, patternsBefore, patternsRight, programRight, checkOf}
 use Rattle.table.specs.Theorems.{DecodeEncode, EncodeDecode, Layout, Widened, CheckEncode, CheckWays, EveryReached, CheckedEntry, CheckedSkip, CheckedEnds, PartsName}
 use Rattle.table.proofs.Tests.{both-true, are-true}
@@ -93,6 +93,10 @@ every-reached s c i h =
 
 pub checked-layout : (s : List ℕ) → checkOf s ≡ true → layoutOf s ≡ true
 checked-layout s c = parts s c .lay
+
+-- a table that passes the check is short
+pub checked-short : (s : List ℕ) → checkOf s ≡ true → length s ≤ mostBytes
+checked-short s c = let l = laid s (checked-layout s c) in omega (arith, l .few, l .small, l .whole)
 
 pub checked-entry : CheckedEntry
 checked-entry s c i h =
