@@ -19,7 +19,7 @@ static const char *const spelled[] = {
     [6] = "fold-case", "size", "~",
     [16] = "<<", ">>", ">>>", "&", "^", "|", "*", "/", "%", "+", "-",
     [32] = "==", "!=", "<", "<=", ">", ">=",
-    [56] = "begins-with", "contains", "ends-with", "equals", "wildcard"};
+    [56] = "begins-with", "contains", "ends-with", "equals", "wildcard", "regex"};
 
 static const char *const kinds[] = {"", "int32", "int64", "real64", "string", "opaque"};
 static const char *const verdicts[] = {"false", "true", "bottom"};

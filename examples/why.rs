@@ -22,7 +22,14 @@ fn spelled(op: u16) -> &'static str {
         32..=37 => (32, &["==", "!=", "<", "<=", ">", ">="]),
         _ => (
             56,
-            &["begins-with", "contains", "ends-with", "equals", "wildcard"],
+            &[
+                "begins-with",
+                "contains",
+                "ends-with",
+                "equals",
+                "wildcard",
+                "regex",
+            ],
         ),
     };
     words[usize::from(op - first)]

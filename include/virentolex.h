@@ -11,7 +11,7 @@
  *                   1 a token has no legal form      3 a number or name outside its limits
  *                   6 nested too deep                2 grammar not kept
  *                   4 unknown function or wrong arguments
- *                  18 a wildcard pattern is ill-formed
+ *                  18 a pattern of `wildcard` or `regex` is ill-formed
  *                   5 kind wrong                     7 over 512 entries
  *                   8 stack over 32                  9 buffer shorter than the table
  *    tables        12 layout or check fails, an ill-formed pattern too
@@ -40,10 +40,11 @@
  *
  * The functions keep nothing between calls, so that threads may call them at the same time. They end,
  * use no heap and call nothing but memset. The stack is not part of the proofs. Measured: translating
- * takes 14 kB for a flat text, 18 kB with `wildcard`, and 349 kB for the deepest texts tried (24
- * parentheses, every operator level and 24 prefix operators between each two); a run whose `contains`
- * goes on by borders takes 10 kB, among many tables and those of a store too, the other functions at
- * most 6 kB, of which reading UBF(A) takes 4.
+ * takes 14 kB for a flat text, 18 kB with `wildcard` or `regex`, and 349 kB for the deepest texts tried
+ * (24 parentheses, every operator level and 24 prefix operators between each two); a run with `regex`
+ * takes 23 kB and one whose `contains` goes on by borders 14 kB, among many tables, those of a store and
+ * in a decision too, the other functions at most 6 kB, of which reading UBF(A) takes 4. The time of
+ * `regex` is at most that of the pattern's bytes times the value's; a pattern never makes it go back.
  */
 #ifndef VIRENTOLEX_H
 #define VIRENTOLEX_H

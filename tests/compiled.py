@@ -10,7 +10,7 @@ PREFIX, OPEN, CLOSE = (8, 40), 9, 10
 SKIPS = {41: 44, 43: 45}
 FUNCTIONS = dict(zip(b"fold-case size".split(), (6, 7)))
 FUNCTIONS.update(zip(b"int32 int64 real64 string opaque nan require".split(), range(48, 55)))
-FUNCTIONS.update(zip(b"begins-with contains ends-with equals wildcard".split(), range(56, 61)))
+FUNCTIONS.update(zip(b"begins-with contains ends-with equals wildcard regex".split(), range(56, 62)))
 sys.setrecursionlimit(10000)
 
 

@@ -1,8 +1,8 @@
 #!/usr/bin/env python3
-"""grammar_vectors.py [VECTORS]: writes crates/grammar_test/stdin and stdout from VECTORS/translate.txt and document 01's examples.
+"""grammar_vectors.py [VECTORS]: writes crates/grammar_test/stdin and stdout from VECTORS/translate.txt, 01-translate.txt and 13-translate.txt and document 01's examples.
 
-A text that is refused 1, 3, 10, 6, 2, 4 or 5 answers number and place; an accepted one, or one refused 9, answers 0 and its table's entries, pool length and
-slots, which are read off the table's bytes (a text refused 7, 8 or 9 has no table and is left out)."""
+A text that is refused 1, 3, 10, 6, 2, 4, 18 or 5 answers number and place; an accepted one, or one refused 9, answers 0 and its table's entries, pool length and
+slots, which are read off the table's bytes (a text refused 7, 8 or 9 has no table and is left out, and so is one of no edition)."""
 import struct
 import sys
 from pathlib import Path
@@ -33,13 +33,14 @@ def main(vectors=Path(__file__).resolve().with_name("vectors")):
     for text, number, place in EXAMPLES:
         stdin += struct.pack("<I", len(text)) + text
         rows.append(f"{number} {place} ")
-    for line in (Path(vectors) / "translate.txt").read_text().splitlines():
-        text, _, number, place, table = line.split()
-        if number in ("7", "8", "9"):
-            continue
-        text = b"" if text == "-" else bytes.fromhex(text)
-        stdin += struct.pack("<I", len(text)) + text
-        rows.append("0 %d %d %d " % sizes(bytes.fromhex(table)) if number == "0" else f"{number} {place} ")
+    for name in ("translate.txt", "01-translate.txt", "13-translate.txt"):
+        for line in (Path(vectors) / name).read_text().splitlines():
+            text, _, number, place, table = line.split()[-5:]
+            if number in ("7", "8", "9", "25"):
+                continue
+            text = b"" if text == "-" else bytes.fromhex(text)
+            stdin += struct.pack("<I", len(text)) + text
+            rows.append("0 %d %d %d " % sizes(bytes.fromhex(table)) if number == "0" else f"{number} {place} ")
     (here / "stdin").write_bytes(stdin)
     (here / "stdout").write_text("\n".join(rows) + "\n")
 

@@ -1,5 +1,5 @@
 #!/usr/bin/env python3
-"""run_vectors.py [VECTORS]: writes crates/interpreter_test/stdin and stdout from VECTORS/run.txt, 01-run.txt, 02-run.txt, 06-run.txt, 07-run.txt, 09-run.txt and 10-more.txt, document 01's own runs, and runs at the limits that the documents name.
+"""run_vectors.py [VECTORS]: writes crates/interpreter_test/stdin and stdout from VECTORS/run.txt, 01-run.txt, 02-run.txt, 06-run.txt, 07-run.txt, 09-run.txt, 10-more.txt and 13-run.txt, document 01's own runs, and runs at the limits that the documents name.
 
 A vector's answer is its own, and is held to evaluate.py. 10-more.txt has texts, whose tables are those of compiled.py, and verdicts alone. Those of the other cases follow from the documents' sentences, which are named beside them. Where an answer does not name the undecided entry, as in the vectors from before
 request 7, it is that of evaluate.py."""
@@ -118,7 +118,7 @@ def undecided():
     for op in (6, 7):
         yield runs([NAME, (op, 0, 0), text, EQUAL], "bottom 4 1")
     yield runs([text, (8, 0, 0), text, EQUAL], "bottom 4 1")
-    for op in (56, 57, 58, 60):
+    for op in (56, 57, 58, 60, 61):
         yield runs([NAME, text, (op, 1, 0)], "bottom 3 2")
     yield runs([text, one, (56, 1, 0)], "bottom 3 2")
     yield runs([NAME, text, two, (59, 2, 0)], "bottom 4 3")
@@ -176,6 +176,39 @@ def editions():
     yield table([NAME, NUMBER, EQUAL], kind=4), OP42[:-1], "11 0 bottom 0 65535"
 
 
+def regexes():
+    # document 02, request 13: `regex (User, "[Ss]egall?")`; "True if some stretch of the value fits."; "Argument and bottom rules as for `begins-with`"
+    regex = lambda pattern: table([(5, 3, 0), (4, len(pattern), 3), (61, 1, 0)], b"Cab" + pattern)
+    office = regex(b"[Ss]egall?")
+    for value, verdict in ((b"Segall", "true"), (b"Bill segal", "true"), (b"Segala", "true"), (b"Sega", "false"), (b"SEGALL", "false"), (b"", "false")):
+        yield office, cab(value), "0 0 %s 3 65535" % verdict
+    yield office, cab(b"Segall", 5), "0 0 bottom 3 2"
+    yield office, E, "0 0 bottom 3 0"
+    # "`^` only first and `$` only last in the whole pattern, where they anchor their own branch; a branch of anchors alone is not empty"
+    for pattern, fit, miss in ((b"^a|b$", (b"ax", b"xb", b"ab"), (b"xa", b"bx", b"xax")), (b"^$", (b"",), (b"a",)), (b"^|b", (b"", b"a"), ()), (b"^a|b|c$", (b"xbx", b"xc"), (b"xa", b"cx")), (b"c$", (b"c",), (b"c\n",))):
+        for value in fit:
+            yield regex(pattern), cab(value), "0 0 true 3 65535"
+        for value in miss:
+            yield regex(pattern), cab(value), "0 0 false 3 65535"
+    # "Braces are plain."; "A repeat mark may follow another.": `a+?` is (a+)?
+    yield regex(b"^a{2}$"), cab(b"a{2}"), "0 0 true 3 65535"
+    yield regex(b"^a{2}$"), cab(b"aa"), "0 0 false 3 65535"
+    yield regex(b"^a+?$"), cab(b""), "0 0 true 3 65535"
+    yield regex(b"^a+?$"), cab(b"aa"), "0 0 true 3 65535"
+    # "also for a star over what fits the empty string": on values of which a matcher that goes back would try every way
+    for pattern in (b"(a*)*b", b"(a|aa)*b", b"(((((((a*)*)*)*)*)*)*)*b", b"(a?)+b", b"(a*a*)*b"):
+        for value, verdict in ((b"a" * 1000, "false"), (b"a" * 1000 + b"b", "true"), (b"", "false"), (b"b", "true")):
+            yield regex(pattern), cab(value), "0 0 %s 3 65535" % verdict
+    # a folded value beside a pattern, which is not folded
+    for pattern, verdict in ((b"t-[4-6]", "true"), (b"T-[4-6]", "false")):
+        yield table([(5, 3, 0), (6, 0, 0), (4, 7, 3), (61, 1, 0)], b"Cab" + pattern), cab(b"T-41"), "0 0 %s 4 65535" % verdict
+    # the last of two alone
+    yield table([(5, 3, 0), (4, 1, 3), (4, 1, 4), (61, 2, 0)], b"Cabab"), cab(b"xbx"), "0 0 true 4 65535"
+    # "the table check gives 12 as for op 60"
+    yield regex(b"()"), cab(b"()"), "12 0 bottom 0 65535"
+    yield table([(5, 3, 0), (4, 1, 3), (6, 0, 0), (61, 1, 0)], b"Cab."), cab(b"()"), "12 0 bottom 0 65535"
+
+
 def more(path):
     """Document 02, request 10: "If the first gives true, so does the second; if false, likewise." """
     for line in path.read_text().splitlines():
@@ -189,8 +222,8 @@ def more(path):
 
 def main(vectors=Path(__file__).resolve().with_name("vectors")):
     here = Path(__file__).resolve().parent.parent / "crates" / "interpreter_test"
-    rows = [*cases(), *wildcards(), *sizes(), *meters(), *undecided(), *editions()]
-    for name in ("run.txt", "01-run.txt", "02-run.txt", "06-run.txt", "07-run.txt", "09-run.txt"):
+    rows = [*cases(), *wildcards(), *sizes(), *meters(), *undecided(), *editions(), *regexes()]
+    for name in ("run.txt", "01-run.txt", "02-run.txt", "06-run.txt", "07-run.txt", "09-run.txt", "13-run.txt"):
         for line in (Path(vectors) / name).read_text().splitlines():
             t, notice, *answer = line.split()
             rows.append((evaluate.plain(t), evaluate.plain(notice), " ".join(answer)))

@@ -1,5 +1,5 @@
 #!/usr/bin/env python3
-"""table_vectors.py [VECTORS]: writes crates/table_test/stdin and stdout from the tables of VECTORS/run.txt, 01-run.txt, 01-check.txt, 09-run.txt and 09-check.txt, document 01's 48-byte table, and tables at the limits that the documents name; then entries of some of them by their numbers.
+"""table_vectors.py [VECTORS]: writes crates/table_test/stdin and stdout from the tables of VECTORS/run.txt, 01-run.txt, 01-check.txt, 09-run.txt, 09-check.txt, 13-run.txt and 13-check.txt, document 01's 48-byte table, and tables at the limits that the documents name; then entries of some of them by their numbers.
 
 A vector says whether its table is refused by 12. What a table holds is read by struct."""
 import struct
@@ -67,7 +67,7 @@ def limits():
         yield table([name, number, (op, 1, 1)], b"Op"), False
         yield table([number, (op, 1, 0)]), False
     # ops that are not named
-    for op in (0, 9, 15, 27, 31, 38, 39, 46, 47, 55, 61, 65535):
+    for op in (0, 9, 15, 27, 31, 38, 39, 46, 47, 55, 62, 65535):
         yield table(op42 + [(op, 0, 0)], b"Op"), False
     # "each entry has enough operands of the right kind"; "the end has one logic slot"
     yield table([number]), False
@@ -149,6 +149,46 @@ def editions():
     yield table([(5, 2, 0), (4, 2, 2), (60, 1, 0)], b"Op[]", kind=4), False
 
 
+def regexes():
+    """Document 02, request 13: op 61; "the table check gives 12 as for op 60". """
+    name, any_byte = (5, 1, 0), (4, 1, 1)
+    for a in (0, 1, 8, 9):
+        yield table([name] + [any_byte] * a + [(61, a, 0)], b"a."), 1 <= a <= 8
+    yield table([name, any_byte, (61, 1, 1)], b"a."), False
+    yield table([any_byte, (61, 1, 0)], b"a."), False
+    yield table([any_byte, any_byte, (61, 1, 0)], b"a."), True
+    yield table([(1, 0, 1), (1, 0, 1), (32, 0, 0), any_byte, (61, 1, 0)], b"a."), False
+    yield table([name, any_byte, (61, 1, 0), (40, 0, 0)], b"a."), True
+    yield table([name, any_byte, (61, 1, 0), (8, 0, 0)], b"a."), False
+    for entries, a in (([name], 1), ([any_byte, (6, 0, 0)], 1), ([(1, 0, 1)], 1), ([any_byte, name], 2), ([name, any_byte], 2), ([any_byte, any_byte, (25, 0, 0)], 1)):
+        yield table([name] + entries + [(61, a, 0)], b"a."), False
+    yield table([name, (6, 0, 0), any_byte, (61, 1, 0)], b"a."), True
+    yield table([(1, 0, 1), any_byte, any_byte, (61, 2, 0)], b"a."), True
+    # "Ill-formed are request 1's cases, an empty branch or group, a repeat mark first or after `^`, `(` or `|`, unmatched parentheses, `^` or `$` elsewhere, and depth over 8."
+    nested = lambda depth: b"(" * depth + b"a" + b")" * depth
+    ill = [b"[", b"a[b", b"[^", b"[]", b"[^]", b"[]a]", b"[^]]", b"[b-a]", b"[a--]", b"[\xff-\xfe]", b"[\\]", b"\\", b"a\\", b"", b"|", b"a|", b"|a", b"a||b", b"^|", b"|$", b"(a|)", b"(|a)", b"()", b"a()", b"*", b"+", b"?a", b"^*", b"(*a)", b"a|+",
+           b"(", b")", b"a)", b"(a", b"((a)", b"(a))", b")(", b"[)](", b"a^", b"^^", b"$^", b"(^a)", b"a|^b", b"$a", b"a$|b", b"(a$)", b"$*", b"a$\\", nested(9), nested(8) + nested(9), b"(a" * 9 + b")" * 9]
+    well = [b"^", b"$", b"^$", b"^|b", b"b|$", b"^|$", b"^a|b$", b"]", b"-", b"!", b"{", b"}", b"a{2}", b"[!]", b"[a^]", b"[\\^]", b"[[:alpha:]]", b"[.*|()$^]", b"[)(]", b"a+?", b"a*+?*", b"(a*)*b", b"\\(", b"\\)a", b"\\^\\$\\|\\*", b"\\$a", b"\\\\$",
+            nested(8), nested(8) * 2, b"(a" * 8 + b")" * 8, b"\0\xff"]
+    for pattern, right in [(p, False) for p in ill] + [(p, True) for p in well]:
+        for kind in (2, 4):
+            yield table([name, (4, len(pattern), 1), (61, 1, 0)], b"a" + pattern, kind=kind), right
+        # the last of two, and the first
+        yield table([name, (4, 1, 0), (4, len(pattern), 1), (61, 2, 0)], b"a" + pattern), right
+        yield table([name, (4, len(pattern), 1), (4, 1, 0), (61, 2, 0)], b"a" + pattern), right
+    # what one function's patterns may hold is not what the other's may
+    for op, pattern, right in ((60, b"*", True), (61, b"*", False), (60, b"[!]", False), (61, b"[!]", True), (60, b"(", True), (61, b"(", False), (60, b"", True), (61, b"", False)):
+        yield table([name, (4, len(pattern), 1), (op, 1, 0)], b"a" + pattern), right
+    # a pattern of the whole pool; one whose group closes past its own end in the pool; a string that passes the pool's end
+    yield table([(4, 4096, 0), (4, 4096, 0), (61, 1, 0)], b"a" + b"*" * 4095), True
+    yield table([(4, 4096, 0), (4, 4096, 0), (61, 1, 0)], b"a|" * 2047 + b"b$"), True
+    yield table([(4, 4096, 0), (4, 4096, 0), (61, 1, 0)], b"a|" * 2048), False
+    yield table([(4, 4096, 0), (4, 4096, 0), (61, 1, 0)], b"(" * 2048 + b")" * 2048), False
+    yield table([name, (4, 2, 1), (61, 1, 0)], b"a(b)"), False
+    yield table([name, (4, 3, 1), (61, 1, 0)], b"a(b)"), True
+    yield table([name, (4, 4, 1), (61, 1, 0)], b"a(b)"), False
+
+
 def reading(t):
     n, p = struct.unpack_from("<HH", t, 6)
     fields = "".join("%d %d %d " % struct.unpack_from("<HHQ", t, 10 + 12 * i) for i in range(n))
@@ -162,7 +202,8 @@ def asked():
     most = table([(5, 64, 4032), (4, 4096, 0), (32, 0, 0)] + [(40, 0, 0)] * 509, b"n" * 4096)
     wide = table([(1, 0, 2**64 - 1), (3, 0, 2**64 - 1), (32, 0, 0)])
     second = table([(5, 2, 0), (1, 0, 33), (17, 0, 0), (1, 0, 21), (32, 0, 0)], b"Op", kind=4)
-    for t, ks in ((op42, (0, 1, 2, 3, 4, 2**32, 2**64 - 1)), (fits, range(5)), (most, (0, 1, 511, 512)), (wide, range(4)), (second, range(6))):
+    regex = table([(5, 4, 0), (4, 10, 4), (61, 1, 0)], b"User[Ss]egall?")
+    for t, ks in ((op42, (0, 1, 2, 3, 4, 2**32, 2**64 - 1)), (fits, range(5)), (regex, range(4)), (most, (0, 1, 511, 512)), (wide, range(4)), (second, range(6))):
         yield from ((t, True, k) for k in ks)
     for t in (b"", op42[:-1]):
         yield from ((t, False, k) for k in (0, 3, 2**64 - 1))
@@ -184,8 +225,8 @@ def framed(part):
 
 def main(vectors=Path(__file__).resolve().with_name("vectors")):
     here = Path(__file__).resolve().parent.parent / "crates" / "table_test"
-    cases = [*limits(), *wildcards(), *editions()]
-    for name, at in (("run.txt", 2), ("01-run.txt", 2), ("01-check.txt", 1), ("09-run.txt", 2), ("09-check.txt", 1)):
+    cases = [*limits(), *wildcards(), *editions(), *regexes()]
+    for name, at in (("run.txt", 2), ("01-run.txt", 2), ("01-check.txt", 1), ("09-run.txt", 2), ("09-check.txt", 1), ("13-run.txt", 2), ("13-check.txt", 1)):
         for line in (Path(vectors) / name).read_text().splitlines():
             words = line.split()
             cases.append((bytes.fromhex(words[0]) if words[0] != "-" else b"", words[at] != "12"))

@@ -1,5 +1,5 @@
 #!/usr/bin/env python3
-"""translator_vectors.py [VECTORS]: writes crates/translator_test/stdin and stdout from translate.txt, 01-translate.txt, 09-translate.txt and the texts of 10-more.txt in the folder VECTORS, document 01's own examples, and texts at the limits that it and document 02 name.
+"""translator_vectors.py [VECTORS]: writes crates/translator_test/stdin and stdout from translate.txt, 01-translate.txt, 09-translate.txt, 13-translate.txt and the texts of 10-more.txt in the folder VECTORS, document 01's own examples, and texts at the limits that it and document 02 name.
 
 A case is two parts: the buffer's length and the edition's number, then the text. The examples and limits are asked of both editions and the vectors from before request 9 of the two by turns; the second has the answers of the first but
 for the table's kind. A vector's answer is its own; the tables of 10-more.txt, which has none, are those of compiled.py. A vector with a buffer of 65,536 bytes is asked again with none, and one with a table also with a buffer of the table's length and with one byte less: "9 | lent buffer shorter than the table", the
@@ -144,6 +144,35 @@ def wildcards():
     yield from refused(b"wildcard (a, '*') == 1", 5)
 
 
+def regexes():
+    # document 02, request 13: "Head office sends `regex (User, "[Ss]egall?")`."; "Argument and bottom rules as for `begins-with`; op 61."
+    yield from accepted(b'regex (User, "[Ss]egall?")', table([(5, 4, 0), (4, 10, 4), (61, 1, 0)], b"User[Ss]egall?"))
+    yield from accepted(b"regex (fold-case (User), '^s', 'l$')", table([(5, 4, 0), (6, 0, 0), (4, 2, 4), (4, 2, 6), (61, 2, 0)], b"User^sl$"))
+    eight = b",".join([b"'.'"] * 8)
+    yield from accepted(b"regex (a, " + eight + b")", table([(5, 1, 0)] + [(4, 1, 1 + i) for i in range(8)] + [(61, 8, 0)], b"a........"))
+    for text in (b"regex (a)", b"regex ()", b"regex (a, b)", b"regex ('a', 'b')", b"regex ((a), 'b')", b"regex (a, ('b'))", b"regex (a, " + eight + b",'.')", b"r\\egex (a, 'b')", b"Regex (a, 'b')"):
+        yield from refused(text, 4)
+    # "A backslash makes the next byte plain.": in the text a string's own escapes are taken off first
+    yield from accepted(b'regex (a, "\\\\*")', table([(5, 1, 0), (4, 2, 1), (61, 1, 0)], b"a\\*"))
+    yield from refused(b'regex (a, "\\*")', 18)
+    # "Ill-formed are request 1's cases, an empty branch or group, a repeat mark first or after `^`, `(` or `|`, unmatched parentheses, `^` or `$` elsewhere, and depth over 8."
+    nested = lambda depth: b"(" * depth + b"a" + b")" * depth
+    for pattern in (b"[", b"[^", b"[]", b"[^]", b"[]a]", b"[b-a]", b"[\\\\]", b"\\\\", b"", b"|", b"a|", b"|a", b"a||b", b"^|", b"|$", b"(a|)", b"()", b"*", b"+a", b"?", b"^*", b"(+a)", b"a|?", b"(", b"a)", b"(a", b"(a))",
+                    b"a^", b"^^", b"$^", b"(^a)", b"a|^b", b"$a", b"a$|b", b"(a$)", b"$*", nested(9)):
+        yield from refused(b'regex (a, "b", "' + pattern + b'")', 18)
+    for pattern in (b"^", b"$", b"^$", b"^|b", b"b|$", b"^|$", b"^a|b$", b"]", b"{", b"}", b"a{2}", b"-", b"!", b"[!]", b"[a^]", b"[[:alpha:]]", b"[.*|()$]", b"a+?", b"a***", b"(a*)*b", b"(a|aa)*b", nested(8), nested(8) + nested(8)):
+        yield from accepted(b'regex (a, "' + pattern + b'")', table([(5, 1, 0), (4, len(pattern), 1), (61, 1, 0)], b"a" + pattern))
+    # "18 for an ill-formed pattern, at request 1's place": after 4, before 5, over the whole text, beside patterns of the other function
+    yield from refused(b"regex (a, '(') == f (a)", 4)
+    yield from refused(b"regex (a, '(') == 1", 18)
+    yield from refused(b"1 && regex (a, 'a||b')", 18)
+    yield from refused(b"regex (a, '()') ^^ " + b" ^^ ".join([b"1 == 1"] * 129), 18)
+    yield from refused(b"regex (a, 'b*') == 1", 5)
+    yield from refused(b"wildcard (a, '*') && regex (a, '*')", 18)
+    yield from refused(b"regex (a, '[!]') && wildcard (a, '[!]')", 18)
+    yield from accepted(b"wildcard (a, '*') ^^ regex (a, '[!]')", table([(5, 1, 0), (4, 1, 1), (60, 1, 0), (5, 1, 2), (4, 3, 3), (61, 1, 0), (42, 0, 0)], b"a*a[!]"))
+
+
 def asked(path):
     for turn, line in enumerate(path.read_text().split("\n")):
         if not line:
@@ -168,9 +197,9 @@ def more(path):
 def main(vectors=Path(__file__).resolve().with_name("vectors")):
     here = Path(__file__).resolve().parent.parent / "crates" / "translator_test"
     path = Path(vectors)
-    own = [*examples(), *names(), *limits(), *wildcards()]
+    own = [*examples(), *names(), *limits(), *wildcards(), *regexes()]
     rows = [*by_edition(1, own), *by_edition(2, own), *editions()]
-    for name in ("translate.txt", "01-translate.txt", "09-translate.txt"):
+    for name in ("translate.txt", "01-translate.txt", "09-translate.txt", "13-translate.txt"):
         rows += asked(path / name)
     rows += more(path / "10-more.txt")
     part = lambda s: struct.pack("<I", len(s)) + s

@@ -2,7 +2,7 @@
 """Writes crates/value_test/stdin and stdout: what the ops of tables give on values, by Python's integers, floats, bytes, UTF-8 decoder and regular expressions.
 
 A value is None (bottom) or a pair of a field's kind (1 int32, 2 int64, 3 real64, 4 string, 5 opaque) and an int, a float or bytes. A truth value is
-"true", "bottom" or "false". The rules are those of document 01, "Meaning" and "Table", and of document 02, requests 1, 2 and 9; numbers are those of number_vectors.py.
+"true", "bottom" or "false". The rules are those of document 01, "Meaning" and "Table", and of document 02, requests 1, 2, 9 and 13; numbers are those of number_vectors.py.
 An op to run has 256 added for the second edition.
 """
 import itertools
@@ -13,10 +13,12 @@ import struct
 from pathlib import Path
 
 import number_vectors as numbers
+import stretches
 
 INT32, INT64, REAL, STRING, OPAQUE = 1, 2, 3, 4, 5
 FALSE, BOTTOM, TRUE = "false", "bottom", "true"
 RANKS = [FALSE, BOTTOM, TRUE]
+SHORT = 20
 
 # The page's truth tables, as printed: A, B, !A, &&, or, ^^.
 PRINTED = """
@@ -90,23 +92,14 @@ def test(op, v):
     return truth(v[0] == op - 47)
 
 
-def members(p, at):
-    """The set whose members begin at `at`, as (low, high) pairs, and where its `]` ends."""
-    xs = []
-    while p[at] != ord("]"):
-        escaped = p[at] == ord("\\")
-        xs.append((p[at + escaped], escaped))
-        at += 1 + escaped
-    pairs = []
-    while xs:
-        span = 3 if len(xs) > 2 and xs[1] == (ord("-"), False) else 1
-        pairs.append((xs[0][0], xs[span - 1][0]))
-        xs = xs[span:]
-    return pairs, at + 1
+def of_set(p, at, mark):
+    """The set that begins at `at` as an expression of one byte, and where its `]` ends."""
+    fit, at = stretches.one_of(p, at, mark)
+    return b"(?:" + b"|".join(re.escape(bytes([b])) for b in fit) + b")" if fit else b"(?!)", at
 
 
 def expression(p):
-    """A well-formed pattern of `wildcard` as a regular expression."""
+    """A well-formed pattern of `wildcard` as a regular expression of Python."""
     out, at = b"", 0
     while at < len(p):
         c = p[at:at + 1]
@@ -116,19 +109,46 @@ def expression(p):
         elif c == b"?":
             out += b"."
         elif c == b"[":
-            out_of = p[at:at + 1] == b"!"
-            pairs, at = members(p, at + out_of)
-            fit = [b for b in range(256) if any(low <= b <= high for low, high in pairs) != out_of]
-            out += b"(?:" + b"|".join(re.escape(bytes([b])) for b in fit) + b")" if fit else b"(?!)"
+            fit, at = of_set(p, at, b"!")
+            out += fit
         else:
             at += c == b"\\"
             out += re.escape(p[at - 1:at])
     return out
 
 
+def stretch(p):
+    """A well-formed pattern of `regex` as one of Python, in which marks in a row would mean otherwise, and `$` would fit before a last LF."""
+    opened, at = [[]], 0
+    while at < len(p):
+        c = p[at:at + 1]
+        at += 1
+        if c in b"*+?":
+            opened[-1][-1] = b"(?:" + opened[-1][-1] + b")" + c
+        elif c == b"(":
+            opened.append([])
+        elif c == b")":
+            group = b"(?:" + b"".join(opened.pop()) + b")"
+            opened[-1].append(group)
+        elif c == b"[":
+            fit, at = of_set(p, at, b"^")
+            opened[-1].append(fit)
+        elif c in (b"^", b"$", b".", b"|"):
+            opened[-1].append({b"^": b"\\A", b"$": b"\\Z"}.get(c, c))
+        else:
+            at += c == b"\\"
+            opened[-1].append(re.escape(p[at - 1:at]))
+    return b"".join(opened[0])
+
+
 def fits(op, s, p):
     if op == 60:
         return re.fullmatch(expression(p), s, re.DOTALL) is not None
+    if op == 61:
+        fit = stretches.fits(s, p)
+        # on a long value Python's own would try every way
+        assert len(s) > SHORT or fit == (re.search(stretch(p), s, re.DOTALL) is not None), (s, p)
+        return fit
     return {56: s.startswith(p), 57: p in s, 58: s.endswith(p)}[op]
 
 
@@ -286,6 +306,7 @@ def all_cases(rng):
     wildcards(c, rng, every, strings)
     sizes(c)
     editions(c, random.Random(9), every)
+    regexes(c, random.Random(13), every, strings)
     return c
 
 
@@ -304,6 +325,24 @@ def wildcards(c, rng, every, strings):
             c.add(60, strings[1], patterns[4], x, patterns[4])
     for _ in range(200):
         c.add(60, rng.choice(every), *(rng.choice(patterns) for _ in range(rng.randrange(1, 9))))
+
+
+def regexes(c, rng, every, strings):
+    """Document 02, request 13: "True if some stretch of the value fits."; "Argument and bottom rules as for `begins-with`". """
+    patterns = [c.literal((STRING, p)) for p in (
+        b"A", b"bc", b".", b"b*", b"^b*$", b"^A", b"c$", b"^Abc$", b"^a.c$", b"A+b?c", b"[A-Z]b", b"[^A-Z]$", b"^[A-Zb].[^\\]-z]", b"^|x", b"x|$", b"^|$", b"^$", b"^b|c$", b"^(A|b|c)*$",
+        b"(A*)*b", b"(b|bb)*c$", b"^(a?b?)+$", b"((((((((b))))))))", b"(((((((b*)*)*)*)*)*)*)*c", b"a+?", b"^A?*+bc", b"\\^", b"[\\^a]", b"[a^]", b"]", b"{", b"\\*", b"\\.", b"[.]", b"\\(|\\)", b"\xc1$", b"[\x80-\xff]$",
+        b"[\0-\xff]+", b"[^\0-\xff]", b"[^\0-\xff]*$", b"x?y?z?$", b"^-|\n$")]
+    patterns += [c.folded(p) for p in patterns[7:13]]
+    values = strings + [c.literal((STRING, s)) for s in (b"*", b"]Abc", b"a" * 30, b"-bc", b"bbbbc", b"b\n", b"Abc\n", b"(", b"^", b"{")]
+    for x, y in itertools.product(values, patterns):
+        c.add(61, x, y)
+    for x in every:
+        c.add(61, x, patterns[3])
+        if not is_string(x[3]):
+            c.add(61, strings[1], patterns[0], x, patterns[0])
+    for i in range(200):
+        c.add(61, rng.choice(every), *(rng.choice(patterns) for _ in range(rng.randrange(1, 9))), edition=1 + i % 2)
 
 
 def sizes(c):

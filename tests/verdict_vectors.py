@@ -81,6 +81,9 @@ def limits():
     yield text(b"") + text(b"a -5") + text(b"09 == 9"), "S 2 0 0\nS 2 2 0\nS 1 0 0\n"
     # document 02, request 1: 18, after 4 and before 5
     yield text(b"wildcard (Op, '[') == 1") + OP42, "S 18 0 0\nN 12 bottom 0 0 65535\n"
+    # request 13: the same number, and op 61
+    yield text(b"regex (Op, '*') == 1") + OP42, "S 18 0 0\nN 12 bottom 0 0 65535\n"
+    yield text(b'regex (User, "[Ss]egall?")') + notice(b"User", 4, b"Bill Segall") + notice(b"User", 4, b"Sega") + OP42, "S 0 0 60\nN 0 true 3 0 65535\nN 0 false 3 0 65535\nN 0 bottom 3 0 0\n"
     # request 9: "(`verdict` names 1)"; a table of kind 4 is a record of another kind, and replaces no text
     yield text(b"Op >> 33 == 21") + OP42, "S 0 0 72\nN 0 bottom 5 0 2\n"
     yield text(b"Op == 42") + compiled.table_of(b"Op == 41", 2) + OP42 + record(4, b""), "S 0 0 48\nX 4\nN 0 true 3 0 65535\nX 4\n"
@@ -107,7 +110,7 @@ def main(vectors=Path(__file__).resolve().with_name("vectors")):
     cases = [(i, o.encode()) for i, o in limits()]
     (crates / "verdict" / "stdin").write_bytes(cases[0][0])
     (crates / "verdict" / "stdout").write_bytes(cases[0][1])
-    for name in ("translate.txt", "01-translate.txt", "09-translate.txt"):
+    for name in ("translate.txt", "01-translate.txt", "09-translate.txt", "13-translate.txt"):
         for *edition, t, _, number, _, table in map(str.split, (Path(vectors) / name).read_text().splitlines()):
             assert number != "0" or compiled.table_of(plain(t), *map(int, edition)) == plain(table), t
     for name in ("program.txt", "07-program.txt"):

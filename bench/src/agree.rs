@@ -6,7 +6,7 @@ use crate::meters;
 use crate::shifts;
 use bench::{expert, ours, translate};
 
-const TOKENS: [&str; 64] = [
+const TOKENS: [&str; 67] = [
     "a",
     "Op",
     "Subject",
@@ -70,7 +70,10 @@ const TOKENS: [&str; 64] = [
     "wildcard (Subject, \"*e*l*\")",
     "wildcard (fold-case (Event), \"[!a-d]?*[s-]\", \"x\")",
     "wildcard (Op, \"*\\\\*\")",
+    "regex (Subject, \"e+.?[l-p]\")",
+    "regex (fold-case (Event), \"^(o|op)*s|[^a-d]$\", \"x\")",
     "wildcard (Subject, \"[\")",
+    "regex (Subject, \"a||b\")",
 ];
 
 const SIZES: [usize; 5] = [1, 2, 8, 32, 64];
@@ -99,9 +102,9 @@ fn logic(dice: &mut Dice, depth: usize) -> String {
             TOKENS[28 + dice.next(6)],
             value(dice, 2)
         ),
-        // the last one's pattern is ill-formed
-        1 if dice.next(100) == 0 => TOKENS[63].to_string(),
-        1 => TOKENS[52 + dice.next(11)].to_string(),
+        // the last two have ill-formed patterns
+        1 if dice.next(100) == 0 => TOKENS[65 + dice.next(2)].to_string(),
+        1 => TOKENS[52 + dice.next(13)].to_string(),
         2 => format!("! ({})", logic(dice, depth - 1)),
         _ => format!(
             "({} {} {})",
@@ -134,19 +137,71 @@ fn text(dice: &mut Dice) -> Vec<u8> {
     t
 }
 
-/// A table of one pattern, of bytes that mean something in patterns, on a short value.
+/// So many bytes of these at most.
+fn bytes(dice: &mut Dice, of: &[u8], most: usize) -> Vec<u8> {
+    let n = dice.next(most + 1);
+    (0..n).map(|_| of[dice.next(of.len())]).collect()
+}
+
 fn wildcard(dice: &mut Dice) -> Vec<u8> {
-    let mut bytes = |of: &[u8], most: usize| -> Vec<u8> {
-        let n = dice.next(most + 1);
-        (0..n).map(|_| of[dice.next(of.len())]).collect()
+    let value = bytes(dice, b"ab-]!A", 6);
+    let pattern = bytes(dice, b"**??[[]]!-\\aab", 9);
+    of_pattern(dice, 60, value, pattern)
+}
+
+/// Bytes that are well-formed often enough, or parts by the grammar, up to long ones.
+fn regex(dice: &mut Dice) -> Vec<u8> {
+    let most = [6, 6, 6, 40][dice.next(4)];
+    let value = bytes(dice, b"aabbcA\n", most);
+    let pattern = match dice.next(3) {
+        0 => bytes(dice, b"aaabb(())||**++??.^$[]-\\{", 8),
+        _ => {
+            let parts = [1, 2, 4, 4, 80][dice.next(5)];
+            let (start, end) = (dice.next(4) == 0, dice.next(4) == 0);
+            let anchor = |at: bool, anchor: &[u8]| if at { anchor.to_vec() } else { Vec::new() };
+            [
+                anchor(start, b"^"),
+                expression(dice, parts, 3),
+                anchor(end, b"$"),
+            ]
+            .concat()
+        }
     };
-    let (value, pattern) = (bytes(b"ab-]!A", 6), bytes(b"**??[[]]!-\\aab", 9));
+    of_pattern(dice, 61, value, pattern)
+}
+
+/// So many parts at most, some under marks, in groups and branches.
+fn expression(dice: &mut Dice, parts: usize, deep: usize) -> Vec<u8> {
+    let mut all = Vec::new();
+    for _ in 0..1 + dice.next(parts) {
+        if !all.is_empty() && dice.next(8) == 0 {
+            all.push(b'|');
+        }
+        match dice.next(8) {
+            0 if deep > 0 => {
+                all.push(b'(');
+                all.extend(expression(dice, parts.min(4), deep - 1));
+                all.push(b')');
+            }
+            1 => all.push(b'.'),
+            2 => all.extend([&b"[ab]"[..], b"[^b]", b"[a-c]", b"[A-Z]"][dice.next(4)]),
+            _ => all.push(b"abc"[dice.next(3)]),
+        }
+        for _ in 0..[0, 0, 0, 1, 1, 2][dice.next(6)] {
+            all.push(b"*+?"[dice.next(3)]);
+        }
+    }
+    all
+}
+
+/// A table of one pattern on a value, which is folded now and then.
+fn of_pattern(dice: &mut Dice, op: u16, value: Vec<u8>, pattern: Vec<u8>) -> Vec<u8> {
     let mut entries = vec![hostile::string(value.len(), 0)];
     if dice.next(4) == 0 {
         entries.push(hostile::FOLD);
     }
     entries.push(hostile::string(pattern.len(), value.len()));
-    entries.push((60, 1, 0));
+    entries.push((op, 1, 0));
     hostile::table(&entries, &[value, pattern].concat())
 }
 
@@ -211,7 +266,7 @@ pub fn agree(cases: usize) {
     let (mut x, mut y) = (vec![0u8; 10250], vec![0u8; 10250]);
     let (mut accepted, mut passed) = (0, 0);
     for _ in 0..cases {
-        for table in [wildcard(&mut dice), size(&mut dice)] {
+        for table in [wildcard(&mut dice), regex(&mut dice), size(&mut dice)] {
             passed += ours::check(&table) as usize;
             assert_eq!(
                 ours::guarded(&table, &hostile::EMPTY),

@@ -2,7 +2,7 @@
 //! enum, stack in an array that is not initialised, no allocation, no test that a check has made already.
 //! Same answers as documents 01 and 02 ask; written for this benchmark only.
 
-use crate::wildcard;
+use crate::{regex, wildcard};
 use std::mem::MaybeUninit;
 
 pub const FALSE: u8 = 0;
@@ -102,6 +102,7 @@ pub enum Ins {
     Ends(u8),
     Equals(u8),
     Wildcard(u8),
+    Regex(u8),
 }
 
 pub type Code = [MaybeUninit<Ins>; 512];
@@ -151,8 +152,14 @@ fn name_right(name: &[u8]) -> bool {
     }
 }
 
-/// Whether the `a` entries directly before the entry i are strings, which the check has passed, and well-formed patterns.
-fn patterns_right(table: &[u8], pool: &[u8], i: usize, a: usize) -> bool {
+/// Whether the `a` entries directly before the entry i are strings, which the check has passed, and well-formed.
+fn patterns_right(
+    table: &[u8],
+    pool: &[u8],
+    i: usize,
+    a: usize,
+    well_formed: fn(&[u8]) -> bool,
+) -> bool {
     i >= a
         && (i - a..i).all(|k| {
             let at = 10 + 12 * k;
@@ -164,7 +171,7 @@ fn patterns_right(table: &[u8], pool: &[u8], i: usize, a: usize) -> bool {
                     u64_at(table, at + 4) as usize,
                 )
             };
-            op == 4 && wildcard::well_formed(&pool[start..start + len])
+            op == 4 && well_formed(&pool[start..start + len])
         })
 }
 
@@ -340,11 +347,16 @@ fn check_decode<const DECODE: bool>(table: &[u8], code: &mut Code) -> usize {
                     _ => Ins::IsKind(op as u8 - 47),
                 }
             }
-            56..=60 => {
+            56..=61 => {
                 if a == 0 || a > 8 || b != 0 {
                     return 0;
                 }
-                if op == 60 && !patterns_right(table, pool, i, a as usize) {
+                let well_formed: Option<fn(&[u8]) -> bool> = match op {
+                    60 => Some(wildcard::well_formed),
+                    61 => Some(regex::well_formed),
+                    _ => None,
+                };
+                if well_formed.is_some_and(|f| !patterns_right(table, pool, i, a as usize, f)) {
                     return 0;
                 }
                 let mask = (2u64 << a) - 1;
@@ -357,7 +369,8 @@ fn check_decode<const DECODE: bool>(table: &[u8], code: &mut Code) -> usize {
                     57 => Ins::Contains(a as u8),
                     58 => Ins::Ends(a as u8),
                     59 => Ins::Equals(a as u8),
-                    _ => Ins::Wildcard(a as u8),
+                    60 => Ins::Wildcard(a as u8),
+                    _ => Ins::Regex(a as u8),
                 }
             }
             _ => return 0,
@@ -701,6 +714,9 @@ fn fits(how: u8, s: &[u8], s_mark: bool, t: &[u8], t_mark: bool) -> bool {
     if how == 3 {
         // a pattern has no mark: its entry stands directly before the operator
         return wildcard::fits(t, s, s_mark);
+    }
+    if how == 4 {
+        return regex::fits(t, s, s_mark);
     }
     if t.len() > s.len() {
         return false;
@@ -1125,6 +1141,7 @@ unsafe fn run_by(p: &Program, notice: &[u8], find: impl Fn(&[u8]) -> Slot) -> (u
             Ins::Contains(n) => many!(n, x, later, fit(pool, notice, 1, x, later)),
             Ins::Ends(n) => many!(n, x, later, fit(pool, notice, 2, x, later)),
             Ins::Wildcard(n) => many!(n, x, later, fit(pool, notice, 3, x, later)),
+            Ins::Regex(n) => many!(n, x, later, fit(pool, notice, 4, x, later)),
             Ins::Equals(n) => many!(n, x, later, {
                 let mut t = FALSE;
                 for &y in later {

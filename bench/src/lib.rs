@@ -2,6 +2,7 @@
 
 pub mod expert;
 pub mod ours;
+mod regex;
 pub mod store;
 pub mod translate;
 pub mod ubf;

@@ -1,7 +1,7 @@
 //! Ours beside the expert's Rust, one machine, one run. `bench` prints every table, `bench quick` the same in a tenth
 //! of the time, `bench agree` compares the answers of both sides on many random cases and times nothing, `bench worst` times
 //! ours alone on the worst inputs found, `bench ubf` prints the tables of UBF(A) alone, `bench many` those of many subscriptions,
-//! `bench store` those of the store.
+//! `bench store` those of the store, `bench regex` those of `regex`.
 //! How it is built and run, with the flags: bench/run.
 
 mod agree;
@@ -13,6 +13,7 @@ mod many;
 mod meters;
 mod program;
 mod quorum;
+mod regexes;
 mod shifts;
 mod stores;
 mod strings;
@@ -264,7 +265,8 @@ fn main() {
         "ubf" => return doors::rows(WHOLE),
         "many" => return many::rows(WHOLE),
         "store" => return stores::rows(WHOLE),
-        _ => panic!("bench [quick | agree | worst | ubf | many | store]"),
+        "regex" => return regexes::rows(WHOLE),
+        _ => panic!("bench [quick | agree | worst | ubf | many | store | regex]"),
     };
     agree::agree(2_000);
     doors::agree(2_000);
@@ -283,6 +285,7 @@ fn main() {
     checks(pace);
     translation(pace);
     strings::rows(pace);
+    regexes::rows(pace);
     doors::rows(pace);
     meters::rows(pace);
     shifts::rows(pace);

@@ -1,7 +1,7 @@
 //! Text to table as an expert would write it for speed: one pass that makes tokens with their values, one
 //! recursive descent over them that judges and writes entries and pool into local buffers, and two copies.
 
-use crate::wildcard;
+use crate::{regex, wildcard};
 use std::mem::MaybeUninit;
 
 const NAME: u8 = 5;
@@ -495,6 +495,7 @@ impl Parser<'_> {
             b"ends-with" => 58,
             b"equals" => 59,
             b"wildcard" => 60,
+            b"regex" => 61,
             _ => 0,
         };
         self.next += 2;
@@ -513,8 +514,12 @@ impl Parser<'_> {
                     first = form;
                 } else {
                     texts &= form == Form::Text;
-                    if f == 60 && form == Form::Text {
-                        self.patterns &= wildcard::well_formed(self.pooled(start));
+                    if form == Form::Text {
+                        self.patterns &= match f {
+                            60 => wildcard::well_formed(self.pooled(start)),
+                            61 => regex::well_formed(self.pooled(start)),
+                            _ => true,
+                        };
                     }
                 }
                 count += 1;
@@ -531,7 +536,7 @@ impl Parser<'_> {
         self.forms &= match f {
             6 => count == 1 && first != Form::Other,
             7 | 48..=54 => count == 1 && first == Form::Name,
-            56..=58 | 60 => {
+            56..=58 | 60 | 61 => {
                 (2..=9).contains(&count) && texts && matches!(first, Form::Name | Form::Fold)
             }
             59 => (2..=9).contains(&count) && first == Form::Name,

@@ -7,7 +7,7 @@ pub fn well_formed(p: &[u8]) -> bool {
         match p[j] {
             b'\\' if j + 1 == p.len() => return false,
             b'\\' => j += 2,
-            b'[' => match set_end(p, j + 1) {
+            b'[' => match set_end(p, j + 1, b'!') {
                 Some(end) => j = end,
                 None => return false,
             },
@@ -17,9 +17,9 @@ pub fn well_formed(p: &[u8]) -> bool {
     true
 }
 
-/// The byte after the set whose first byte stands at k; none if it is ill-formed.
-fn set_end(p: &[u8], mut k: usize) -> Option<usize> {
-    if p.get(k) == Some(&b'!') {
+/// The byte after the set whose first byte stands at k, with its mark of the complement; none if it is ill-formed.
+pub fn set_end(p: &[u8], mut k: usize, mark: u8) -> Option<usize> {
+    if p.get(k) == Some(&mark) {
         k += 1;
     }
     let first = k;
@@ -46,8 +46,8 @@ fn member(p: &[u8], k: usize) -> Option<(u8, usize)> {
 }
 
 /// Whether the set at k, after its `[`, takes the byte, and where it ends. The pattern is well-formed.
-fn in_set(p: &[u8], mut k: usize, b: u8) -> (bool, usize) {
-    let complement = p[k] == b'!';
+pub fn in_set(p: &[u8], mut k: usize, b: u8, mark: u8) -> (bool, usize) {
+    let complement = p[k] == mark;
     k += complement as usize;
     let mut held = false;
     while p[k] != b']' {
@@ -72,7 +72,7 @@ fn one(p: &[u8], j: usize, b: u8) -> Option<usize> {
         b'?' => Some(j + 1),
         b'\\' => (p[j + 1] == b).then_some(j + 2),
         b'[' => {
-            let (takes, end) = in_set(p, j + 1, b);
+            let (takes, end) = in_set(p, j + 1, b, b'!');
             takes.then_some(end)
         }
         plain => (plain == b).then_some(j + 1),

@@ -81,6 +81,7 @@ pub fn rows() {
     told("virentolex_run: strings", strings());
     told("virentolex_run: names and numbers", names_and_numbers());
     told("virentolex_run: patterns", patterns());
+    told("virentolex_run: regular expressions", expressions());
     told("virentolex_run_many", many());
     told(
         "virentolex_store_* (with the store copied, but for a match)",
@@ -476,7 +477,16 @@ fn stores() -> Vec<Family> {
 
 /// `wildcard` with eight patterns on a field of so many a's, as often as it fits.
 fn wildcard(n: usize, pattern: Vec<u8>) -> Case {
-    let group = eight(&[name(1, 0)], &[string(pattern.len(), 1)], 60);
+    patterned(60, n, pattern)
+}
+
+/// The same of `regex`.
+fn regex(n: usize, pattern: Vec<u8>) -> Case {
+    patterned(61, n, pattern)
+}
+
+fn patterned(op: u16, n: usize, pattern: Vec<u8>) -> Case {
+    let group = eight(&[name(1, 0)], &[string(pattern.len(), 1)], op);
     let bytes = groups(&group) * both(n, pattern.len());
     let field = notice(&[(b"s".to_vec(), 4, vec![b'a'; n])]);
     run(
@@ -531,6 +541,59 @@ fn patterns() -> Vec<Family> {
         let bytes = groups(&group) * both(n, m);
         run(&often(&group), &pool, &hostile::EMPTY, bytes)
     }));
+    all
+}
+
+/// Document 02, request 13. A pattern may cost its bytes times the value's.
+fn expressions() -> Vec<Family> {
+    let mut all = vec![
+        family("(a*)*b on a field of 1,024", |k| {
+            regex(512 * k, b"(a*)*b".to_vec())
+        }),
+        family("(a|aa)*b on a field of 1,024", |k| {
+            regex(512 * k, b"(a|aa)*b".to_vec())
+        }),
+        family("8 groups under stars, then b, on a field of 1,024", |k| {
+            let groups = [
+                b"(".repeat(8),
+                b"a".to_vec(),
+                b")*".repeat(8),
+                b"b".to_vec(),
+            ];
+            regex(512 * k, groups.concat())
+        }),
+        family("128 times a?, then b, on a field of 1,024", |k| {
+            regex(512 * k, [b"a?".repeat(64 * k), b"b".to_vec()].concat())
+        }),
+        family(
+            "256 branches, of which none fits, on a field of 1,024",
+            |k| regex(512 * k, [b"ab|".repeat(85 * k), b"b".to_vec()].concat()),
+        ),
+        family("a set of 256 members, then b, on a field of 1,024", |k| {
+            let members = vec![b'a'; 124 * k];
+            regex(512 * k, [b"[".to_vec(), members, b"]*b".to_vec()].concat())
+        }),
+    ];
+    all.push(family(
+        "2,047 times .?, then b, on the pool, one operator",
+        |k| {
+            // the pool is the pattern, and all but its last byte the value
+            let pool = [b".?".repeat(1024 * k - 1), b"b".to_vec()].concat();
+            let (n, m) = (pool.len() - 1, pool.len());
+            let group = [string(n, 0), string(m, 0), (61, 1, 0)];
+            run(&group, &pool, &hostile::EMPTY, n + m)
+        },
+    ));
+    all.push(family(
+        "1,024 branches, of which none fits, on the pool, one operator",
+        |k| {
+            // what the branches mean stands nowhere in their text
+            let pool = [b"a\\b|".repeat(512 * k - 1), b"a\\b".to_vec()].concat();
+            let n = pool.len();
+            let group = [string(n, 0), string(n, 0), (61, 1, 0)];
+            run(&group, &pool, &hostile::EMPTY, 2 * n)
+        },
+    ));
     all
 }
 
@@ -965,6 +1028,23 @@ fn translations() -> Vec<Family> {
             s("a')"),
             0,
         ),
+        (
+            "one expression of branches",
+            s("regex(a,'b"),
+            s("|b"),
+            "",
+            s("')"),
+            0,
+        ),
+        (
+            "one expression of marks",
+            s("regex(a,'b"),
+            s("*"),
+            "",
+            s("')"),
+            0,
+        ),
+        ("calls of regex", s(""), s("regex(a,'b')"), "||", s(""), 7),
         (
             "calls of wildcard",
             s(""),

@@ -83,7 +83,7 @@ pub fn entry_number(undecided: Option<usize>) -> usize {
 }
 
 /// The kinds in turn, by the case's number.
-const KINDS: [&str; 30] = [
+const KINDS: [&str; 31] = [
     "text",
     "table",
     "notice",
@@ -114,6 +114,7 @@ const KINDS: [&str; 30] = [
     "shift",
     "more",
     "store",
+    "regex",
 ];
 /// So many operators are tried in one case of theirs.
 const OPERATORS: usize = 20;
@@ -147,6 +148,7 @@ impl Case<'_> {
             "shift" => self.shift(),
             "more" => self.more(),
             "store" => self.store(),
+            "regex" => self.regex(),
             "operator" => (0..OPERATORS).try_for_each(|_| self.operator()),
             _ => self.program(),
         }
@@ -583,6 +585,7 @@ mod tests {
                 "operator",
                 "program",
                 "quorum",
+                "regex",
                 "shift",
                 "size",
                 "store",

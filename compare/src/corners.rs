@@ -4,6 +4,7 @@
 use crate::edges::word;
 use crate::meter_corners::METERS;
 use crate::operands::*;
+use crate::regex_corners;
 use crate::size_corners::SIZES;
 use crate::wildcard_corners::WILDCARDS;
 use reference::compile::Entry;
@@ -235,11 +236,15 @@ fn name_of(corner: &Corner, op: Op) -> String {
     format!("{:?}: {}", op, corner.0)
 }
 
+fn of_regex(corner: &str) -> String {
+    format!("{:?}: {corner}", Op::Regex)
+}
+
 /// The names of all corners, for each of their ops.
 pub fn names() -> Vec<String> {
-    all()
-        .flat_map(|corner| corner.1.iter().map(|op| name_of(corner, *op)))
-        .collect()
+    let of_ops = all().flat_map(|corner| corner.1.iter().map(|op| name_of(corner, *op)));
+    let of_regexes = regex_corners::names().into_iter().map(|one| of_regex(&one));
+    of_ops.chain(of_regexes).collect()
 }
 
 /// The corners of each op, by its number.
@@ -251,7 +256,7 @@ fn by_op() -> &'static [Vec<&'static Corner>] {
                 .filter(|corner| corner.1.iter().any(|op| op.code() == code))
                 .collect()
         };
-        (0..=Op::Wildcard.code()).map(of).collect()
+        (0..=Op::Regex.code()).map(of).collect()
     })
 }
 
@@ -285,7 +290,7 @@ impl<'a> Watch<'a> {
     /// An entry and the stack before its visit.
     pub fn see(&mut self, entry: &Entry, stack: &[Slot]) {
         let corners = &by_op()[usize::from(entry.op.code())];
-        if corners.is_empty() {
+        if corners.is_empty() && entry.op != Op::Regex {
             return;
         }
         let (name, place) = match entry.op {
@@ -301,6 +306,10 @@ impl<'a> Watch<'a> {
         };
         for corner in corners.iter().filter(|corner| (corner.2)(&visit)) {
             self.met.insert(name_of(corner, entry.op));
+        }
+        if entry.op == Op::Regex {
+            let found = regex_corners::met(&visit);
+            self.met.extend(found.iter().map(|corner| of_regex(corner)));
         }
     }
 }

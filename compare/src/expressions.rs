@@ -2,9 +2,8 @@
 //! that notices have.
 
 use crate::about::About;
-use crate::patterns;
 use crate::random::Random;
-use crate::words;
+use crate::{pattern_cases, patterns, regexes, words};
 
 pub const LOGIC: [&str; 3] = ["&&", "^^", "||"];
 pub const COMPARISONS: [&str; 6] = ["==", "!=", "<", "<=", ">", ">="];
@@ -153,7 +152,9 @@ impl Maker<'_> {
     }
 
     fn matching(&mut self) {
-        let function = self.random.pick(&[&MATCHES[..], &["wildcard"]].concat());
+        let function = self
+            .random
+            .pick(&[&MATCHES[..], &["wildcard", "regex"]].concat());
         self.put(function);
         self.put("(");
         match self.random.below(4) {
@@ -169,7 +170,8 @@ impl Maker<'_> {
         for _ in 0..self.random.pick(&[1, 1, 1, 2, 2, 3, 7, 8]) {
             self.put(",");
             match function {
-                "wildcard" => self.pattern(),
+                "wildcard" => self.pattern(patterns::pattern, patterns::well_formed),
+                "regex" => self.pattern(regexes::pattern, regexes::well_formed),
                 _ => self.string(),
             }
         }
@@ -177,11 +179,11 @@ impl Maker<'_> {
     }
 
     /// A pattern for one of the strings, seldom an ill-formed one.
-    fn pattern(&mut self) {
+    fn pattern(&mut self, any: pattern_cases::Maker, well_formed: pattern_cases::Maker) {
         let text = words::text(self.random);
         let pattern = match self.random.below(12) {
-            0 => patterns::pattern(self.random, &text),
-            _ => patterns::well_formed(self.random, &text),
+            0 => any(self.random, &text),
+            _ => well_formed(self.random, &text),
         };
         let string = quoted(self.random, &pattern);
         self.put(string);

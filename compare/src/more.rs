@@ -239,6 +239,7 @@ mod tests {
             "string (a)",
             "size (s) == 1",
             "begins-with (s, 'x')",
+            "regex (s, '^x?$')",
             "equals (a, b, s, 1)",
             "! (a == s)",
             "1 == 1",

@@ -98,33 +98,40 @@ fn plain(random: &mut Random, byte: u8) -> Vec<u8> {
     escaped(byte, needed || random.once_in(8))
 }
 
-fn escaped(byte: u8, escape: bool) -> Vec<u8> {
+pub fn escaped(byte: u8, escape: bool) -> Vec<u8> {
     match escape {
         true => vec![b'\\', byte],
         false => vec![byte],
     }
 }
 
-/// A set about the byte: members and ranges that hold it, end beside it or have nothing to do with it.
 fn set(random: &mut Random, byte: u8) -> Vec<u8> {
+    marked_set(random, byte, b'!')
+}
+
+/// A set about the byte, with a mark of the complement: members and ranges that hold the byte, end beside it or
+/// have nothing to do with it.
+pub fn marked_set(random: &mut Random, byte: u8, mark: u8) -> Vec<u8> {
     let complement = random.once_in(3);
     let mut members = vec![about(random, byte)];
     for _ in 0..random.pick(&[0, 0, 1, 1, 2, 3]) {
-        let other = random.pick(b"ab-]![\\*?Z\0\xff");
+        let other = random.pick(&[
+            b'a', b'b', b'-', b']', mark, b'[', b'\\', b'*', b'?', b'Z', 0, 255,
+        ]);
         let more = about(random, other);
         members.insert(random.below(members.len() + 1), more);
     }
-    // an unescaped `-` at either end is plain, and so is a `!` that is not the first
+    // an unescaped `-` at either end is plain, and so is a mark that is not the first
     match random.below(8) {
         0 => members.insert(0, b"-".to_vec()),
         1 => members.push(b"-".to_vec()),
-        2 => members.push(b"!".to_vec()),
+        2 => members.push(vec![mark]),
         _ => (),
     }
-    if !complement && members[0][0] == b'!' {
+    if !complement && members[0][0] == mark {
         members[0].insert(0, b'\\');
     }
-    let mark: &[u8] = if complement { b"!" } else { b"" };
+    let mark: &[u8] = if complement { &[mark] } else { b"" };
     [b"[", mark, &members.concat(), b"]"].concat()
 }
 

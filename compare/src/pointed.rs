@@ -2,8 +2,7 @@
 
 use crate::expressions::{integer, quoted, spelled, Maker, COMPARISONS, MATCHES, TESTS};
 use crate::notices::Field;
-use crate::patterns;
-use crate::words;
+use crate::{patterns, regexes, words};
 use reference::utf8::characters;
 
 /// The little-endian integer of a value's bytes.
@@ -150,11 +149,14 @@ impl Maker<'_> {
 
     /// A pattern that the field's value fits, or nearly.
     fn pattern_of(&mut self, field: &Field) {
-        self.put("wildcard");
+        let (function, pattern) = match self.random.below(2) {
+            0 => ("wildcard", patterns::well_formed(self.random, &field.value)),
+            _ => ("regex", regexes::well_formed(self.random, &field.value)),
+        };
+        self.put(function);
         self.put("(");
         self.name(field);
         self.put(",");
-        let pattern = patterns::well_formed(self.random, &field.value);
         let string = quoted(self.random, &pattern);
         self.put(string);
         self.put(")");

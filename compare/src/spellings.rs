@@ -5,7 +5,14 @@ use reference::grammar::{fault, tree, Tree};
 use reference::judge::calls_right;
 use reference::tokens::{tokens, Placed, Token};
 
-const FUNCTIONS: [&str; 5] = ["begins-with", "contains", "ends-with", "equals", "wildcard"];
+const FUNCTIONS: [&str; 6] = [
+    "begins-with",
+    "contains",
+    "ends-with",
+    "equals",
+    "wildcard",
+    "regex",
+];
 
 /// What must occur in a run of many cases.
 pub fn names() -> Vec<String> {

@@ -1,10 +1,9 @@
 //! Tables: those of texts, made by hand of random entries, and damaged ones.
 
 use crate::about::{self, About};
-use crate::editions;
+use crate::pattern_cases::Maker as PatternMaker;
 use crate::random::Random;
-use crate::texts;
-use crate::words;
+use crate::{editions, patterns, regexes, texts, words};
 use reference::op::{Op, OPS};
 use reference::Edition;
 
@@ -211,10 +210,13 @@ impl Maker<'_> {
         self.put(op, 0, 0);
     }
 
-    /// All values on the stack to one logic slot: ops 32..37, 48..54, 56..59.
+    /// All values on the stack to one logic slot: ops 32..37, 48..54, 56..61.
     fn make_logic(&mut self) {
         while self.values > 9 {
             self.binary();
+        }
+        if self.values == 1 && self.logic < 24 && self.random.once_in(6) {
+            return self.fit_patterns();
         }
         let last = match self.values {
             1 => self.random.pick(&OPS[31..38]),
@@ -227,6 +229,33 @@ impl Maker<'_> {
             0
         };
         self.put(last, a as u16, 0);
+        self.values = 0;
+        self.logic += 1;
+    }
+
+    /// Ops 60 and 61: the one value on the stack and patterns, which stand in the pool for themselves if it has
+    /// room.
+    fn fit_patterns(&mut self) {
+        let (op, well_formed): (Op, PatternMaker) = match self.random.below(2) {
+            0 => (Op::Wildcard, patterns::well_formed),
+            _ => (Op::Regex, regexes::well_formed),
+        };
+        let count = self.random.pick(&[1, 1, 2, 8]);
+        for _ in 0..count {
+            let text = words::text(self.random);
+            let mut pattern = well_formed(self.random, &text);
+            if self.draft.pool.len() + pattern.len() > reference::MOST_POOL {
+                pattern = b"p".to_vec();
+            }
+            let held = self.draft.pool.windows(pattern.len().max(1));
+            let at = held.into_iter().position(|part| part == pattern);
+            let start = at.unwrap_or(self.draft.pool.len());
+            if at.is_none() {
+                self.draft.pool.extend(&pattern);
+            }
+            self.put(Op::Text, pattern.len() as u16, start as u64);
+        }
+        self.put(op, count, 0);
         self.values = 0;
         self.logic += 1;
     }

@@ -2,7 +2,7 @@
 
 use crate::edges::EDGES;
 use crate::{
-    corners, editions, find_edges, many_edges, more_edges, quorum_edges, shift_edges, size,
+    corners, editions, find_edges, many_edges, more_edges, quorum_edges, regex, shift_edges, size,
     spellings, store_edges, ubf_edges, undecided_edges, wildcard,
 };
 use reference::op::OPS;
@@ -38,7 +38,7 @@ const NUMBERS: [(&str, &[u8]); 18] = [
     ("store fetch", &[0, 26, 29]),
     ("store match", &[0, 9, 11, 26]),
 ];
-const WORDS: [(&str, &[&str]); 12] = [
+const WORDS: [(&str, &[&str]); 11] = [
     (
         "case",
         &[
@@ -50,6 +50,7 @@ const WORDS: [(&str, &[&str]); 12] = [
             "program",
             "quorum",
             "wildcard",
+            "regex",
             "size",
             "ubf",
             "meter",
@@ -85,7 +86,6 @@ const WORDS: [(&str, &[&str]); 12] = [
     ("edge", &EDGES),
     ("entry told", &undecided_edges::TOLD),
     ("quorum", &quorum_edges::EDGES),
-    ("wildcard", &wildcard::CAUSES),
     ("ubf", &ubf_edges::EDGES),
     ("ubf done", &ubf_edges::DONE),
 ];
@@ -106,6 +106,8 @@ impl Tally {
         let ops = OPS.iter().map(|op| ("op", op.code().to_string()));
         let corners = corners::names().into_iter().map(|one| ("corner", one));
         let spellings = spellings::names().into_iter().map(|one| ("spelling", one));
+        let wildcards = wildcard::names().into_iter().map(|one| ("wildcard", one));
+        let regexes = regex::names().into_iter().map(|one| ("regex", one));
         let sizes = size::names().into_iter().map(|one| ("size", one));
         let searches = find_edges::names().into_iter().map(|one| ("search", one));
         let undecided = undecided_edges::names();
@@ -120,6 +122,8 @@ impl Tally {
             .chain(words)
             .chain(ops)
             .chain(corners)
+            .chain(wildcards)
+            .chain(regexes)
             .chain(sizes)
             .chain(searches)
             .chain(undecided)

@@ -191,6 +191,7 @@ fn near_limits(random: &mut Random) -> Vec<u8> {
 /// Calls and operators with a wrong name, count, form or kind, and one that is right.
 const ODD: &str = r#"int32() int32(a,b) int32((a)) int32(1) size("a")==1 wildcard(a) wildcard(a,b)
     wildcard((a),'*') wildcard('a','*') Wildcard(a,'*') wild\card(a,'*') wildcard(a,'[') regex(a,'b') Int32(a)
+    regex(a) regex(a,b) regex((a),'b') regex('a','b') Regex(a,'b') reg\ex(a,'b') regex(a,'*') decompose(a,'b')
     int\32(a) begins-with(a) begins-with('a','b') contains((s1),'a') ends-with(a,b)
     contains(a,'1','2','3','4','5','6','7','8','9') equals(a) equals(1,2)
     equals(a,1,2,3,4,5,6,7,8,9) equals(a,b==1) equals(a,(b)) fold-case()=='' fold-case(1)==''
@@ -204,12 +205,13 @@ fn word_of<'a>(random: &mut Random, list: &'a str) -> &'a str {
 
 /// A call with 8 literals or values, which is right, or with 9.
 fn full_call(random: &mut Random) -> Vec<u8> {
-    let function = random.pick(&[&MATCHES[..], &["equals", "wildcard"]].concat());
+    let function = random.pick(&[&MATCHES[..], &["equals", "wildcard", "regex"]].concat());
     let mut call = format!("{function}(s1").into_bytes();
     for at in 0..random.pick(&[8, 9]) {
         call.push(b',');
         match function {
             "equals" => call.extend(at.to_string().bytes()),
+            "regex" => call.extend(quoted(random, &b"abc"[at % 3..])),
             _ => call.extend(quoted(random, &b"abc"[..at % 4])),
         }
     }

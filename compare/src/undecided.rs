@@ -15,7 +15,7 @@ use reference::op::Op;
 use reference::Described;
 
 /// Clauses of which each is true, false or bottom on the notice below, by a name, a kind or a value.
-const CLAUSES: [&str; 27] = [
+const CLAUSES: [&str; 28] = [
     "Op == 42",
     "Op == 42",
     "s == 'ab'",
@@ -41,6 +41,7 @@ const CLAUSES: [&str; 27] = [
     "contains (Op, 'a')",
     "ends-with (o, 'a')",
     "wildcard (Op, '*')",
+    "regex (Op, '.*')",
     "equals (s, 1, 2)",
     "o == o",
 ];

@@ -1,5 +1,5 @@
 //! Translation: a text's table, or the first refusal "in this order: 10, then 1 or 3 at the first bad
-//! token, 6, 2, 4, 5, 7, 8, 9"; 18 "after 4 and before 5" (document 02, request 1); 25 "before 10"
+//! token, 6, 2, 4, 5, 7, 8, 9"; 18 "after 4 and before 5" (document 02, requests 1 and 13); 25 "before 10"
 //! (request 9).
 
 use crate::edition::Edition;
@@ -165,7 +165,9 @@ impl Code {
     fn add_call(&mut self, op: Op, arguments: &[Tree]) {
         arguments.iter().for_each(|argument| self.add(argument));
         let later = match op {
-            Op::Begins | Op::Contains | Op::Ends | Op::Equals | Op::Wildcard => arguments.len() - 1,
+            Op::Begins | Op::Contains | Op::Ends | Op::Equals | Op::Wildcard | Op::Regex => {
+                arguments.len() - 1
+            }
             _ => 0,
         };
         self.push(op, later, 0);
@@ -233,7 +235,17 @@ mod tests {
             ("int32 ((a))", 4, 0),
             ("0x80000000 == 0", 3, 0),
             ("begins-with ((fold-case (a)), \"x\")", 4, 0),
-            ("regex (a, \"*\")", 4, 0),
+            ("decompose (a, \"*\")", 4, 0),
+            ("regex (a)", 4, 0),
+            ("regex (a, b)", 4, 0),
+            ("regex (\"a\", \"b\")", 4, 0),
+            ("r\\egex (a, \"*\")", 4, 0),
+            ("regex (a, \"*\") == f (a)", 4, 0),
+            ("regex (a, \"a\", \"*\")", 18, 0),
+            ("regex (a, \"(\") == 1", 18, 0),
+            ("regex (a, \"b*\") == 1", 5, 0),
+            ("wildcard (a, \"(\") || regex (a, \"a||b\")", 18, 0),
+            ("regex (a, \"[!]\") && wildcard (a, \"[!]\")", 18, 0),
             ("wildcard (a)", 4, 0),
             ("wildcard (a, b)", 4, 0),
             ("wildcard (\"a\", \"b\")", 4, 0),
@@ -262,6 +274,17 @@ mod tests {
         meant.extend([4, 0, 2, 0, 7, 0, 0, 0, 0, 0, 0, 0]);
         meant.extend([60, 0, 2, 0, 0, 0, 0, 0, 0, 0, 0, 0]);
         meant.extend(b"CabT-4?V*");
+        assert_eq!(table, meant);
+    }
+
+    #[test]
+    fn a_regex_call_becomes_op_61() {
+        let table = table_of(1, b"regex (User, \"[Ss]egall?\")").unwrap();
+        let mut meant = vec![0x38, 0, 0, 0, 2, 0, 3, 0, 14, 0];
+        meant.extend([5, 0, 4, 0, 0, 0, 0, 0, 0, 0, 0, 0]);
+        meant.extend([4, 0, 10, 0, 4, 0, 0, 0, 0, 0, 0, 0]);
+        meant.extend([61, 0, 1, 0, 0, 0, 0, 0, 0, 0, 0, 0]);
+        meant.extend(b"User[Ss]egall?");
         assert_eq!(table, meant);
     }
 

@@ -2,10 +2,11 @@
 
 use crate::grammar::Tree;
 use crate::op::Op;
+use crate::regex::Regex;
 use crate::wildcard::Pattern;
 
 /// The functions by name, with the op that each becomes.
-const FUNCTIONS: [(&[u8], Op); 14] = [
+const FUNCTIONS: [(&[u8], Op); 15] = [
     (b"int32", Op::IsInt32),
     (b"int64", Op::IsInt64),
     (b"real64", Op::IsReal64),
@@ -21,6 +22,8 @@ const FUNCTIONS: [(&[u8], Op); 14] = [
     (b"fold-case", Op::FoldCase),
     // document 02, request 1
     (b"wildcard", Op::Wildcard),
+    // request 13
+    (b"regex", Op::Regex),
 ];
 
 /// The function of a called name; "Function names take no escapes".
@@ -50,8 +53,8 @@ fn call_right(function: Option<Op>, arguments: &[Tree]) -> bool {
     };
     match op {
         // "take a name or a `fold-case` call, then 1..8 string literals"; document 02, request 1: "Same
-        // argument forms as `begins-with`"
-        Op::Begins | Op::Contains | Op::Ends | Op::Wildcard => {
+        // argument forms as `begins-with`"; request 13: "Argument and bottom rules as for `begins-with`"
+        Op::Begins | Op::Contains | Op::Ends | Op::Wildcard | Op::Regex => {
             let first_right = is_name(first) || is_fold_case(first);
             first_right && (1..=8).contains(&later.len()) && later.iter().all(is_text)
         }
@@ -78,16 +81,27 @@ pub fn calls_right(tree: &Tree) -> bool {
     }
 }
 
-/// Whether no call in the tree has refusal 18, "for an ill-formed pattern", document 02, request 1.
+/// Whether the bytes are a well-formed pattern of the op, if it takes patterns.
+pub fn pattern_right(op: Op, bytes: &[u8]) -> bool {
+    match op {
+        Op::Wildcard => Pattern::of(bytes).is_ok(),
+        Op::Regex => Regex::of(bytes).is_ok(),
+        _ => true,
+    }
+}
+
+/// Whether no call in the tree has refusal 18, "for an ill-formed pattern", document 02, requests 1 and 13.
 pub fn patterns_right(tree: &Tree) -> bool {
     match tree {
         Tree::Parens(inner) | Tree::Prefix(_, inner) => patterns_right(inner),
         Tree::Binary(_, left, right) => patterns_right(left) && patterns_right(right),
         Tree::Call(name, escaped, arguments) => {
-            let wildcard = function(name, *escaped) == Some(Op::Wildcard);
-            let ill =
-                |tree: &Tree| matches!(tree, Tree::Text(bytes) if Pattern::of(bytes).is_err());
-            !(wildcard && arguments.iter().any(ill)) && arguments.iter().all(patterns_right)
+            let right = |op: Op, tree: &Tree| match tree {
+                Tree::Text(bytes) => pattern_right(op, bytes),
+                _ => true,
+            };
+            function(name, *escaped).is_none_or(|op| arguments.iter().all(|one| right(op, one)))
+                && arguments.iter().all(patterns_right)
         }
         _ => true,
     }

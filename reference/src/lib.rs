@@ -13,6 +13,7 @@ pub mod meaning;
 pub mod notice;
 pub mod op;
 pub mod quorum;
+pub mod regex;
 pub mod run;
 pub mod store;
 pub mod table;

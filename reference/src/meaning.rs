@@ -70,7 +70,7 @@ impl On<'_> {
             arguments.iter().map(|tree| self.value(tree)).collect();
         let first = values.remove(0);
         match op {
-            Op::Begins | Op::Contains | Op::Ends | Op::Equals | Op::Wildcard => {
+            Op::Begins | Op::Contains | Op::Ends | Op::Equals | Op::Wildcard | Op::Regex => {
                 Slot::Truth(many(op, first, values))
             }
             _ => unary(op, first),

@@ -55,11 +55,13 @@ pub enum Op {
     Equals = 59,
     // document 02, request 1: "It gets op 60."
     Wildcard = 60,
+    // request 13: "op 61"
+    Regex = 61,
 }
 
 use Op::*;
 
-pub const OPS: [Op; 43] = [
+pub const OPS: [Op; 44] = [
     Int32,
     Int64,
     Real64,
@@ -103,6 +105,7 @@ pub const OPS: [Op; 43] = [
     Ends,
     Equals,
     Wildcard,
+    Regex,
 ];
 
 impl Op {

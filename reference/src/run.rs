@@ -141,7 +141,9 @@ impl Machine<'_> {
                 let right = self.pop_truth();
                 Slot::Truth(logic(entry.op, self.pop_truth(), right))
             }
-            Op::Begins | Op::Contains | Op::Ends | Op::Equals | Op::Wildcard => self.many(entry),
+            Op::Begins | Op::Contains | Op::Ends | Op::Equals | Op::Wildcard | Op::Regex => {
+                self.many(entry)
+            }
             op if op.code() >= Op::IsInt32.code() || op.code() <= Op::Complement.code() => {
                 unary(op, self.pop_value())
             }

@@ -2,10 +2,9 @@
 
 use crate::compile::Entry;
 use crate::edition::Edition;
-use crate::judge::Kind;
+use crate::judge::{pattern_right, Kind};
 use crate::notice::name_right;
 use crate::op::Op;
-use crate::wildcard::Pattern;
 use crate::{word, MOST_ENTRIES, MOST_POOL, MOST_SLOTS};
 use std::ops::Range;
 
@@ -132,7 +131,7 @@ fn entry_right(table: &Table, at: usize, entry: &Entry) -> bool {
         Op::Begins | Op::Contains | Op::Ends | Op::Equals => {
             (1..=8).contains(&entry.a) && entry.b == 0
         }
-        Op::Wildcard => {
+        Op::Wildcard | Op::Regex => {
             (1..=8).contains(&entry.a) && entry.b == 0 && patterns_right(table, at, entry)
         }
         // "Unused a and b are zero."
@@ -141,14 +140,14 @@ fn entry_right(table: &Table, at: usize, entry: &Entry) -> bool {
 }
 
 /// Document 02, request 1: "the table check gives 12 for it [an ill-formed pattern] and for a pattern
-/// operand that is no op 4 entry directly before".
+/// operand that is no op 4 entry directly before"; request 13: "the table check gives 12 as for op 60".
 fn patterns_right(table: &Table, at: usize, entry: &Entry) -> bool {
     let Some(first) = at.checked_sub(usize::from(entry.a)) else {
         return false;
     };
     table.entries[first..at].iter().all(|operand| {
         let pattern = pool_part(table.pool, operand).filter(|_| operand.op == Op::Text);
-        pattern.is_some_and(|bytes| Pattern::of(bytes).is_ok())
+        pattern.is_some_and(|bytes| pattern_right(entry.op, bytes))
     })
 }
 
@@ -213,7 +212,7 @@ fn effect(entry: &Entry) -> (usize, Kind, Kind) {
         // "A skip keeps its operand."
         Op::Not | Op::SkipFalse | Op::SkipTrue => (1, Logic, Logic),
         Op::And | Op::Xor | Op::Or => (2, Logic, Logic),
-        Op::Begins | Op::Contains | Op::Ends | Op::Equals | Op::Wildcard => {
+        Op::Begins | Op::Contains | Op::Ends | Op::Equals | Op::Wildcard | Op::Regex => {
             (usize::from(entry.a) + 1, Value, Logic)
         }
         Op::IsInt32

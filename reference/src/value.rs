@@ -3,6 +3,7 @@
 use crate::edition::Edition;
 use crate::exact::{beside, nearest};
 use crate::op::Op;
+use crate::regex::Regex;
 use crate::utf8::characters;
 use crate::wildcard::Pattern;
 use std::cmp::Ordering;
@@ -304,7 +305,7 @@ fn test(op: Op, value: &Value) -> bool {
     }
 }
 
-/// Ops 56..60 on the first operand and the later ones.
+/// Ops 56..61 on the first operand and the later ones.
 pub fn many(op: Op, first: Option<Value>, later: Vec<Option<Value>>) -> Truth {
     if op == Op::Equals {
         return equals(first, later);
@@ -315,7 +316,8 @@ pub fn many(op: Op, first: Option<Value>, later: Vec<Option<Value>>) -> Truth {
     };
     let literals: Option<Vec<Vec<u8>>> = later.into_iter().map(text_of).collect();
     match literals {
-        // "In 56..58 a later operand that is no string gives bottom."; that of 60 is an op 4 entry
+        // "In 56..58 a later operand that is no string gives bottom."; those of 60 and 61 are op 4
+        // entries
         None => Bottom,
         // "true if any literal fits, else false"
         Some(literals) => truth(literals.iter().any(|literal| fits(op, &text, literal))),
@@ -329,12 +331,14 @@ fn text_of(value: Option<Value>) -> Option<Vec<u8>> {
     }
 }
 
-/// "An empty literal always fits."; document 02, request 1: "the whole value must fit a pattern"
+/// "An empty literal always fits."; document 02, request 1: "the whole value must fit a pattern";
+/// request 13: "True if some stretch of the value fits."
 fn fits(op: Op, text: &[u8], literal: &[u8]) -> bool {
     match op {
         Op::Begins => text.starts_with(literal),
         Op::Ends => text.ends_with(literal),
         Op::Wildcard => Pattern::of(literal).is_ok_and(|pattern| pattern.fits(text)),
+        Op::Regex => Regex::of(literal).is_ok_and(|regex| regex.fits(text)),
         _ => literal.is_empty() || text.windows(literal.len()).any(|part| part == literal),
     }
 }

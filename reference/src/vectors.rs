@@ -26,11 +26,14 @@
 //! - `11-find.txt`: notice, name, index of the field that has it or `-`, names looked at
 //! - `12-store.txt`: buffer length, number of calls, the calls (`a` table, `r` number, `f` number), `:`, the number of
 //!   making the store empty, then for each call number:answer: of `a` the table's number, of `r` 0, of `f` the table
+//! - `13-translate.txt`, `13-run.txt`, `13-check.txt`, `13-patterns.txt`: as those of 09 and `01-patterns.txt`, of
+//!   texts, tables and patterns of `regex`
 //!
-//! Runs of files without 07 or 09 in front are from before request 7, so that their answers have no entry.
-//! Texts of files without 09 or 10 in front are from before request 9: of the first edition.
+//! Runs of files without 07, 09 or 13 in front are from before request 7, so that their answers have no entry.
+//! Texts of files without 09, 10 or 13 in front are from before request 9: of the first edition.
 
 use crate::quorum::{self, Decision, Shown};
+use crate::regex::Regex;
 use crate::store;
 use crate::wildcard::Pattern;
 use crate::Truth;
@@ -51,15 +54,18 @@ pub fn agree(file: &str, lines: &str) -> Result<usize, String> {
 fn answer(file: &str, words: &[&str]) -> Option<(usize, String)> {
     match (file, words.len()) {
         ("translate.txt" | "01-translate.txt", 5) => Some((2, translate(1, words)?)),
-        ("09-translate.txt", 6) => Some((3, translate(words[0].parse().ok()?, &words[1..])?)),
+        ("09-translate.txt" | "13-translate.txt", 6) => {
+            Some((3, translate(words[0].parse().ok()?, &words[1..])?))
+        }
         ("run.txt" | "01-run.txt" | "02-run.txt" | "06-run.txt", 6) => {
             Some((2, without_last(&run(words)?)))
         }
-        ("07-run.txt" | "09-run.txt", 7) => Some((2, run(words)?)),
-        ("01-check.txt" | "09-check.txt", 2) => {
+        ("07-run.txt" | "09-run.txt" | "13-run.txt", 7) => Some((2, run(words)?)),
+        ("01-check.txt" | "09-check.txt" | "13-check.txt", 2) => {
             Some((1, crate::check(&bytes(words[0])?).to_string()))
         }
-        ("01-patterns.txt", 4) => Some((2, pattern(words)?)),
+        ("01-patterns.txt", 4) => Some((2, pattern(words, wildcard)?)),
+        ("13-patterns.txt", 4) => Some((2, pattern(words, regex)?)),
         ("read.txt", 7) => Some((2, read(words)?)),
         ("write.txt", 9) => Some((5, write(words)?)),
         ("program.txt", 2) => Some((1, hex(without_entries(&program(words)?).as_bytes()))),
@@ -152,11 +158,19 @@ fn write(words: &[&str]) -> Option<String> {
     ))
 }
 
-fn pattern(words: &[&str]) -> Option<String> {
-    let pattern = Pattern::of(&bytes(words[0])?);
-    let value = bytes(words[1])?;
-    let fits = pattern.as_ref().is_ok_and(|pattern| pattern.fits(&value));
-    Some(format!("{} {}", u8::from(pattern.is_ok()), u8::from(fits)))
+/// Whether the pattern is well-formed, and whether the value fits it.
+fn pattern(words: &[&str], fits: fn(&[u8], &[u8]) -> Option<bool>) -> Option<String> {
+    let fits = fits(&bytes(words[0])?, &bytes(words[1])?);
+    let (right, fits) = (fits.is_some(), fits == Some(true));
+    Some(format!("{} {}", u8::from(right), u8::from(fits)))
+}
+
+fn wildcard(pattern: &[u8], value: &[u8]) -> Option<bool> {
+    Some(Pattern::of(pattern).ok()?.fits(value))
+}
+
+fn regex(pattern: &[u8], value: &[u8]) -> Option<bool> {
+    Some(Regex::of(pattern).ok()?.fits(value))
 }
 
 /// A decision in a buffer of its size, opened and shown each notice; the answers as the file has them.

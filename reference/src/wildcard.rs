@@ -32,10 +32,11 @@ pub enum Fault {
 }
 
 /// A byte of a pattern, and whether a backslash made it plain.
-type Member = (u8, bool);
+pub(crate) type Member = (u8, bool);
 
-/// "a backslash makes the next byte plain": the bytes with their backslashes taken off.
-fn members(pattern: &[u8]) -> (Vec<Member>, bool) {
+/// "a backslash makes the next byte plain": the bytes with their backslashes taken off, and whether the
+/// last byte is a backslash that makes none plain.
+pub(crate) fn members(pattern: &[u8]) -> (Vec<Member>, bool) {
     let mut all = Vec::new();
     let mut bytes = pattern.iter();
     while let Some(byte) = bytes.next() {
@@ -62,7 +63,7 @@ impl Pattern {
             parts.push(match member {
                 (b'*', false) => Part::Run,
                 (b'?', false) => Part::Any,
-                (b'[', false) => set(&taken_to_close(&mut rest)?)?,
+                (b'[', false) => set(&taken_to_close(&mut rest)?, b'!')?,
                 (byte, _) => Part::Byte(byte),
             });
         }
@@ -96,7 +97,7 @@ impl Pattern {
 
 /// "In a set the first unescaped `]` closes": what stands before it, which is taken with it off the
 /// reversed rest.
-fn taken_to_close(rest: &mut Vec<Member>) -> Result<Vec<Member>, Fault> {
+pub(crate) fn taken_to_close(rest: &mut Vec<Member>) -> Result<Vec<Member>, Fault> {
     let mut taken = Vec::new();
     loop {
         match rest.pop() {
@@ -107,10 +108,10 @@ fn taken_to_close(rest: &mut Vec<Member>) -> Result<Vec<Member>, Fault> {
     }
 }
 
-/// "a leading `!` for the complement"; "a member, `-` and a member is a range, read from the left;
+/// "a leading `!` for the complement", the mark; "a member, `-` and a member is a range, read from the left;
 /// other bytes are plain".
-fn set(inside: &[Member]) -> Result<Part, Fault> {
-    let complement = inside.first() == Some(&(b'!', false));
+pub(crate) fn set(inside: &[Member], mark: u8) -> Result<Part, Fault> {
+    let complement = inside.first() == Some(&(mark, false));
     let mut rest = &inside[usize::from(complement)..];
     let mut ranges = Vec::new();
     while let [(from, _), after @ ..] = rest {

@@ -27,10 +27,14 @@ fn the_vectors_agree() {
         ("08-many.txt", 350),
         ("09-translate.txt", 500),
         ("09-run.txt", 600),
-        ("09-check.txt", 300),
+        ("09-check.txt", 299),
         ("10-more.txt", 300),
         ("11-find.txt", 500),
         ("12-store.txt", 250),
+        ("13-translate.txt", 500),
+        ("13-run.txt", 600),
+        ("13-check.txt", 300),
+        ("13-patterns.txt", 1200),
     ];
     for (file, cases) in files {
         let lines = read_to_string(format!("{folder}/{file}")).expect(file);

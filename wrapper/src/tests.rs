@@ -54,7 +54,7 @@ fn a_table_is_written_and_later_bytes_stay() {
 
 #[test]
 fn a_refused_text_changes_no_byte() {
-    let cases: [(&str, u8, usize); 12] = [
+    let cases: [(&str, u8, usize); 15] = [
         ("pipe=>20", 5, 0),
         ("Op", 5, 0),
         ("! Op == 42", 5, 0),
@@ -66,6 +66,9 @@ fn a_refused_text_changes_no_byte() {
         ("wildcard (a, \"[\") == f (a)", 4, 0),
         ("wildcard (a, \"*\", \"[\") == 1", 18, 0),
         ("wildcard (a, \"*\") == 1", 5, 0),
+        ("regex (a, \"(\") == f (a)", 4, 0),
+        ("regex (a, \"b\", \"*\") == 1", 18, 0),
+        ("regex (a, \"b*\") == 1", 5, 0),
         ("0x80000000 == 0", 3, 0),
     ];
     for (text, number, place) in cases {
@@ -548,6 +551,49 @@ fn the_whole_cab_number_fits_a_pattern() {
     ill_formed[66] = b'[';
     assert_eq!(check(&ill_formed), 12);
     assert_eq!(run(&ill_formed, &EMPTY_NOTICE).number, 12);
+}
+
+#[test]
+fn some_stretch_of_the_user_fits_a_regular_expression() {
+    let table = table("regex (User, \"[Ss]egall?\")");
+    assert_eq!(table[..10], [0x38, 0, 0, 0, 2, 0, 3, 0, 14, 0]);
+    assert_eq!(table[34..36], [61, 0]);
+    let cases = [
+        ("Segall", Verdict::True),
+        ("Bill segal", Verdict::True),
+        ("Segala", Verdict::True),
+        ("Sega", Verdict::False),
+        ("SEGALL", Verdict::False),
+        ("", Verdict::False),
+    ];
+    for (user, verdict) in cases {
+        let r = run(&table, &strings(&[("User", user)]));
+        assert_eq!((r.number, r.verdict, r.steps), (0, verdict, 3), "{user}");
+    }
+    let r = run(&table, &EMPTY_NOTICE);
+    assert_eq!((r.verdict, r.undecided), (Verdict::Bottom, Some(0)));
+    // the set's bracket, not closed
+    let mut ill_formed = table.clone();
+    ill_formed[53] = b'x';
+    assert_eq!(check(&ill_formed), 12);
+    assert_eq!(run(&ill_formed, &EMPTY_NOTICE).number, 12);
+}
+
+/// Document 02, request 13: "also for a star over what fits the empty string"; a matcher that goes back would
+/// not end.
+#[test]
+fn a_star_over_what_fits_the_empty_string() {
+    let long = "a".repeat(1023);
+    for pattern in ["(a*)*b", "(a|aa)*b", "((a?)+)*b", "^(a*)*b"] {
+        let table = table(&format!("regex (User, \"{pattern}\")"));
+        for (value, verdict) in [
+            (long.clone(), Verdict::False),
+            (long.clone() + "b", Verdict::True),
+        ] {
+            let r = run(&table, &strings(&[("User", &value)]));
+            assert_eq!((r.number, r.verdict), (0, verdict), "{pattern}");
+        }
+    }
 }
 
 /// A notice of the int64 field `Meter`.

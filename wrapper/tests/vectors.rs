@@ -25,10 +25,9 @@ fn number<T: std::str::FromStr>(word: &str) -> T {
     word.parse().ok().expect("a number")
 }
 
-/// Document 02, request 9: edition, text, buffer length, number, place, table.
-#[test]
-fn translations_by_edition() {
-    cases("09-translate.txt", 500, |words| {
+/// Edition, text, buffer length, number, place, table.
+fn translations(file: &str, count: usize) {
+    cases(file, count, |words| {
         let [edition, text, room, refusal, place, table] = words else {
             panic!("{words:?}");
         };
@@ -43,9 +42,8 @@ fn translations_by_edition() {
 }
 
 /// Table, number.
-#[test]
-fn checks_of_both_editions() {
-    cases("09-check.txt", 300, |words| {
+fn checks(file: &str, count: usize) {
+    cases(file, count, |words| {
         let [table, refusal] = words else {
             panic!("{words:?}");
         };
@@ -54,9 +52,8 @@ fn checks_of_both_editions() {
 }
 
 /// Table, notice, number, place, verdict, steps, undecided entry.
-#[test]
-fn runs_of_both_editions() {
-    cases("09-run.txt", 600, |words| {
+fn runs(file: &str, count: usize) {
+    cases(file, count, |words| {
         let [table, notice, answer @ ..] = words else {
             panic!("{words:?}");
         };
@@ -71,6 +68,63 @@ fn runs_of_both_editions() {
         );
         assert_eq!(told, answer.join(" "), "{words:?}");
     });
+}
+
+/// Document 02, request 9.
+#[test]
+fn both_editions() {
+    translations("09-translate.txt", 500);
+    checks("09-check.txt", 299);
+    runs("09-run.txt", 600);
+}
+
+/// Document 02, request 13.
+#[test]
+fn regular_expressions() {
+    translations("13-translate.txt", 500);
+    checks("13-check.txt", 300);
+    runs("13-run.txt", 600);
+}
+
+/// The table of the op on a value and a pattern, both of which stand in the pool.
+fn pattern_table(op: u8, value: &[u8], pattern: &[u8]) -> Vec<u8> {
+    let pool = [value, pattern].concat();
+    let mut table = vec![2, 0, 3, 0];
+    table.extend((pool.len() as u16).to_le_bytes());
+    let entries = [
+        (4, value.len(), 0),
+        (4, pattern.len(), value.len()),
+        (op, 1, 0),
+    ];
+    for (op, a, b) in entries {
+        table.extend([op, 0]);
+        table.extend((a as u16).to_le_bytes());
+        table.extend((b as u64).to_le_bytes());
+    }
+    table.extend(pool);
+    let length = table.len() as u32;
+    [&length.to_le_bytes()[..], &table].concat()
+}
+
+/// Pattern, value, whether the pattern is well-formed, whether the value fits.
+#[test]
+fn patterns() {
+    for (file, count, op) in [("01-patterns.txt", 900, 60), ("13-patterns.txt", 1200, 61)] {
+        cases(file, count, |words| {
+            let [pattern, value, right, fits] = words else {
+                panic!("{words:?}");
+            };
+            let table = pattern_table(op, &bytes(value), &bytes(pattern));
+            let r = virentolex::run(&table, &virentolex::EMPTY_NOTICE);
+            let meant = match (*right, *fits) {
+                ("1", "1") => (0, virentolex::Verdict::True),
+                ("1", "0") => (0, virentolex::Verdict::False),
+                _ => (12, virentolex::Verdict::Bottom),
+            };
+            assert_eq!((r.number, r.verdict), meant, "{words:?}");
+            assert_eq!(virentolex::check(&table), r.number, "{words:?}");
+        });
+    }
 }
 
 /// The fields of a notice: kind, name and value.

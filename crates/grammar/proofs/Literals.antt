@@ -2,13 +2,16 @@
 use Prim.Native.Nat.{ℕ, _+_, _-_, _≤_}
 use native.Mathlib.Omega.{arith}
 use mathlib.Core.Path.{_≡_, refl, sym, ap, ap₂, _∙_}
-use mathlib.Core.Bool.{Bool, true, false, cond, _&&_}
+use mathlib.Core.Bool.{Bool, true, false, cond, _&&_, _||_}
 use mathlib.Core.List.{List, [], _∷_}
 use lib.Dec.{eqb, ltb}
 use lib.ListN.{length, getD, take, drop}
 use lib.Seq.{slice-cons, sets, sets-eq, take-append-seam}
 use borrow.Author.Tests.{eqb-true}
-use Rattle.common.proofs.Choice.{false-true}
+use Rattle.common.proofs.Choice.{true-false, false-true}
+use Rattle.opcode.specs.Number.{wildcardOp, regexOp}
+use Rattle.pattern.specs.Wildcard.{wellFormed}
+use Rattle.regex.specs.Regex.{wellFormed as regexFormed}
 use Rattle.lexer.specs.Token.{Token, name, int32, int64, real, text, symbol, stringAt}
 use Rattle.grammar.specs.Tree.{Tree, leaf, group, unary, binary, call}
 use Rattle.grammar.specs.Grammar.{Level, operator, tighter, tightest, Prefix, applied, plain, Operand, a-literal, a-name, a-group, a-call-none, a-call}
@@ -75,12 +78,20 @@ copied-is s at was h en e =
 
 -- ---- what the parser asks is what the definition asks
 
+any-string : (f : ℕ) (p : List ℕ) → takesPatterns f ≡ false → patternTest f p ≡ true
+any-string f p e = go (eqb f wildcardOp) (eqb f regexOp) e
+  where
+    go : (a b : Bool) → (a || b) ≡ false → cond a (wellFormed p) (cond b (regexFormed p) true) ≡ true
+    go true b h = true-false h
+    go false true h = true-false h
+    go false false h = refl
+
 no-pattern : (f : ℕ) (t : Tree) → takesPatterns f ≡ false → argumentRight f t ≡ true
 no-pattern f (leaf (name s b)) e = refl
 no-pattern f (leaf (int32 z)) e = refl
 no-pattern f (leaf (int64 z)) e = refl
 no-pattern f (leaf (real x)) e = refl
-no-pattern f (leaf (text p)) e = rw e
+no-pattern f (leaf (text p)) e = any-string f p e
 no-pattern f (leaf (symbol k)) e = refl
 no-pattern f (group t) e = refl
 no-pattern f (unary k t) e = refl

@@ -1,10 +1,10 @@
--- The functions by name. Document 01, "Grammar", "Functions"; the op of each is that of "Table". Document 02, request 1: `wildcard`, "It gets op 60."
+-- The functions by name. Document 01, "Grammar", "Functions"; the op of each is that of "Table". Document 02, request 1: `wildcard`, "It gets op 60."; request 13: `regex`, "op 61".
 use Prim.Native.Nat.{ℕ}
 use mathlib.Core.Bool.{Bool, true, false, cond, not, _&&_}
 use mathlib.Core.List.{List, [], _∷_}
 use lib.Dec.{eqb}
 use Rattle.octets.specs.Octets.{sameOf}
-use Rattle.opcode.specs.Number.{foldCaseOp, sizeOp, isInt32Op, isInt64Op, isReal64Op, isTextOp, isOpaqueOp, isNanOp, requireOp, beginsWithOp, containsOp, endsWithOp, equalsOp, wildcardOp}
+use Rattle.opcode.specs.Number.{foldCaseOp, sizeOp, isInt32Op, isInt64Op, isReal64Op, isTextOp, isOpaqueOp, isNanOp, requireOp, beginsWithOp, containsOp, endsWithOp, equalsOp, wildcardOp, regexOp}
 use Rattle.lexer.specs.Ascii.{ascii}
 use Rattle.lexer.specs.Token.{Token, name, int32, int64, real, text, symbol}
 
@@ -34,6 +34,7 @@ matches =
     ∷ record { word = ascii "ends-with"; op = endsWithOp }
     ∷ record { word = ascii "equals"; op = equalsOp }
     ∷ record { word = ascii "wildcard"; op = wildcardOp }
+    ∷ record { word = ascii "regex"; op = regexOp }
     ∷ []
 
 -- the op of a name among some functions, 0 if it is none of them; "Function names take no escapes"

@@ -4,10 +4,11 @@ use Prim.Native.Nat.{ℕ}
 use mathlib.Core.Bool.{Bool, true, false, cond, not, _&&_, _||_}
 use mathlib.Core.List.{List}
 use lib.Dec.{eqb, leb, ltb}
-use Rattle.opcode.specs.Number.{foldCaseOp, sizeOp, equalOp, notOp, isInt32Op, requireOp, beginsWithOp, equalsOp, wildcardOp}
+use Rattle.opcode.specs.Number.{foldCaseOp, sizeOp, equalOp, notOp, isInt32Op, requireOp, beginsWithOp, equalsOp, wildcardOp, regexOp}
 use Rattle.lexer.specs.Kind.{textKind, naming}
 use Rattle.lexer.specs.Token.{Token, name, int32, int64, real, text, symbol, kindOf}
 use Rattle.pattern.specs.Wildcard.{wellFormed}
+use Rattle.regex.specs.Regex.{wellFormed as regexFormed}
 use Rattle.grammar.specs.Tree.{Tree, leaf, group, unary, binary, call, Trees, none, _then_}
 use Rattle.grammar.specs.Function.{functionOf}
 use Rattle.grammar.specs.Size.{countOf}
@@ -61,7 +62,7 @@ laterTexts (_then_ (_then_ ts u) t) = laterTexts (_then_ ts u) && isText (formOf
 abbrev pub takesName : Form → ℕ → Bool
 takesName form count = eqb count 1 && isName form
 
--- "`begins-with contains ends-with` take a name or a `fold-case` call, then 1..8 string literals."; `wildcard`: "Same argument forms as `begins-with`"
+-- "`begins-with contains ends-with` take a name or a `fold-case` call, then 1..8 string literals."; `wildcard`: "Same argument forms as `begins-with`", `regex`: "Argument and bottom rules as for `begins-with`"
 abbrev pub takesTexts : Form → ℕ → Bool → Bool
 takesTexts form count texts = (isName form || isFolding form) && (leb 2 count && (leb count 9 && texts))
 
@@ -78,7 +79,7 @@ abbrev pub callRight : ℕ → Form → ℕ → Bool → Bool
 callRight f form count texts =
     cond (eqb f foldCaseOp) (takesFolded form count)
     (cond (eqb f equalsOp) (takesValues form count)
-    (cond (leb beginsWithOp f && leb f wildcardOp) (takesTexts form count texts)
+    (cond (leb beginsWithOp f && leb f regexOp) (takesTexts form count texts)
     (cond (eqb f sizeOp || (leb isInt32Op f && leb f requireOp)) (takesName form count) false)))
 
 -- refusal 4 does not apply
@@ -96,10 +97,10 @@ unfoldable mutual
 
 -- the functions that take patterns, and whether a string is a pattern of the function with this op; any string is one of the others
 abbrev pub takesPatterns : ℕ → Bool
-takesPatterns f = eqb f wildcardOp
+takesPatterns f = eqb f wildcardOp || eqb f regexOp
 
 abbrev pub patternTest : ℕ → List ℕ → Bool
-patternTest f p = cond (eqb f wildcardOp) (wellFormed p) true
+patternTest f p = cond (eqb f wildcardOp) (wellFormed p) (cond (eqb f regexOp) (regexFormed p) true)
 
 -- an argument that is a string literal is a pattern of the function; an argument of another form does not count, since it is 4
 abbrev pub literalRight : ℕ → Token → Bool

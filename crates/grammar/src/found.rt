@@ -244,7 +244,7 @@ fn call_right(function: u8, form: Form, count: usize, texts: bool) -> bool
     if function == opcode::EQUALS {
         return is_name(form) & ((2 <= count) & (count <= 9));
     }
-    if (opcode::BEGINS_WITH <= function) & (function <= opcode::WILDCARD) {
+    if (opcode::BEGINS_WITH <= function) & (function <= opcode::REGEX) {
         return (is_name(form) | is_folding(form)) & ((2 <= count) & ((count <= 9) & texts));
     }
     if (function == opcode::SIZE)

@@ -1,4 +1,4 @@
-// Refusal 18: of the arguments of a call, whether each string literal that is to be a pattern is one. Document 02, request 1.
+// Refusal 18: of the arguments of a call, whether each string literal that is to be a pattern is one. Document 02, requests 1 and 13.
 ghost use mathlib.Core.Path.{_≡_};
 ghost use Prim.Native.Nat.{_≤_};
 ghost use lib.ListN.{length};
@@ -13,7 +13,7 @@ use pattern::wildcard;
 fn takes_patterns(function: u8) -> bool
     ensures { λ r. ⌜ r ≡ takesPatterns function ⌝ }
 {
-    function == opcode::WILDCARD
+    (function == opcode::WILDCARD) | (function == opcode::REGEX)
 }
 
 fn is_pattern(function: u8, p: &[u8]) -> bool
@@ -21,6 +21,9 @@ fn is_pattern(function: u8, p: &[u8]) -> bool
 {
     if function == opcode::WILDCARD {
         return wildcard::well_formed(p);
+    }
+    if function == opcode::REGEX {
+        return regex::well_formed(p);
     }
     true
 }

@@ -197,6 +197,9 @@ fn matching(text: &[u8], at: usize) -> u8
     if lexer::name_is(text, at, b"wildcard") {
         return opcode::WILDCARD;
     }
+    if lexer::name_is(text, at, b"regex") {
+        return opcode::REGEX;
+    }
     0
 }
 

@@ -9,7 +9,7 @@ use Rattle.pattern.specs.Wildcard.{itemsFrom}
 use Rattle.grammar.specs.Grammar.{rank}
 use Rattle.grammar.specs.Parse.{level, levelOf, parseAll}
 use Rattle.meaning.specs.Meaning.{itemOf}
-use Rattle.meaning.specs.Theorems.{PCases, ShiftCases, CabCases}
+use Rattle.meaning.specs.Theorems.{PCases, ShiftCases, CabCases, RegexCases}
 
 pub p-cases : PCases
 unfolding ofInt eq wordAt startsFrom scanOf tokensFrom tokensOf rank level levelOf parseAll itemOf
@@ -23,3 +23,7 @@ shift-cases = ((refl, refl), ((refl, refl), ((refl, refl), ((refl, refl), ((refl
 pub cab-cases : CabCases
 unfolding wordAt startsFrom scanOf tokensFrom tokensOf itemsFrom rank level levelOf parseAll itemOf
 cab-cases e = (refl, (refl, (refl, (refl, tt))))
+
+pub regex-cases : RegexCases
+unfolding wordAt startsFrom scanOf tokensFrom tokensOf rank level levelOf parseAll itemOf
+regex-cases e = (refl, (refl, (refl, (refl, tt))))

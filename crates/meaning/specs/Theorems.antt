@@ -1,8 +1,9 @@
--- Document 01's P cases, that with 9223372036854775807L as request 6 of document 02 has it ("turns from bottom to false"), request 9's shifts and request 1's text, of the meaning of the text itself, from its bytes. The proofs are in proofs/Theorems.antt, under the same names.
+-- Document 01's P cases, that with 9223372036854775807L as request 6 of document 02 has it ("turns from bottom to false"), request 9's shifts and the texts of requests 1 and 13, of the meaning of the text itself, from its bytes. The proofs are in proofs/Theorems.antt, under the same names.
 use mathlib.Core.Path.{_≡_}
 use mathlib.Core.List.{List, [], _∷_}
 use mathlib.Core.Option.{some}
-use Prim.Native.Nat.{ℕ}
+use Prim.Native.Nat.{ℕ, _+_}
+use lib.ListN.{length}
 use Rattle.common.specs.Each.{Each}
 use Rattle.truth.specs.declared.Truth.{Truth}
 use Rattle.truth.specs.declared.Truth.the-variants.{False, Bottom, True}
@@ -81,3 +82,23 @@ cabs =
 -- Request 1's text means these verdicts.
 abbrev pub CabCases : Type 0
 CabCases = (e : Edition) → Each (λ x. textMeaning e (x .text) (x .notice) ≡ some (x .verdict)) cabs
+
+-- a notice with the string field `User`
+abbrev pub user : List ℕ → List ℕ
+user value = (13 + length value) ∷ 0 ∷ 0 ∷ 0 ∷ 1 ∷ 0 ∷ 1 ∷ 0 ∷ (7 + length value) ∷ 0 ∷ 4 ∷ 0 ∷ 4 ∷ 0x55 ∷ 0x73 ∷ 0x65 ∷ 0x72 ∷ value
+
+-- "Head office sends `regex (User, "[Ss]egall?")`."
+abbrev pub sent : List ℕ
+sent = ascii "regex (User, \"[Ss]egall?\")"
+
+abbrev pub users : List Case
+users =
+    record { text = sent; notice = user (ascii "Segal"); verdict = True }
+    ∷ record { text = sent; notice = user (ascii "m segalls"); verdict = True }
+    ∷ record { text = sent; notice = user (ascii "SEGALL"); verdict = False }
+    ∷ record { text = sent; notice = empty; verdict = Bottom }
+    ∷ []
+
+-- Request 13's text means these verdicts.
+abbrev pub RegexCases : Type 0
+RegexCases = (e : Edition) → Each (λ x. textMeaning e (x .text) (x .notice) ≡ some (x .verdict)) users

@@ -123,7 +123,7 @@ isNanOp = 53
 abbrev pub requireOp : ℕ
 requireOp = 54
 
--- `begins-with contains ends-with equals`, and of document 02 `wildcard`
+-- `begins-with contains ends-with equals`, and of document 02 `wildcard`, `regex`
 abbrev pub beginsWithOp : ℕ
 beginsWithOp = 56
 
@@ -138,3 +138,6 @@ equalsOp = 59
 
 abbrev pub wildcardOp : ℕ
 wildcardOp = 60
+
+abbrev pub regexOp : ℕ
+regexOp = 61

@@ -2,7 +2,7 @@
 use Prim.Native.Nat.{ℕ}
 use mathlib.Core.Path.{_≡_}
 use mathlib.Core.List.{List, [], _∷_, map}
-use Rattle.opcode.specs.Number.{int32Op, int64Op, real64Op, textOp, nameOp, foldCaseOp, sizeOp, complementOp, shiftLeftOp, shiftRightOp, shiftRightZeroOp, bitAndOp, bitXorOp, bitOrOp, mulOp, divOp, remOp, addOp, subOp, equalOp, notEqualOp, lessOp, lessEqualOp, greaterOp, greaterEqualOp, notOp, andOp, xorOp, orOp, skipIfFalseOp, skipIfTrueOp, isInt32Op, isInt64Op, isReal64Op, isTextOp, isOpaqueOp, isNanOp, requireOp, beginsWithOp, containsOp, endsWithOp, equalsOp, wildcardOp}
+use Rattle.opcode.specs.Number.{int32Op, int64Op, real64Op, textOp, nameOp, foldCaseOp, sizeOp, complementOp, shiftLeftOp, shiftRightOp, shiftRightZeroOp, bitAndOp, bitXorOp, bitOrOp, mulOp, divOp, remOp, addOp, subOp, equalOp, notEqualOp, lessOp, lessEqualOp, greaterOp, greaterEqualOp, notOp, andOp, xorOp, orOp, skipIfFalseOp, skipIfTrueOp, isInt32Op, isInt64Op, isReal64Op, isTextOp, isOpaqueOp, isNanOp, requireOp, beginsWithOp, containsOp, endsWithOp, equalsOp, wildcardOp, regexOp}
 use Rattle.opcode.specs.Opcode.{ops, opOf}
 use Rattle.opcode.specs.declared.Op.{Op}
 
@@ -16,7 +16,7 @@ names =
     ∷ equalOp ∷ notEqualOp ∷ lessOp ∷ lessEqualOp ∷ greaterOp ∷ greaterEqualOp
     ∷ notOp ∷ andOp ∷ xorOp ∷ orOp ∷ skipIfFalseOp ∷ skipIfTrueOp
     ∷ isInt32Op ∷ isInt64Op ∷ isReal64Op ∷ isTextOp ∷ isOpaqueOp ∷ isNanOp ∷ requireOp
-    ∷ beginsWithOp ∷ containsOp ∷ endsWithOp ∷ equalsOp ∷ wildcardOp
+    ∷ beginsWithOp ∷ containsOp ∷ endsWithOp ∷ equalsOp ∷ wildcardOp ∷ regexOp
     ∷ []
 
 -- the operators without the numbers that are none's

@@ -15,11 +15,11 @@ use Rattle.pattern.specs.Steps.{begins}
 use Rattle.pattern.proofs.Items.{no-mark}
 
 -- ---- a closed set
-abbrev Alone : Bool → List ℕ → List ℕ → ℕ → Type 0
+abbrev pub Alone : Bool → List ℕ → List ℕ → ℕ → Type 0
 Alone e s z w =
     (members e (take w s ++ z) ≡ members e s) × (closes e (take w s ++ z) ≡ true) × (widthFrom e (take w s ++ z) ≡ w) × (w ≤ length s)
 
-set-alone : (e : Bool) (s z : List ℕ) → closes e s ≡ true → Alone e s z (widthFrom e s)
+pub set-alone : (e : Bool) (s z : List ℕ) → closes e s ≡ true → Alone e s z (widthFrom e s)
 set-alone e [] z h = false-true h
 set-alone true (b ∷ r) z h =
     let k = set-alone false r z h in

@@ -7,9 +7,9 @@ use mathlib.Core.Logic.{_⊎_, inl, inr}
 use mathlib.Core.Bool.{Bool, true, false, not, _&&_, _||_}
 use mathlib.Core.List.{List, [], _∷_}
 use lib.Dec.{eqb, leb, ltb, T}
-use borrow.Author.Tests.{eq-eqb, ne-eqb, lt-ltb, le-leb, eqb-true, leb-true}
+use borrow.Author.Tests.{eq-eqb, ne-eqb, lt-ltb, eqb-true, leb-true}
 use Rattle.common.proofs.Choice.{false-true}
-use Rattle.opcode.specs.Opcode.{opOf}
+use Rattle.opcode.specs.Opcode.{ops, opOf}
 use Rattle.opcode.specs.declared.Op.{Op}
 use Rattle.opcode.specs.declared.Unary.{Unary}
 use Rattle.opcode.specs.declared.Binary.{Binary}
@@ -24,7 +24,7 @@ use Rattle.grammar.specs.Size.{countOf}
 use Rattle.grammar.specs.Judge.{callRight, takesName, takesTexts, takesValues, takesFolded, isName, isText, isFolding, firstOf, laterTexts, formsRight, formsIn}
 use Rattle.grammar.specs.declared.found.Form.{Form}
 use Rattle.grammar.proofs.Streams.{ranks, rank-high}
-use Rattle.translator.proofs.Entries.{TokenRight}
+use Rattle.translator.proofs.Entries.{TokenRight, ofMany, many-range, equals-many}
 use Rattle.translator.proofs.Derived.{AllRight, all-left, all-rest}
 use Rattle.router.specs.Agree.{LeafMade, CallMade, Made, MadeIn}
 
@@ -103,23 +103,22 @@ prefixed k e = go (ℕ-discrete k 40) (ℕ-discrete k 8)
     go (no q) (no r) = false-true (rw (ne-eqb k 40 q, ne-eqb k 8 r) at e)
 
 -- functions of one argument are unary ops below 56, the others take a first and more
-to-sixty : List ℕ
-to-sixty = lib.ListN.replicate 61 0
+all-ops : List ℕ
+all-ops = lib.ListN.replicate (lib.ListN.length ops) 0
 
 one-rule : ℕ → ℕ → Bool
 one-rule k x = not (eqb k 7 || (leb 48 k && leb k 54)) || isUnaryOp (opOf k)
 
 many-rule : ℕ → ℕ → Bool
-many-rule k x = not (leb 56 k && leb k 60) || isManyOp (opOf k)
+many-rule k x = not (ofMany k) || isManyOp (opOf k)
 
 one-argument : (f : ℕ) → (eqb f 7 || (leb 48 f && leb f 54)) ≡ true → f < 56 → (u : Unary) × (opOf f ≡ Op.Unary u)
-unfolding one-rule to-sixty
-one-argument f e h = unary-op (opOf f) (implied (eqb f 7 || (leb 48 f && leb f 54)) (isUnaryOp (opOf f)) (at one-rule to-sixty tt f (omega arith)) e)
+unfolding one-rule all-ops
+one-argument f e h = unary-op (opOf f) (implied (eqb f 7 || (leb 48 f && leb f 54)) (isUnaryOp (opOf f)) (at one-rule all-ops tt f (omega arith)) e)
 
-more-arguments : (f : ℕ) → 56 ≤ f → f ≤ 60 → (m : Many) × (opOf f ≡ Op.Many m)
-unfolding many-rule to-sixty
-more-arguments f a b =
-    many-op (opOf f) (implied (leb 56 f && leb f 60) (isManyOp (opOf f)) (at many-rule to-sixty tt f (omega arith)) (rw (le-leb 56 f a, le-leb f 60 b)))
+more-arguments : (f : ℕ) → ofMany f ≡ true → (m : Many) × (opOf f ≡ Op.Many m)
+unfolding many-rule all-ops
+more-arguments f e = let (low, l) = many-range f e in many-op (opOf f) (implied (ofMany f) (isManyOp (opOf f)) (at many-rule all-ops tt f (omega arith)) e)
 
 -- ---- calls
 
@@ -135,9 +134,9 @@ low-function f e = go (or-cases (eqb f 7) (leb 48 f && leb f 54) e)
     go (inr h) = let q = leb-true f 54 (and-parts (leb 48 f) (leb f 54) h .1) in omega arith
 
 call-made : (f count : ℕ) (form : Form) (texts : Bool) → callRight f form count texts ≡ true → CallMade f count
-call-made f count form texts e = go (ℕ-discrete f 6) (ℕ-discrete f 59) (leb 56 f && leb f 60) refl (eqb f 7 || (leb 48 f && leb f 54)) refl
+call-made f count form texts e = go (ℕ-discrete f 6) (ℕ-discrete f 59) (ofMany f) refl (eqb f 7 || (leb 48 f && leb f 54)) refl
   where
-    go : Dec (f ≡ 6) → Dec (f ≡ 59) → (c : Bool) → (leb 56 f && leb f 60) ≡ c → (d : Bool) → (eqb f 7 || (leb 48 f && leb f 54)) ≡ d → CallMade f count
+    go : Dec (f ≡ 6) → Dec (f ≡ 59) → (c : Bool) → ofMany f ≡ c → (d : Bool) → (eqb f 7 || (leb 48 f && leb f 54)) ≡ d → CallMade f count
     go (yes q) b c ec d ed =
         let r : takesFolded form count ≡ true = rw (eq-eqb f 6 q) at e in
         let n = eqb-true count 1 (and-parts (eqb count 1) (isName form || (isText form || isFolding form)) r .0) in
@@ -146,16 +145,14 @@ call-made f count form texts e = go (ℕ-discrete f 6) (ℕ-discrete f 59) (leb 
     go (no a) (yes q) c ec d ed =
         let r : takesValues form count ≡ true = rw (ne-eqb f 6 a, eq-eqb f 59 q) at e in
         let n = leb-true 2 count (and-parts (leb 2 count) (leb count 9) (and-parts (isName form) (leb 2 count && leb count 9) r .1) .0) in
-        let m = more-arguments f (omega arith) (omega arith) in
+        let m = more-arguments f (equals-many f q) in
         inr (m .0, m .1, omega arith, omega arith)
     go (no a) (no b) true ec d ed =
         let r : takesTexts form count texts ≡ true = rw (ne-eqb f 6 a, ne-eqb f 59 b, ec) at e in
         let s = and-parts (isName form || isFolding form) (leb 2 count && (leb count 9 && texts)) r .1 in
         let n = leb-true 2 count (and-parts (leb 2 count) (leb count 9 && texts) s .0) in
-        let lo = leb-true 56 f (and-parts (leb 56 f) (leb f 60) ec .0) in
-        let hi = leb-true f 60 (and-parts (leb 56 f) (leb f 60) ec .1) in
-        let m = more-arguments f lo (omega arith) in
-        inr (m .0, m .1, lo, omega arith)
+        let m = more-arguments f ec in
+        inr (m .0, m .1, many-range f ec .0, omega arith)
     go (no a) (no b) false ec true ed =
         let r : takesName form count ≡ true = rw (ne-eqb f 6 a, ne-eqb f 59 b, ec, ed) at e in
         let n = eqb-true count 1 (and-parts (eqb count 1) (isName form) r .0) in

@@ -1,22 +1,26 @@
 -- The patterns before an entry: which operators take them, and what the rule says of each. Assumes nothing.
 use mathlib.Core.Path.{_≡_, refl, sym, ap, _∙_}
-use mathlib.Core.Bool.{Bool, true, false, _&&_}
-use mathlib.Core.List.{List}
+use mathlib.Core.Bool.{Bool, true, false, not, _&&_}
+use mathlib.Core.List.{List, [], _∷_}
 use mathlib.Core.Option.{Option, none, some, Option·some-injective}
 use Prim.Native.Nat.{ℕ, zero, suc, _+_, _-_, _≤_, _<_}
 use native.Mathlib.Decide.{decLt, ℕ-discrete}
 use native.Mathlib.Omega.{arith}
-use borrow.Author.Tests.{eqb-true, eq-eqb}
+use borrow.Author.Tests.{eqb-true, eq-eqb, ne-eqb}
 use lib.Dec.{eqb}
 use lib.ListN.{length, getD, List·getD-eq-default}
-use Rattle.common.proofs.Choice.{false-true}
+use Rattle.common.specs.Each.{Each}
+use Rattle.common.proofs.Choice.{true-false, false-true}
 use Rattle.pattern.specs.Wildcard.{wellFormed}
+use Rattle.regex.specs.Regex.{wellFormed as regexFormed}
 use Rattle.opcode.specs.Opcode.{ops, opOf}
 use Rattle.opcode.specs.declared.Op.{Op}
-use Rattle.opcode.proofs.Unknown.{allBelow, below}
+use Rattle.opcode.proofs.Unknown.{Rest, one-or-rest, among, allBelow, below-but}
 use Rattle.table.specs.Table.{Entry, blank}
 use Rattle.table.specs.Check.{partRight, entryRight, patternTest, operandRight, operandsRight, patternBy, patternsRight}
+use Rattle.table.specs.Groups.{groupOf}
 use Rattle.table.specs.Ways.{EveryPattern}
+use Rattle.table.specs.declared.groups.Group.{Group}
 use Rattle.table.proofs.Tests.{both-true, are-true}
 use Rattle.table.proofs.Passes.{all-patterns, each-pattern}
 
@@ -34,20 +38,53 @@ none-is (some test) e = false-true e
 takesNone : ℕ → Bool
 takesNone n = isNone (patternTest (opOf n))
 
--- `wildcard` alone
-pub no-patterns : (n : ℕ) → (n ≡ 60 → ⊥) → patternTest (opOf n) ≡ none
-unfolding allBelow isNone takesNone
-no-patterns n h = go (decLt n 60)
+-- the operators that take patterns, the last first
+abbrev pub patterned : List ℕ
+patterned = 61 ∷ 60 ∷ []
+
+pub no-patterns : (n : ℕ) → Rest patterned n → patternTest (opOf n) ≡ none
+unfolding allBelow among isNone takesNone
+no-patterns n r = go (decLt n (length ops))
   where
-    go : Dec (n < 60) → patternTest (opOf n) ≡ none
-    go (yes l) = none-is (patternTest (opOf n)) (below takesNone 60 n refl l)
-    go (no l) = ap patternTest (List·getD-eq-default ops Op.Unknown {n = n} (omega arith))
+    go : Dec (n < length ops) → patternTest (opOf n) ≡ none
+    go (yes h) = none-is (patternTest (opOf n)) (below-but takesNone patterned (length ops) n refl r h)
+    go (no h) = ap patternTest (List·getD-eq-default ops Op.Unknown {n = n} (omega arith))
 
-pub no-test : {A : Type 0} (n : ℕ) (test : List ℕ → Bool) → (n ≡ 60 → ⊥) → patternTest (opOf n) ≡ some test → A
-no-test n test h e = let z : _≡_ {A = ℕ} 0 1 = cc (no-patterns n h) in absurd (omega arith)
+pub no-test : {A : Type 0} (n : ℕ) (test : List ℕ → Bool) → Rest patterned n → patternTest (opOf n) ≡ some test → A
+no-test n test r e = let z : _≡_ {A = ℕ} 0 1 = cc (no-patterns n r) in absurd (omega arith)
 
-pub the-test : (n : ℕ) (test : List ℕ → Bool) → n ≡ 60 → patternTest (opOf n) ≡ some test → wellFormed ≡ test
-the-test n test h e = Option·some-injective _ _ (rw h at e)
+-- what holds of each of them holds of an operator that has a test
+pub has-test : (P : ℕ → Type 0) → Each P patterned → (n : ℕ) (test : List ℕ → Bool) → patternTest (opOf n) ≡ some test → P n
+has-test P each n test e = one-or-rest P patterned n each (λ r. no-test n test r e)
+
+-- the test of one of them, by its number
+pub the-test : (n k : ℕ) (known test : List ℕ → Bool) → n ≡ k → patternTest (opOf k) ≡ some known → patternTest (opOf n) ≡ some test → known ≡ test
+the-test n k known test h t e = Option·some-injective _ _ (sym t ∙ rw h at e)
+
+-- a number that is tested against each of some
+abbrev beside : ℕ → List ℕ → Bool
+beside n [] = true
+beside n (k ∷ ks) = beside n ks && not (eqb n k)
+
+rest-beside : (n : ℕ) (ks : List ℕ) → Rest ks n → beside n ks ≡ true
+rest-beside n [] r = refl
+rest-beside n (k ∷ ks) r = rw (rest-beside n ks (r .0), ne-eqb n k (r .1))
+
+beside-rest : (n : ℕ) (ks : List ℕ) → beside n ks ≡ true → Rest ks n
+beside-rest n [] e = tt
+beside-rest n (k ∷ ks) e =
+    let p = both-true (beside n ks) (not (eqb n k)) e in
+    (beside-rest n ks (p .0), λ q. false-true (rw (eq-eqb n k q) at (p .1)))
+
+pub none-beside : (n : ℕ) → beside n patterned ≡ true → patternTest (opOf n) ≡ none
+none-beside n e = no-patterns n (beside-rest n patterned e)
+
+-- an operator that takes patterns has a test, and takes a value and more
+abbrev Tested : ℕ → Type 0
+Tested n = (test : List ℕ → Bool) × (patternTest (opOf n) ≡ some test) × (groupOf (opOf n) ≡ Group.Many)
+
+pub some-beside : (n : ℕ) → beside n patterned ≡ false → Tested n
+some-beside n e = one-or-rest Tested patterned n ((regexFormed, refl, refl), ((wellFormed, refl, refl), tt)) (λ r. true-false (sym (rest-beside n patterned r) ∙ e))
 
 -- ---- the entries directly before an entry
 

@@ -1,5 +1,5 @@
 -- The check of a table (refusal 12 if it fails). Document 01, "Table": "The check: each entry has enough operands of the right kind; depth is at most 32; a skip lands at or
--- before N; every way of reaching an entry, or the end, finds the same depth and kinds, and the end has one logic slot." Document 02, request 1: the patterns of `wildcard`.
+-- before N; every way of reaching an entry, or the end, finds the same depth and kinds, and the end has one logic slot." Document 02, requests 1 and 13: the patterns of `wildcard` and `regex`.
 use Prim.Native.Nat.{ℕ, zero, suc, _+_, _-_, _^_}
 use mathlib.Core.Bool.{Bool, true, false, cond, not, _&&_, _||_}
 use mathlib.Core.List.{List, [], _∷_}
@@ -8,6 +8,7 @@ use lib.Dec.{eqb, leb, ltb}
 use lib.ListN.{length, take, drop, getD}
 use Rattle.notice.specs.Field.{nameRight}
 use Rattle.pattern.specs.Wildcard.{wellFormed}
+use Rattle.regex.specs.Regex.{wellFormed as regexFormed}
 use Rattle.opcode.specs.Opcode.{opOf, Kind, logic, value, takesOf, givesOf}
 use Rattle.opcode.specs.declared.Load.{Load}
 use Rattle.opcode.specs.declared.Fit.{Fit}
@@ -144,6 +145,7 @@ fitPattern Fit.BeginsWith = none
 fitPattern Fit.Contains = none
 fitPattern Fit.EndsWith = none
 fitPattern Fit.Wildcard = some wellFormed
+fitPattern Fit.Regex = some regexFormed
 
 abbrev pub manyPattern : Many → Option (List ℕ → Bool)
 manyPattern (Many.Fit f) = fitPattern f

@@ -78,6 +78,7 @@ pub fn group_of(number: u16) -> Group
         58 => Group::Many,
         59 => Group::Many,
         60 => Group::Many,
+        61 => Group::Many,
         _ => Group::Unknown,
     }
 }

@@ -1,4 +1,4 @@
-// Tables: layout, decoding and the check. Document 01, "Table"; document 02, request 1: the patterns of `wildcard`; request 9: the editions. Every function takes a slice that is exactly the table, wherever it lies.
+// Tables: layout, decoding and the check. Document 01, "Table"; document 02, requests 1 and 13: the patterns of `wildcard` and `regex`; request 9: the editions. Every function takes a slice that is exactly the table, wherever it lies.
 ghost use mathlib.Core.Path.{_≡_};
 ghost use mathlib.Core.Bool.{Bool, true, _&&_};
 ghost use mathlib.Core.List.{List};
@@ -341,6 +341,7 @@ fn is_pattern(number: u16, p: &[u8]) -> bool
 {
     match number {
         60 => pattern::wildcard::well_formed(p),
+        61 => regex::well_formed(p),
         _ => false,
     }
 }
@@ -384,7 +385,7 @@ fn placed_right(table: &[u8], pool: &[u8], g: Group, i: usize, e: Entry) -> bool
     requires { ⌜ (i ≤ countOf (now table)) × (10 + 12 * countOf (now table) ≤ length (now table)) × ((k : ℕ) → k < i → entryRight (now pool) (entryAt (now table) k) ≡ true) × (g ≡ groupOf (opOf (e .op))) ⌝ }
     ensures { λ r. ⌜ r ≡ (rightBy (now (pool .entry)) g e && patternsBefore (now (pool .entry)) (entriesOf (now (table .entry))) i e) ⌝ }
 {
-    if e.op != 60 {
+    if (e.op != 60) & (e.op != 61) {
         return entry_right(pool, g, e);
     }
     many_right(e) & operands_right(table, pool, e.op, i, e.a)

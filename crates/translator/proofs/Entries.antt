@@ -20,7 +20,8 @@ use Rattle.common.proofs.Choice.{false-true}
 use Rattle.word.specs.Word.{Bytes}
 use Rattle.number.proofs.Theorems.{bits-bounded}
 use Rattle.notice.specs.Field.{nameRight}
-use Rattle.opcode.specs.Opcode.{Kind, logic, value, opOf, unaryTakes, unaryGives, binaryTakes, binaryGives, takesOf, givesOf}
+use Rattle.opcode.specs.Number.{beginsWithOp, equalsOp, regexOp}
+use Rattle.opcode.specs.Opcode.{Kind, logic, value, ops, opOf, unaryTakes, unaryGives, binaryTakes, binaryGives, takesOf, givesOf}
 use Rattle.opcode.specs.declared.Op.{Op}
 use Rattle.table.specs.declared.Entry.{Entry}
 use Rattle.table.specs.Check.{sameKind, after, isSkip, entryRight, inRange}
@@ -180,14 +181,24 @@ binary-acts k h =
 abbrev ofOne : ℕ → Bool
 ofOne f = eqb f 6 || (eqb f 7 || (leb 48 f && leb f 54))
 
-abbrev ofMany : ℕ → Bool
-ofMany f = eqb f 59 || (leb 56 f && leb f 60)
+-- `equals`, and the functions of a value and string literals
+abbrev pub ofMany : ℕ → Bool
+ofMany f = leb beginsWithOp f && leb f regexOp
+
+pub many-range : (f : ℕ) → ofMany f ≡ true → (56 ≤ f) × (f < length ops)
+many-range f e =
+    let p = both-true (leb beginsWithOp f) (leb f regexOp) e in
+    let high = leb-true f regexOp (p .1) in
+    (leb-true beginsWithOp f (p .0), omega arith)
+
+pub equals-many : (f : ℕ) → f ≡ equalsOp → ofMany f ≡ true
+equals-many f e = rw e
 
 one-right : ℕ → Bool
 one-right f = not (ofOne f) || (not (leb 56 f) && unaryFits (opOf f) value (kindBy (givesLogic f)))
 
 many-right : ℕ → Bool
-many-right f = not (ofMany f) || (leb 56 f && manyFits (opOf f))
+many-right f = not (ofMany f) || manyFits (opOf f)
 
 not-false-of : (b : Bool) → not b ≡ true → b ≡ false
 not-false-of true e = false-true e
@@ -207,31 +218,26 @@ one-acts f count e n =
 many-acts : (f count : ℕ) → ofMany f ≡ true → 2 ≤ count → count ≤ 9 → Acts (callEntry f count) (replicate count value) (kindBy (givesLogic f))
 unfolding many-right below
 many-acts f count e m n =
-    let l : f < 61 = go (decLt f 61) in
-    let p = both-true _ _ (implied _ _ (below-at many-right 61 f refl l) e) in
-    let h : 56 ≤ f = leb-true 56 f (p .0) in
+    let (low, l) = many-range f e in
     let q : suc (count - 1) ≡ count = omega arith in
-    rw (p .0, le-leb 32 f (omega arith))
-    (subst (λ (n : ℕ). Acts (entry f (count - 1) 0) (replicate n value) logic) q (acts-many f (count - 1) (opOf f) refl (omega arith) (p .1) (omega arith) (omega arith)))
-  where
-    go : Dec (f < 61) → f < 61
-    go (yes h) = h
-    go (no h) = false-true (rw (ne-eqb f 59 (λ q. omega arith), le-leb 56 f (omega arith), lt-leb f 60 (omega arith)) at e)
+    let fits = implied _ _ (below-at many-right (length ops) f refl l) e in
+    rw (le-leb 56 f low, le-leb 32 f (omega arith))
+    (subst (λ (n : ℕ). Acts (entry f (count - 1) 0) (replicate n value) logic) q (acts-many f (count - 1) (opOf f) refl (omega arith) fits (omega arith) (omega arith)))
 
 -- a call whose arguments refusal 4 does not name
 pub call-acts : (f count : ℕ) (form : Form) (texts : Bool) → callRight f form count texts ≡ true → Acts (callEntry f count) (replicate count value) (kindBy (givesLogic f))
-call-acts f count form texts h = go (eqb f 6) (eqb f 59) (leb 56 f && leb f 60) (eqb f 7 || (leb 48 f && leb f 54)) refl refl refl refl h
+call-acts f count form texts h = go (eqb f 6) (eqb f 59) (ofMany f) (eqb f 7 || (leb 48 f && leb f 54)) refl refl refl refl h
   where
-    go : (a b c d : Bool) → eqb f 6 ≡ a → eqb f 59 ≡ b → (leb 56 f && leb f 60) ≡ c → (eqb f 7 || (leb 48 f && leb f 54)) ≡ d
+    go : (a b c d : Bool) → eqb f 6 ≡ a → eqb f 59 ≡ b → ofMany f ≡ c → (eqb f 7 || (leb 48 f && leb f 54)) ≡ d
         → cond a (takesFolded form count) (cond b (takesValues form count) (cond c (takesTexts form count texts) (cond d (takesName form count) false))) ≡ true
         → Acts (callEntry f count) (replicate count value) (kindBy (givesLogic f))
     go true b c d ea eb ec ed r = one-acts f count (rw ea) (eqb-true count 1 (both-true _ _ r .0))
     go false true c d ea eb ec ed r =
         let p = both-true (leb 2 count) (leb count 9) (both-true (isName form) (leb 2 count && leb count 9) r .1) in
-        many-acts f count (rw eb) (leb-true 2 count (p .0)) (leb-true count 9 (p .1))
+        many-acts f count (equals-many f (eqb-true f equalsOp eb)) (leb-true 2 count (p .0)) (leb-true count 9 (p .1))
     go false false true d ea eb ec ed r =
         let p = both-true (leb 2 count) (leb count 9 && texts) (both-true (isName form || isFolding form) (leb 2 count && (leb count 9 && texts)) r .1) in
-        many-acts f count (rw (eb, ec)) (leb-true 2 count (p .0)) (leb-true count 9 (both-true (leb count 9) texts (p .1) .0))
+        many-acts f count ec (leb-true 2 count (p .0)) (leb-true count 9 (both-true (leb count 9) texts (p .1) .0))
     go false false false true ea eb ec ed r = one-acts f count (rw (ea, ed)) (eqb-true count 1 (both-true _ _ r .0))
     go false false false false ea eb ec ed r = false-true r
 

@@ -1,31 +1,33 @@
 -- The patterns of the code of a tree: each stands directly before the entry that takes it, as an entry of op 4. Assumes nothing.
 use Prim.Native.Nat.{ℕ, zero, suc, _+_, _-_, _≤_, _<_}
 use native.Mathlib.Nat.{not-suc-le-zero}
-use native.Mathlib.Decide.{ℕ-discrete, decLt}
+use native.Mathlib.Decide.{decLt}
 use native.Mathlib.Numerals.{add-one}
 use native.Mathlib.Omega.{arith}
-use mathlib.Core.Path.{_≡_, refl, _∙_}
+use mathlib.Core.Path.{_≡_, refl, sym, _∙_}
 use mathlib.Core.Bool.{Bool, true, false, cond, _&&_, _||_}
 use mathlib.Core.List.{List, [], _∷_, _++_, append-nil}
-use mathlib.Core.Option.{Option, none, some}
+use mathlib.Core.Option.{Option, none, some, Option·some-injective}
 use lib.Dec.{eqb, leb}
 use lib.ListN.{length, getD, length-append, List·getD-append}
 use lib.Seq.{getD-append-add, getD-append-seam}
 use borrow.Author.Tests.{lt-ltb}
+use Rattle.common.specs.Each.{Each}
 use Rattle.common.proofs.Choice.{false-true}
+use Rattle.opcode.specs.Number.{beginsWithOp}
 use Rattle.opcode.specs.Opcode.{opOf}
 use Rattle.table.specs.declared.Entry.{Entry}
 use Rattle.table.specs.Table.{blank}
 use Rattle.table.specs.Check.{operandRight, operandsRight, patternBy, patternsBefore, patternRight}
 use Rattle.table.specs.Check.{patternTest as testOf, patternsRight as allRight}
 use Rattle.table.proofs.Passes.{all-patterns}
-use Rattle.table.proofs.Patterns.{no-patterns}
+use Rattle.table.proofs.Patterns.{patterned, has-test}
 use Rattle.table.proofs.Tests.{both-true, are-true}
 use Rattle.lexer.specs.Token.{Token, name, int32, int64, real, text, symbol, kindOf}
 use Rattle.grammar.specs.Tree.{Tree, leaf, Trees, _then_}
 use Rattle.grammar.specs.Function.{functionOf}
 use Rattle.grammar.specs.Size.{countOf, entriesOf, poolOf, poolIn}
-use Rattle.grammar.specs.Judge.{formOf, isName, isText, isFolding, firstOf, laterTexts, callRight, patternTest, laterRight, formsRight, formsIn, patternsRight, patternsIn}
+use Rattle.grammar.specs.Judge.{formOf, isName, isText, isFolding, firstOf, laterTexts, callRight, takesTexts, patternTest, laterRight, formsRight, formsIn, patternsRight, patternsIn}
 use Rattle.grammar.specs.declared.found.Form.{Form}
 use Rattle.grammar.proofs.Literals.{no-call}
 use Rattle.translator.specs.Compile.{entry, leafEntry, skipEntries, callEntry, codeOf, codeIn, bytesOf, bytesIn}
@@ -163,18 +165,30 @@ module _ (f : ℕ) where
       (rw regroup at (literal-operand (pre ++ bytesIn all) s post (at + poolIn all) len right))
       (rw before at (operands-in (one-more d g h) (ls .0) (ps .0) at pre (s ++ post) e)))
 
-call-texts : (count : ℕ) (form : Form) (texts : Bool) → callRight 60 form count texts ≡ true → texts ≡ true
-call-texts count form texts h =
+all-texts : (form : Form) (count : ℕ) (texts : Bool) → takesTexts form count texts ≡ true → texts ≡ true
+all-texts form count texts h =
     let p = both-true (isName form || isFolding form) (leb 2 count && (leb count 9 && texts)) h .1 in
     both-true (leb count 9) texts (both-true (leb 2 count) (leb count 9 && texts) p .1) .1
 
+-- a function that takes patterns takes a value and string literals, and the check asks for the patterns that refusal 18 asks for
+abbrev Alike : ℕ → Type 0
+Alike f =
+    (testOf (opOf f) ≡ some (patternTest f)) × (leb beginsWithOp f ≡ true) × ((form : Form) (count : ℕ) (texts : Bool) → callRight f form count texts ≡ takesTexts form count texts)
+
+each-alike : Each Alike patterned
+each-alike = ((refl, refl, λ form count texts. refl), ((refl, refl, λ form count texts. refl), tt))
+
 call-before : (f : ℕ) {ts : Trees} → SoundIn ts → callRight f (firstOf ts) (countOf ts) (laterTexts ts) ≡ true → patternsIn f ts ≡ true → (at : ℕ) (pre post : List ℕ) → length pre ≡ at
     → patternsBefore (pre ++ (bytesIn ts ++ post)) (codeIn at ts) (length (codeIn at ts)) (callEntry f (countOf ts)) ≡ true
-call-before f {ts} d c p at pre post e = go (ℕ-discrete f 60)
+call-before f {ts} d c p at pre post e = go (testOf (opOf f)) refl
   where
-    go : Dec (f ≡ 60) → patternsBefore (pre ++ (bytesIn ts ++ post)) (codeIn at ts) (length (codeIn at ts)) (callEntry f (countOf ts)) ≡ true
-    go (yes q) = rw q (operands-in 60 d (call-texts (countOf ts) (firstOf ts) (laterTexts ts) (rw q at c)) (rw q at p) at pre post e)
-    go (no q) = rw (no-patterns f q)
+    go : (o : Option (List ℕ → Bool)) → testOf (opOf f) ≡ o → patternBy o (pre ++ (bytesIn ts ++ post)) (codeIn at ts) (length (codeIn at ts)) (callEntry f (countOf ts) .a) ≡ true
+    go none o = refl
+    go (some test) o =
+        let (same, many, form) = has-test Alike each-alike f test o in
+        let t : patternTest f ≡ test = Option·some-injective _ _ (sym same ∙ o) in
+        let l = all-texts (firstOf ts) (countOf ts) (laterTexts ts) (sym (form (firstOf ts) (countOf ts) (laterTexts ts)) ∙ c) in
+        rw (many, sym t) (operands-in f d l p at pre post e)
 
 -- ---- the whole code
 

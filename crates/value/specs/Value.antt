@@ -20,6 +20,7 @@ use Rattle.utf8.specs.declared.Counted.{Counted}
 use Rattle.utf8.specs.declared.Counted.the-variants.{Characters, IllFormed}
 use Rattle.utf8.specs.Scan.{countOf}
 use Rattle.pattern.specs.Wildcard.{wildcardOf}
+use Rattle.regex.specs.Regex.{regexOf}
 use Rattle.opcode.specs.Opcode.{Kind}
 use Rattle.opcode.specs.declared.Edition.{Edition}
 use Rattle.opcode.specs.declared.Load.{Load}
@@ -163,12 +164,13 @@ connectOf Connective.And s t = andOf s t
 connectOf Connective.Xor s t = xorOf s t
 connectOf Connective.Or s t = orOf s t
 
--- whether a literal fits: "`begins-with contains ends-with`"; document 02, request 1: `wildcard`, "Same argument forms as `begins-with`, same bottom rule"
+-- whether a literal fits: "`begins-with contains ends-with`"; document 02, request 1: `wildcard`, "Same argument forms as `begins-with`, same bottom rule"; request 13: `regex`, "Argument and bottom rules as for `begins-with`"
 abbrev pub fitOf : Fit → List ℕ → List ℕ → Bool
 fitOf Fit.BeginsWith s p = beginsOf s p
 fitOf Fit.Contains s p = containsOf s p
 fitOf Fit.EndsWith s p = endsOf s p
 fitOf Fit.Wildcard s p = wildcardOf s p
+fitOf Fit.Regex s p = regexOf s p
 
 abbrev pub allTexts : List Value → Bool
 allTexts [] = true
@@ -178,7 +180,7 @@ abbrev pub anyFits : Fit → List ℕ → List Value → Bool
 anyFits f s [] = false
 anyFits f s (w ∷ ws) = fitOf f s (textIn w) || anyFits f s ws
 
--- "bottom if the first is no string, true if any literal fits, else false"; "In 56..58 a later operand that is no string gives bottom."; 60 likewise
+-- "bottom if the first is no string, true if any literal fits, else false"; "In 56..58 a later operand that is no string gives bottom."; 60 and 61 likewise
 abbrev pub anyFit : Fit → Value → List Value → Truth
 anyFit f v ws = cond (isText v && allTexts ws) (ofBool (anyFits f (textIn v) ws)) Bottom
 
@@ -187,7 +189,7 @@ abbrev pub anyEqual : Value → List Value → Truth
 anyEqual v [] = False
 anyEqual v (w ∷ ws) = orOf (equalValues v w) (anyEqual v ws)
 
--- "56..59: `begins-with contains ends-with equals`", 60: `wildcard`, of the first operand and the later ones in their order
+-- "56..59: `begins-with contains ends-with equals`", 60: `wildcard`, 61: `regex`, of the first operand and the later ones in their order
 abbrev pub manyOf : Many → Value → List Value → Truth
 manyOf (Many.Fit f) v ws = anyFit f v ws
 manyOf Many.Equals v ws = anyEqual v ws

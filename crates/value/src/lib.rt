@@ -167,7 +167,7 @@ pub fn connect(op: Connective, s: Slot, t: Slot) -> Slot
     decided(joined(op, truth_in(s), truth_in(t)))
 }
 
-// Ops 56..60, one later operand after the other: what is known before any of them ..
+// Ops 56..61, one later operand after the other: what is known before any of them ..
 pub fn start(op: Many, first: Slot) -> Truth
     ensures { λ r. ⌜ ((p : List ℕ) → (q : List ℕ) → r ≡ startOf op (itemIn p q first)) ⌝ }
 {

@@ -65,5 +65,6 @@ pub fn fits<'a>(pool: &'a [u8], notice: &'a [u8], op: Fit, p: Piece, q: Piece) -
         Fit::Contains => octets::contains(s, p.folded, t, q.folded),
         Fit::EndsWith => octets::ends(s, p.folded, t, q.folded),
         Fit::Wildcard => pattern::wildcard::fits(s, p.folded, t, q.folded),
+        Fit::Regex => regex::fits(s, p.folded, t, q.folded),
     }
 }

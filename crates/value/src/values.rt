@@ -264,7 +264,7 @@ pub fn compare<'a>(pool: &'a [u8], notice: &'a [u8], op: Compare, v: Typed, w: T
     if negated { truth::not(t) } else { t }
 }
 
-// Ops 56..58 and 60: what is known before any literal, and what one literal says.
+// Ops 56..58, 60 and 61: what is known before any literal, and what one literal says.
 pub fn start_fit(v: Typed) -> Truth
     ensures { λ r. ⌜ ((p : List ℕ) → (q : List ℕ) → r ≡ cond (isText (typedOf p q v)) False Bottom) ⌝ }
 {

@@ -1,12 +1,8 @@
 -- `table::placed_right` meets its contract: an entry without patterns, and one with patterns, whose group is known by its number. Assumes nothing.
 use mathlib.Core.Path.{_≡_, sym, _∙_}
 use mathlib.Core.Bool.{and-true}
-use mathlib.Core.Option.{some}
-use Rattle.pattern.specs.Wildcard.{wellFormed}
-use Rattle.opcode.specs.Opcode.{opOf}
 use Rattle.table.specs.declared.groups.Group.{Group}
-use Rattle.table.specs.Check.{patternTest}
-use Rattle.table.proofs.Patterns.{no-patterns}
+use Rattle.table.proofs.Patterns.{none-beside, some-beside}
 use borrow.Author.Needs.{needs}
 use Rattle.table.proofs.placed_right.Statement.{statement}
 use Rattle.table.proofs.placed_right.Tie as tie
@@ -20,7 +16,7 @@ entry-right-requires : tie.Need-entry-right-requires
 entry-right-requires c κs = search needs
 
 returns : tie.Need-returns
-returns c = c .entry-right .ensures ∙ rw (no-patterns (c .before .before .before .before .before .args .e .op) (c .before .if1 .taken)) (sym (and-true _))
+returns c = c .entry-right .ensures ∙ rw (none-beside (c .before .before .before .before .before .before .args .e .op) (c .before .if1 .taken)) (sym (and-true _))
 
 many-right-requires : tie.Need-many-right-requires
 many-right-requires c κs = search needs
@@ -30,11 +26,10 @@ operands-right-requires c κs = search needs
 
 returns-2 : tie.Need-returns-2
 returns-2 c =
-    let a = c .before .before .before .before .before .before .args in
-    let q = c .before .before .if1 .left in
-    let t : patternTest (opOf (a .e .op)) ≡ some wellFormed = rw q in
-    let g : a .g ≡ Group.Many = c .before .before .before .before .before .before .pre .3 ∙ rw q in
-    rw (c .before .many-right .ensures, c .operands-right .ensures wellFormed t, g, t)
+    let b = c .before .before .before .before .before .before .before in
+    let (test, t, m) = some-beside (b .args .e .op) (c .before .before .if1 .left) in
+    let g : b .args .g ≡ Group.Many = b .pre .3 ∙ m in
+    rw (c .before .many-right .ensures, c .operands-right .ensures test t, g, t)
 
 pub placed-right-spec : {M : Type 1} → statement M
 placed-right-spec =

@@ -133,7 +133,10 @@ returns-43 : tie.Need-returns-43
 returns-43 c = rw (c .match .keys43)
 
 returns-44 : tie.Need-returns-44
-returns-44 c = rw (others (c .before .args .number) (c .match .rest))
+returns-44 c = rw (c .match .keys44)
+
+returns-45 : tie.Need-returns-45
+returns-45 c = rw (others (c .before .args .number) (c .match .rest))
 
 pub group-of-spec : {M : Type 1} → statement M
 group-of-spec =
@@ -182,4 +185,5 @@ group-of-spec =
     returns-41
     returns-42
     returns-43
-    returns-44)
+    returns-44
+    returns-45)

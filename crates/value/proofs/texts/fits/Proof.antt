@@ -32,6 +32,12 @@ enum-told-4 c = search needs
 fits-requires : tie.Need-fits-requires
 fits-requires c κs = search needs
 
+enum-told-5 : tie.Need-enum-told-5
+enum-told-5 c = search needs
+
+fits-requires-2 : tie.Need-fits-requires-2
+fits-requires-2 c κs = search needs
+
 returns : tie.Need-returns
 returns c =
     rw (c .before .enum-told .given .1, c .begins .ensures, c .before .before .before .before .fetch .ensures .0, c .before .before .before .fetch2 .ensures .0)
@@ -48,6 +54,10 @@ returns-4 : tie.Need-returns-4
 returns-4 c =
     rw (c .before .enum-told4 .given .1, c .fits2 .ensures, c .before .before .before .before .fetch .ensures .0, c .before .before .before .fetch2 .ensures .0)
 
+returns-5 : tie.Need-returns-5
+returns-5 c =
+    rw (c .before .enum-told5 .given .1, c .fits3 .ensures, c .before .before .before .before .fetch .ensures .0, c .before .before .before .fetch2 .ensures .0)
+
 pub fits-spec : {M : Type 1} → statement M
 fits-spec =
     tie.close
@@ -62,7 +72,10 @@ fits-spec =
     ends-requires
     enum-told-4
     fits-requires
+    enum-told-5
+    fits-requires-2
     returns
     returns-2
     returns-3
-    returns-4)
+    returns-4
+    returns-5)

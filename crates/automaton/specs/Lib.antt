@@ -1,0 +1,6 @@
+pub mod Language
+pub mod Marks
+pub mod Pass
+pub mod Table
+pub mod Decide
+pub mod Theorems

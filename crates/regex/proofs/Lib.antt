@@ -1,0 +1,13 @@
+pub mod Repeats
+pub mod Told
+pub mod Forth
+pub mod Back
+pub mod Shape
+pub mod Scans
+pub mod Branches
+pub mod Theorems
+pub mod Walks
+pub mod Turns
+pub mod Parts
+pub mod Allow
+pub mod Loops

@@ -1,0 +1,7 @@
+pub mod Language
+pub mod Grammar
+pub mod Words
+pub mod Scan
+pub mod Regex
+pub mod Promise
+pub mod Theorems
