@@ -126,8 +126,8 @@ extern "C" {
  * How to choose: name the second edition if the subscription is about doors with the newer firmware,
  * which takes counts so, and if every router that is to run the table is renewed; else the first. A text
  * without a shift means the same in both: name the first. A table keeps its edition, so that tables of
- * both may be run, counted in decisions and laid end to end side by side; an old one need not be
- * translated anew.
+ * both may be run, counted in decisions, held in stores and laid end to end side by side; an old one
+ * need not be translated anew.
  *
  * Answers 0, or the first of 25, 10, 1 or 3, 6, 2, 4, 18, 5, 7, 8, 9 that applies.
  * *place   the place in the text that document 01 gives for 1, 2 and 3; else 0.
@@ -393,9 +393,9 @@ uint8_t virentolex_store_remove(uint8_t *store, size_t store_len, size_t number)
  *
  * Answers 0, or the first that applies of: 26 as virentolex_store_add says; 29 if no table has the
  * number.
- * *start, *end   the table is the store's bytes from *start up to *end, until something is added or
- *                removed; *start <= *end <= store_len. Both are 0 if refused, so that the part is
- *                empty.
+ * *start, *end   the table is the store's bytes from *start up to *end, until the next remove or make
+ *                on that buffer; *start <= *end <= store_len. Both are 0 if refused, so that the part
+ *                is empty.
  */
 uint8_t virentolex_store_fetch(const uint8_t *store, size_t store_len, size_t number,
                                size_t *start, size_t *end);

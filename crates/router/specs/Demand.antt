@@ -87,7 +87,7 @@ DemandThree =
 abbrev pub AcceptedText : Type 0
 AcceptedText = (edition : Edition) (text : List ℕ) → ((tree : Tree) × Accepted text tree) ↔ ((room : ℕ) × (translationOf (editionNumber edition) text room .number ≡ 0))
 
--- Demand 1: "A refusal changes no byte that we lent." Of document 01's functions translation and writing are the two that are lent bytes to change; for the quorum counter see `RefusedStays` and `RefusedMakesNone` of crate quorum.
+-- Demand 1: "A refusal changes no byte that we lent." Of document 01's functions translation and writing are the two that are lent bytes to change; for the quorum counter see `RefusedStays` and `RefusedMakesNone` of crate quorum, for the store `AddRefused` and `RemoveRefused` of crate store.
 abbrev pub RefusalKeeps : Type 0
 RefusalKeeps =
     ((edition : ℕ) (text buffer written : List ℕ) (r : Translated) → Answers (translationOf edition text (length buffer)) buffer written r → (r .number ≡ 0 → ⊥) → written ≡ buffer)

@@ -31,7 +31,7 @@ abbrev pub TwoRises : Type 0
 TwoRises =
     (e : Edition) (o : Binary) (x x′ y y′ : Item) → ItemBelow x x′ → ItemBelow y y′ → ItemBelow (binaryOf e o x y) (binaryOf e o x′ y′)
 
--- Several operands rise, the first and the later ones: `begins-with contains ends-with wildcard equals`.
+-- Several operands rise, the first and the later ones: `begins-with contains ends-with equals wildcard regex`.
 abbrev pub ManyRises : Type 0
 ManyRises =
     (o : Many) (x x′ : Item) (ys ys′ : List Item) → ItemBelow x x′ → EachBelow ItemBelow ys ys′ → ItemBelow (manyItems o x ys) (manyItems o x′ ys′)
