@@ -2,7 +2,7 @@
 use mathlib.Core.Path.{_≡_, refl, sym, ap, _∙_}
 use mathlib.Core.Logic.{_↔_}
 use mathlib.Core.Bool.{Bool, true, false, _&&_, _||_, and-false}
-use mathlib.Core.List.{List, [], _∷_, _++_}
+use mathlib.Core.List.{List, [], _∷_, _++_, append-nil}
 use Prim.Native.Nat.{ℕ, zero, suc, _+_, _≤_}
 use native.Mathlib.Omega.{arith}
 use lib.ListN.{length, replicate, length-append}
@@ -13,10 +13,6 @@ use Rattle.automaton.specs.Decide.{walkOn, decide}
 use Rattle.automaton.specs.Theorems.{Finds}
 use Rattle.automaton.proofs.Pass.{empty-shift, passes, cells-length}
 use Rattle.automaton.proofs.Search.{decides}
-
-append-nil {ℓ} : {A : Type ℓ} (s : List A) → s ++ [] ≡ s
-append-nil [] = refl
-append-nil {A = A} (x ∷ xs) = ap (λ (l : List A). x ∷ l) (append-nil xs)
 
 pub tokens-shift : (k : Bool) (t : Re) (c : ℕ) → tokens (shift k t c) ≡ tokens t
 tokens-shift k (leaf f r o m) c = refl

@@ -2,22 +2,13 @@
 use mathlib.Core.Path.{_≡_, refl, sym, ap, _∙_}
 use mathlib.Core.Logic.{_⊎_, inl, inr, ⊎-elim, _↔_}
 use mathlib.Core.Bool.{Bool, true, false, _&&_, _||_}
-use mathlib.Core.List.{List, [], _∷_, _++_, append-assoc}
+use mathlib.Core.List.{List, [], _∷_, _++_, append-assoc, append-nil}
 use Prim.Native.Nat.{ℕ}
 use native.Mathlib.Omega.{arith}
+use Rattle.common.proofs.Choice.{false-true}
+use Rattle.octets.proofs.Theorems.{and-parts, or-parts}
 use Rattle.automaton.specs.Language.{Re, leaf, group, nil, seq, alt, Many, once, more, Iter, Reps, One, Cat, Either, Nothing, Fits}
 use Rattle.automaton.specs.Marks.{empty, final, shift}
-
-pub and-parts : (a b : Bool) → (a && b) ≡ true → (a ≡ true) × (b ≡ true)
-and-parts true b e = (refl, e)
-and-parts false b e = absurd (never e)
-  where
-    never : false ≡ true → ⊥
-    never e = let z : _≡_ {A = ℕ} 0 1 = cc in omega arith
-
-pub or-parts : (a b : Bool) → (a || b) ≡ true → (a ≡ true) ⊎ (b ≡ true)
-or-parts true b e = inl refl
-or-parts false b e = inr e
 
 pub and-true : (a b : Bool) → a ≡ true → b ≡ true → (a && b) ≡ true
 and-true a b e f = rw (e, f)
@@ -29,9 +20,6 @@ pub or-right : (a b : Bool) → b ≡ true → (a || b) ≡ true
 or-right true b e = refl
 or-right false b e = e
 
-pub false-true : {A : Type 0} → false ≡ true → A
-false-true e = let z : _≡_ {A = ℕ} 0 1 = cc in absurd (omega arith)
-
 pub nil-cons : {A : Type 0} (c : ℕ) (w : List ℕ) → _≡_ {A = List ℕ} (c ∷ w) [] → A
 nil-cons c w e = let z : _≡_ {A = ℕ} 0 1 = cc in absurd (omega arith)
 
@@ -39,10 +27,6 @@ nil-cons c w e = let z : _≡_ {A = ℕ} 0 1 = cc in absurd (omega arith)
 pub split-nil : (u v : List ℕ) → u ++ v ≡ [] → (u ≡ []) × (v ≡ [])
 split-nil [] v e = (refl, e)
 split-nil (x ∷ u) v e = nil-cons x (u ++ v) e
-
-pub append-nil : (s : List ℕ) → s ++ [] ≡ s
-append-nil [] = refl
-append-nil (x ∷ xs) = ap (λ (l : List ℕ). x ∷ l) (append-nil xs)
 
 -- what may follow a last byte read inside: nothing, or more turns
 abbrev pub After : Bool → (List ℕ → Type 0) → List ℕ → Type 0
@@ -100,7 +84,7 @@ head-reps P r o c w h = inr (go r (h .4))
     go false (inl n) = last-turn P false c (h .0) (h .1) w (h .2) (h .3) n
     go false (inr k) = false-true (k .0)
 
-iter-once : (P : List ℕ → Type 0) (r : Bool) (w : List ℕ) → P w → Iter r P w
+pub iter-once : (P : List ℕ → Type 0) (r : Bool) (w : List ℕ) → P w → Iter r P w
 iter-once P true w p = once p
 iter-once P false w p = p
 

@@ -5,10 +5,12 @@ use mathlib.Core.Bool.{Bool, true, false, _&&_, _||_}
 use mathlib.Core.List.{List, [], _∷_, _++_}
 use Prim.Native.Nat.{ℕ}
 use native.Mathlib.Omega.{arith}
+use Rattle.common.proofs.Choice.{false-true}
+use Rattle.octets.proofs.Theorems.{and-parts, or-parts}
 use Rattle.automaton.specs.Language.{Re, leaf, group, nil, seq, alt, Fits, Stretch, Fresh}
 use Rattle.automaton.specs.Marks.{empty, final, shift, ends, walk}
 use Rattle.automaton.specs.Theorems.{Decides}
-use Rattle.automaton.proofs.Marks.{and-parts, or-parts, and-true, or-left, or-right, false-true, nil-cons, split-nil, empty-fits, fits-empty, Rest, final-rest, rest-final, same-language, cons-eq, shift-back, shift-on}
+use Rattle.automaton.proofs.Marks.{and-true, or-left, or-right, nil-cons, split-nil, empty-fits, fits-empty, Rest, final-rest, rest-final, same-language, cons-eq, shift-back, shift-on}
 
 -- a stretch that begins here; one that begins later
 abbrev Here : Bool → (List ℕ → Type 0) → List ℕ → Type 0

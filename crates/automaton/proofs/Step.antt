@@ -1,7 +1,7 @@
 -- Turns of the pass's loop. Assumes nothing.
 use mathlib.Core.Path.{_≡_, refl, sym, ap, _∙_}
 use mathlib.Core.Bool.{Bool, true, false, cond, _&&_, _||_}
-use mathlib.Core.List.{List, [], _∷_, _++_, append-assoc}
+use mathlib.Core.List.{List, [], _∷_, _++_, append-assoc, append-nil}
 use Prim.Native.Nat.{ℕ, zero, suc, _+_, _-_, _≤_, _<_}
 use native.Mathlib.Numerals.{add-one, sub-one}
 use native.Mathlib.Omega.{arith}
@@ -94,12 +94,13 @@ module _ (text ks as' : List ℕ) (ms : List Bool) (c : ℕ) (l : Level) (xs : L
       let st = step (eqb (sort kind) 3) (eqb (sort kind) 4) (eqb (sort kind) 5) (hits text kind arg) (repeats kind) (absent kind) arg (tokensOf text (drop (suc i) ks) (drop (suc i) as')) was (drop (suc i) ms) c l xs d hd in
       rw (add-one i, drop-cons ks i 0 h, drop-cons as' i 0 pa, drop-cons ms i false pm, take-suc-set ms i left-mark pm, drop-set-lt (suc i) ms i left-mark (omega arith), st, ff, onto-onto)
 
--- the answers of `hits`
-getD-any : (l : List ℕ) (i a b : ℕ) → i < length l → getD l i a ≡ getD l i b
+-- the default of a read inside does not matter
+pub getD-any : {A : Type 0} (l : List A) (i : ℕ) (a b : A) → i < length l → getD l i a ≡ getD l i b
 getD-any [] i a b h = absurd (omega arith)
 getD-any (x ∷ l) zero a b h = refl
 getD-any (x ∷ l) (suc i) a b h = getD-any l i a b (omega arith)
 
+-- the answers of `hits`
 module _ (text : List ℕ) (k a c : ℕ) where
   pub hits-other : 2 < sort k → false ≡ hits text k a c
   hits-other e = rw (lt-ltb 2 (sort k) e)
@@ -115,11 +116,6 @@ module _ (text : List ℕ) (k a c : ℕ) where
 
   pub hits-set : sort k ≤ 2 → (sort k ≡ 0 → ⊥) → (sort k ≡ 1 → ⊥) → turned (outside k) (heldOf (testAt a (drop a text) c)) ≡ hits text k a c
   hits-set l e f = rw (le-ltb 2 (sort k) l, ne-eqb (sort k) 0 e, ne-eqb (sort k) 1 f)
-
-pub level-any : (l : List Level) (i : ℕ) (a b : Level) → i < length l → getD l i a ≡ getD l i b
-level-any [] i a b h = absurd (omega arith)
-level-any (x ∷ l) zero a b h = refl
-level-any (x ∷ l) (suc i) a b h = level-any l i a b (omega arith)
 
 -- the same with what the calls answered
 pub turn-on : (text ks as' : List ℕ) (ms : List Bool) (c : ℕ) (l : Level) (xs : List Level) (d i : ℕ)
@@ -166,7 +162,3 @@ pub all-passed : (text ks as' : List ℕ) (ms : List Bool) (c : ℕ) (l : Level)
 all-passed text ks as' ms c l xs d i h e =
     let p : length ms ≤ i = omega arith in
     rw (drop-of-length-le ks h, take-all i ms p) (ap (λ (y : List Bool). left y l) (append-nil ms))
-  where
-    append-nil : (ys : List Bool) → ys ++ [] ≡ ys
-    append-nil [] = refl
-    append-nil (y ∷ ys) = ap (λ (z : List Bool). y ∷ z) (append-nil ys)

@@ -1,4 +1,4 @@
--- What is promised of the decision. The proof is `decides` of proofs/Search.antt.
+-- What is promised of the decision. `Decides` is proved in proofs/Search.antt (`decides`), `Passes` in proofs/Pass.antt (`passes`), `Finds` in proofs/Found.antt (`finds`).
 use Prim.Native.Nat.{ℕ, _+_, _≤_}
 use mathlib.Core.Path.{_≡_}
 use mathlib.Core.Logic.{_↔_}

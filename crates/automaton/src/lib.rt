@@ -7,7 +7,7 @@ ghost use lib.ListN.{length, getD, replicate, drop};
 ghost use Rattle.octets.specs.Octets.{folded};
 ghost use Rattle.pattern.specs.Steps.{turned as turnedOf};
 ghost use Rattle.automaton.specs.Table.{repeats as repeatsOf, absent as absentOf, outside as outsideOf, sort as sortOf, heldOf, hits as hitsOf, markBy, levelBy, tokensOf};
-ghost use Rattle.automaton.specs.Pass.{started as startedOf, passed as passedOf, pass, left, depthBy, upOf};
+ghost use Rattle.automaton.specs.Pass.{started as startedOf, passed as passedOf, barred as barredOf, closed as closedOf, pass, left, depthBy, upOf};
 ghost use Rattle.automaton.specs.Decide.{walkOn, runOn, decide};
 use octets::fold;
 use pattern::sets::SetTest;
@@ -143,7 +143,53 @@ fn mark(starts: bool, bars: bool, ends: bool, hit: bool, was: bool, l: Level) ->
     hit
 }
 
-// The level behind a token, where `up` is the level of the group around.
+// The level behind a token that is no part of a group's shape.
+fn past_one(o: bool, was: bool, hit: bool, l: Level) -> Level
+    ensures { λ r. ⌜ r ≡ passedOf l o was hit ⌝ }
+{
+    Level {
+        into: l.into,
+        out: l.out,
+        none: l.none,
+        done: l.done,
+        cur: (l.cur & o) | was,
+        emp: l.emp & o,
+        fin: (l.fin & o) | hit,
+    }
+}
+
+// The next branch of a group begins.
+fn barred(l: Level) -> Level
+    ensures { λ r. ⌜ r ≡ barredOf l ⌝ }
+{
+    Level {
+        into: l.into,
+        out: l.out | l.cur,
+        none: l.none | l.emp,
+        done: l.done | l.fin,
+        cur: l.into,
+        emp: true,
+        fin: false,
+    }
+}
+
+// A group ends, where `up` is the level around it.
+fn closed(up: Level, l: Level, o: bool) -> Level
+    ensures { λ r. ⌜ r ≡ closedOf up l o ⌝ }
+{
+    let e = o | (l.none | l.emp);
+    Level {
+        into: up.into,
+        out: up.out,
+        none: up.none,
+        done: up.done,
+        cur: (up.cur & o) | (l.out | l.cur),
+        emp: up.emp & e,
+        fin: (up.fin & e) | (l.done | l.fin),
+    }
+}
+
+// The level behind any token, where `up` is the level of the group around.
 fn next_level(
     starts: bool,
     bars: bool,
@@ -161,52 +207,12 @@ fn next_level(
         return started(enter);
     }
     if bars {
-        return Level {
-            into: l.into,
-            out: l.out | l.cur,
-            none: l.none | l.emp,
-            done: l.done | l.fin,
-            cur: l.into,
-            emp: true,
-            fin: false,
-        };
+        return barred(l);
     }
     if ends {
-        let e = o | (l.none | l.emp);
-        return Level {
-            into: up.into,
-            out: up.out,
-            none: up.none,
-            done: up.done,
-            cur: (up.cur & o) | (l.out | l.cur),
-            emp: up.emp & e,
-            fin: (up.fin & e) | (l.done | l.fin),
-        };
+        return closed(up, l, o);
     }
-    Level {
-        into: l.into,
-        out: l.out,
-        none: l.none,
-        done: l.done,
-        cur: (l.cur & o) | was,
-        emp: l.emp & o,
-        fin: (l.fin & o) | hit,
-    }
-}
-
-// The same behind a token that is no part of a group's shape.
-fn past_one(o: bool, was: bool, hit: bool, l: Level) -> Level
-    ensures { λ r. ⌜ r ≡ passedOf l o was hit ⌝ }
-{
-    Level {
-        into: l.into,
-        out: l.out,
-        none: l.none,
-        done: l.done,
-        cur: (l.cur & o) | was,
-        emp: l.emp & o,
-        fin: (l.fin & o) | hit,
-    }
+    past_one(o, was, hit, l)
 }
 
 fn cell(s: &[bool], i: usize) -> bool
@@ -349,7 +355,7 @@ fn clear(marks: &mut [bool])
     }
 }
 
-// Whether a stretch of the value fits the table; room for a mark for each token is lent.
+// Whether a stretch of the value fits the table; room for a mark for each token is lent. What the marks are afterwards is left free.
 pub fn finds(
     text: &[u8],
     kinds: &[u8],

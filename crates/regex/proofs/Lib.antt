@@ -4,6 +4,9 @@ pub mod Forth
 pub mod Back
 pub mod Shape
 pub mod Scans
+pub mod Symbols
+pub mod Causes
+pub mod Formed
 pub mod Branches
 pub mod Theorems
 pub mod Walks

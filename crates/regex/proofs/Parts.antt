@@ -18,6 +18,7 @@ use Rattle.pattern.specs.Steps.{begins, testAt, turned}
 use Rattle.pattern.specs.declared.sets.SetTest.{SetTest}
 use Rattle.pattern.specs.declared.sets.SetTest.the-variants.{Ends, Bad as NoSet}
 use Rattle.pattern.proofs.Texts.{sign-here}
+use Rattle.automaton.proofs.Step.{getD-any}
 use Rattle.automaton.specs.Table.{heldOf, hits, repeats, absent, outside, sort}
 use Rattle.regex.specs.Language.{Atom, plain, any, set, takes, Mark, star, plus, optional}
 use Rattle.regex.specs.Words.{Word, item, none, stops, setBy, setOrNot, setOf, escapedOf, wordBy, wordOf}
@@ -28,11 +29,6 @@ use Rattle.regex.proofs.Told.{set-width}
 use Rattle.regex.proofs.Turns.{Again, Lacks}
 
 -- ---- the flags of a kind
-getD-any : (l : List ℕ) (i a b : ℕ) → i < length l → getD l i a ≡ getD l i b
-getD-any [] i a b h = absurd (omega arith)
-getD-any (x ∷ l) zero a b h = refl
-getD-any (x ∷ l) (suc i) a b h = getD-any l i a b (omega arith)
-
 pub again-not : (k : ℕ) → Again k false k
 again-not k = (refl, refl, refl, sym (or-false (repeats k)))
 

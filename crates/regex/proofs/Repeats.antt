@@ -2,12 +2,13 @@
 use mathlib.Core.Path.{_≡_, refl, sym, ap, _∙_}
 use mathlib.Core.Logic.{_⊎_, inl, inr, ⊎-elim, _↔_}
 use mathlib.Core.Bool.{Bool, true, false, _||_, or-false}
-use mathlib.Core.List.{List, [], _∷_, _++_, append-assoc}
+use mathlib.Core.List.{List, [], _∷_, _++_, append-assoc, append-nil}
 use Prim.Native.Nat.{ℕ}
 use Rattle.common.proofs.Choice.{false-true}
 use Rattle.automaton.specs.Language.{Re, leaf, group as grouping, nil as nothing, seq as then, alt as or, Many, once, more, Iter, Reps, One, Cat, Either, Nothing}
 use Rattle.automaton.specs.Language.{Fits as FitsRe}
-use Rattle.automaton.proofs.Marks.{or-parts, or-left, or-right, append-nil, split-nil}
+use Rattle.octets.proofs.Theorems.{or-parts}
+use Rattle.automaton.proofs.Marks.{or-left, or-right, split-nil, iter-once}
 use Rattle.regex.specs.Language.{Mark, star, plus, optional, Tree, one, group, repeat, seq, alt, nil, Rounds, done, round, By, Fits}
 use Rattle.regex.specs.Regex.{repeats, absent, remark, reOf}
 use Rattle.regex.specs.Theorems.{SameLanguage}
@@ -25,10 +26,6 @@ many-map P Q f (more p ns e) = more (f _ p) (many-map P Q f ns) e
 iter-many : (P : List ℕ → Type 0) (r : Bool) (w : List ℕ) → Iter r P w → Many P w
 iter-many P true w h = h
 iter-many P false w h = once h
-
-iter-once : (P : List ℕ → Type 0) (r : Bool) (w : List ℕ) → P w → Iter r P w
-iter-once P true w p = once p
-iter-once P false w p = p
 
 -- ---- flags under flags are flags
 

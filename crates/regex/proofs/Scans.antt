@@ -16,7 +16,7 @@ use Rattle.regex.proofs.Forth.{body-goes}
 use Rattle.regex.proofs.Back.{read-body}
 
 -- ---- a step shortens the text
-atom-long : {s : List ℕ} {a : Atom} → AtomText s a → 0 < length s
+pub atom-long : {s : List ℕ} {a : Atom} → AtomText s a → 0 < length s
 atom-long (plain-text b p e) = rw (← e) (omega arith)
 atom-long (any-text e) = rw (← e) (omega arith)
 atom-long (escaped-text b e) = rw (← e) (omega arith)

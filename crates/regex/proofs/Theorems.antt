@@ -9,18 +9,23 @@ use native.Mathlib.Omega.{arith}
 use lib.Dec.{leb}
 use lib.ListN.{length}
 use borrow.Author.Tests.{le-leb}
-use Rattle.common.proofs.Choice.{false-true}
+use Rattle.common.proofs.Choice.{true-false, false-true}
+use Rattle.octets.proofs.Theorems.{or-parts}
 use Rattle.automaton.specs.Language.{Stretch}
 use Rattle.automaton.specs.Marks.{walk}
-use Rattle.automaton.proofs.Marks.{or-parts, or-left, or-right}
+use Rattle.automaton.proofs.Marks.{or-left, or-right}
 use Rattle.automaton.proofs.Search.{decides}
 use Rattle.regex.specs.Language.{Tree, Fits, Anchored, anchored, Holds}
 use Rattle.regex.specs.Grammar.{Derives, WellFormed, Accepts}
+use Rattle.regex.specs.Causes.{Symbol, Symbols, front, IllFormed, faulty, misplaced}
 use Rattle.regex.specs.Regex.{branchesOf, isSome, wellFormed, reOf, heldBy, heldIn, longest, regexOf}
-use Rattle.regex.specs.Theorems.{ReadsExactly, OneReading, WellFormedExactly, SameLanguage, FitsExactly}
+use Rattle.regex.specs.Theorems.{ReadsExactly, OneReading, WellFormedExactly, IllFormedExactly, RefusesExactly, SameLanguage, FitsExactly}
 use Rattle.regex.proofs.Repeats.{same-language as same}
 use Rattle.regex.proofs.Shape.{fresh}
 use Rattle.regex.proofs.Branches.{derived, computed}
+use Rattle.regex.proofs.Symbols.{one-list, no-list, ReadAs, read-symbols}
+use Rattle.regex.proofs.Causes.{cause-wrong, wrong-cause, clear, clear-here, clear-at, Somewhere, clear-or, pattern-passes}
+use Rattle.regex.proofs.Formed.{formed}
 
 pub reads-exactly : ReadsExactly
 reads-exactly p bs = (computed (suc (length p)) true p bs, λ d. derived d (suc (length p)) (omega arith))
@@ -29,11 +34,36 @@ pub one-reading : OneReading
 one-reading p bs cs d e = let q : some bs ≡ some cs = sym (reads-exactly p bs .1 d) ∙ reads-exactly p cs .1 e in cc
 
 pub well-formed-exactly : WellFormedExactly
-well-formed-exactly p = (to (branchesOf p) refl, λ w. ap isSome (reads-exactly p (w .0) .1 (w .1)))
+well-formed-exactly p answer a = (λ e. to (branchesOf p) refl (sym a ∙ e), λ w. a ∙ ap isSome (reads-exactly p (w .0) .1 (w .1)))
   where
     to : (o : Option (List Anchored)) → branchesOf p ≡ o → isSome o ≡ true → WellFormed p
     to none e f = false-true f
     to (some bs) e f = (bs, reads-exactly p bs .0 e)
+
+pub ill-formed-exactly : IllFormedExactly
+ill-formed-exactly p = (λ h. to h (read-symbols p), back)
+  where
+    by-place : (WellFormed p → ⊥) → (xs : List Symbol) → Symbols p xs → (clear [] xs ≡ true) ⊎ Somewhere xs → IllFormed p
+    by-place h xs t (inl c) = absurd (h (formed t c))
+    by-place h xs t (inr (us, vs, w, e)) = misplaced xs us vs t w (wrong-cause us vs e)
+
+    to : (WellFormed p → ⊥) → ReadAs p → IllFormed p
+    to h (inl (xs, t)) = by-place h xs t (clear-or xs [] xs front)
+    to h (inr (q, r, xs, e, t, f)) = faulty q r xs e t f
+
+    back : IllFormed p → WellFormed p → ⊥
+    back (faulty q r xs e t f) (bs, d) = no-list t f e (pattern-passes d .1)
+    back (misplaced xs us vs t w c) (bs, d) =
+        let g = pattern-passes d in
+        let h : clear [] xs ≡ true = ap (clear []) (one-list t (g .1)) ∙ g .2 [] refl (λ e. refl) in
+        true-false (sym (cause-wrong c) ∙ clear-here us vs (clear-at w h))
+
+pub refuses-exactly : RefusesExactly
+refuses-exactly p answer a = (λ e. ill-formed-exactly p .0 (λ w. true-false (sym (well-formed-exactly p answer a .1 w) ∙ e)), λ i. go answer refl (ill-formed-exactly p .1 i))
+  where
+    go : (b : Bool) → answer ≡ b → (WellFormed p → ⊥) → answer ≡ false
+    go true e h = absurd (h (well-formed-exactly p answer a .0 e))
+    go false e h = e
 
 pub same-language : SameLanguage
 same-language t w = same t w
@@ -56,11 +86,14 @@ held (anchored sf ef t ∷ bs) x =
     )
 
 pub fits-exactly : FitsExactly
-fits-exactly x p l = rw (le-leb (length p) 4096 l) (to (branchesOf p) refl, back)
+fits-exactly x p answer a l = (λ e. to (branchesOf p) refl (sym known ∙ e), λ h. known ∙ back h)
   where
+    known : answer ≡ heldIn (branchesOf p) x
+    known = a ∙ rw (le-leb (length p) 4096 l)
+
     to : (o : Option (List Anchored)) → branchesOf p ≡ o → heldIn o x ≡ true → Accepts p x
     to none e f = false-true f
     to (some bs) e f = (bs, reads-exactly p bs .0 e, held bs x .0 f)
 
     back : Accepts p x → heldIn (branchesOf p) x ≡ true
-    back a = ap (λ (o : Option (List Anchored)). heldIn o x) (reads-exactly p (a .0) .1 (a .1)) ∙ held (a .0) x .1 (a .2)
+    back h = ap (λ (o : Option (List Anchored)). heldIn o x) (reads-exactly p (h .0) .1 (h .1)) ∙ held (h .0) x .1 (h .2)

@@ -1,22 +1,23 @@
 -- The words of a text are those of the grammar, both ways. Assumes nothing.
 use mathlib.Core.Path.{_≡_, refl, sym, ap, _∙_}
+use mathlib.Core.Logic.{_⊎_, inl, inr}
 use mathlib.Core.Bool.{Bool, true, false, not, _&&_, _||_}
-use mathlib.Core.List.{List, [], _∷_, _++_}
+use mathlib.Core.List.{List, [], _∷_, _++_, append-nil}
 use Prim.Native.Nat.{ℕ, _≤_}
 use native.Mathlib.Omega.{arith}
 use lib.Dec.{eqb}
 use lib.ListN.{length, take, drop, take-append-drop}
 use lib.Seq.{take-all, length-take-le, drop-append-seam}
 use borrow.Author.Tests.{eqb-true}
-use Rattle.common.proofs.Choice.{false-true}
+use Rattle.common.proofs.Choice.{true-false, false-true}
 use Rattle.octets.proofs.Theorems.{and-parts}
 use Rattle.pattern.specs.Sets.{spans, spansOf, members, isClosed, rises, isEmpty, widthBy, widthFrom, widthOf}
 use Rattle.pattern.specs.Wildcard.{isSet}
 use Rattle.pattern.specs.Steps.{begins}
 use Rattle.pattern.proofs.Local.{Alone, set-alone}
-use Rattle.automaton.proofs.Marks.{append-nil}
 use Rattle.regex.specs.Language.{Atom, plain, any, set, Mark, star, plus, optional}
 use Rattle.regex.specs.Grammar.{isPlain, byteOf, AtomText, plain-text, any-text, escaped-text, set-text, complement-text}
+use Rattle.regex.specs.Causes.{Behind, Fault, backslash-last, unclosed-set, empty-set, falling-range}
 use Rattle.regex.specs.Words.{Word, item, repeats, opening, bars, closing, stops, none, escapedOf, setBy, setOrNot, setOf, wordBy, wordOf}
 
 -- ---- a set, whatever follows it
@@ -86,6 +87,32 @@ mark-word star r = refl
 mark-word plus r = refl
 mark-word optional r = refl
 
+-- ---- a word that does not go on
+bad-set : (s : List ℕ) → isSet s ≡ false → (isClosed s ≡ false) ⊎ ((isEmpty (spansOf s) ≡ true) ⊎ (rises (spansOf s) ≡ false))
+bad-set s e = go (isClosed s) (isEmpty (spansOf s)) (rises (spansOf s)) refl refl refl e
+  where
+    go : (x y z : Bool) → isClosed s ≡ x → isEmpty (spansOf s) ≡ y → rises (spansOf s) ≡ z → x && (not y && z) ≡ false
+        → (isClosed s ≡ false) ⊎ ((isEmpty (spansOf s) ≡ true) ⊎ (rises (spansOf s) ≡ false))
+    go false y z a b c h = inl a
+    go true true z a b c h = inr (inl b)
+    go true false false a b c h = inr (inr c)
+    go true false true a b c h = true-false h
+
+set-fault : (r s : List ℕ) → Behind r s → isSet s ≡ false → Fault (91 ∷ r)
+set-fault r s b e = go (bad-set s e)
+  where
+    go : (isClosed s ≡ false) ⊎ ((isEmpty (spansOf s) ≡ true) ⊎ (rises (spansOf s) ≡ false)) → Fault (91 ∷ r)
+    go (inl h) = unclosed-set r s b h
+    go (inr (inl h)) = empty-set r s b h
+    go (inr (inr h)) = falling-range r s b h
+
+unmarked : (s : List ℕ) → begins 94 s ≡ false → (t : List ℕ) → s ≡ 94 ∷ t → ⊥
+unmarked s e t f = true-false (ap (begins 94) (sym f) ∙ e)
+
+-- the end, or an anchor
+abbrev pub Stopped : List ℕ → Type 0
+Stopped z = (z ≡ []) ⊎ (((r : List ℕ) × (94 ∷ r ≡ z)) ⊎ ((r : List ℕ) × (36 ∷ r ≡ z)))
+
 -- ---- the word is what the grammar derives
 abbrev pub Told : List ℕ → Word → Type 0
 Told z (item a r) = (s : List ℕ) × AtomText s a × (s ++ r ≡ z)
@@ -93,8 +120,8 @@ Told z (repeats m r) = byteOf m ∷ r ≡ z
 Told z (opening r) = 40 ∷ r ≡ z
 Told z (bars r) = 124 ∷ r ≡ z
 Told z (closing r) = 41 ∷ r ≡ z
-Told z stops = Unit {0}
-Told z none = Unit {0}
+Told z stops = Stopped z
+Told z none = Fault z
 
 cut-begins : (s : List ℕ) → begins 94 (take (widthOf s) s) ≡ begins 94 s
 cut-begins [] = refl
@@ -117,20 +144,20 @@ told-in s h e =
     let a : AtomText (91 ∷ take (widthOf s) s) (set false (spansOf (take (widthOf s) s))) = set-text (take (widthOf s) s) (c .0) (c .2) (cut-begins s ∙ e) refl in
     (91 ∷ take (widthOf s) s, rw (c .1) at a, ap (λ (l : List ℕ). 91 ∷ l) (take-append-drop (widthOf s) s))
 
-told-set-by : (out : Bool) (z s : List ℕ) (x : Bool) → isSet s ≡ x → (isSet s ≡ true → Told z (setBy true out s)) → Told z (setBy x out s)
-told-set-by out z s true e k = k e
-told-set-by out z s false e k = tt
+told-set-by : (out : Bool) (r s : List ℕ) (x : Bool) → isSet s ≡ x → Behind r s → (isSet s ≡ true → Told (91 ∷ r) (setBy true out s)) → Told (91 ∷ r) (setBy x out s)
+told-set-by out r s true e b k = k e
+told-set-by out r s false e b k = set-fault r s b e
 
 told-or-not : (b : ℕ) (s : List ℕ) (x : Bool) → eqb b 94 ≡ x → Told (91 ∷ (b ∷ s)) (setOrNot x b s)
-told-or-not b s true e = rw (eqb-true b 94 e) (told-set-by true (91 ∷ (94 ∷ s)) s (isSet s) refl (λ h. told-out s h))
-told-or-not b s false e = told-set-by false (91 ∷ (b ∷ s)) (b ∷ s) (isSet (b ∷ s)) refl (λ h. told-in (b ∷ s) h e)
+told-or-not b s true e = rw (eqb-true b 94 e) (told-set-by true (94 ∷ s) s (isSet s) refl (inl refl) (λ h. told-out s h))
+told-or-not b s false e = told-set-by false (b ∷ s) (b ∷ s) (isSet (b ∷ s)) refl (inr (refl, unmarked (b ∷ s) e)) (λ h. told-in (b ∷ s) h e)
 
 told-set : (s : List ℕ) → Told (91 ∷ s) (setOf s)
-told-set [] = tt
+told-set [] = set-fault [] [] (inr (refl, unmarked [] refl)) refl
 told-set (b ∷ s) = told-or-not b s (eqb b 94) refl
 
 told-escaped : (s : List ℕ) → Told (92 ∷ s) (escapedOf s)
-told-escaped [] = tt
+told-escaped [] = backslash-last
 told-escaped (b ∷ s) = (92 ∷ (b ∷ []), escaped-text b refl, refl)
 
 told-by : (x : ℕ) (r : List ℕ) (a b c d e f g h i j k : Bool) → eqb x 92 ≡ a → eqb x 91 ≡ b → eqb x 40 ≡ c → eqb x 41 ≡ d → eqb x 124 ≡ e → eqb x 42 ≡ f → eqb x 43 ≡ g → eqb x 63 ≡ h → eqb x 46 ≡ i → eqb x 94 ≡ j → eqb x 36 ≡ k →
@@ -144,11 +171,11 @@ told-by x r false false false false false true g h i j k p1 p2 p3 p4 p5 p6 p7 p8
 told-by x r false false false false false false true h i j k p1 p2 p3 p4 p5 p6 p7 p8 p9 p10 p11 = rw (eqb-true x 43 p7)
 told-by x r false false false false false false false true i j k p1 p2 p3 p4 p5 p6 p7 p8 p9 p10 p11 = rw (eqb-true x 63 p8)
 told-by x r false false false false false false false false true j k p1 p2 p3 p4 p5 p6 p7 p8 p9 p10 p11 = rw (eqb-true x 46 p9) (46 ∷ [], any-text refl, refl)
-told-by x r false false false false false false false false false true k p1 p2 p3 p4 p5 p6 p7 p8 p9 p10 p11 = tt
-told-by x r false false false false false false false false false false true p1 p2 p3 p4 p5 p6 p7 p8 p9 p10 p11 = tt
+told-by x r false false false false false false false false false true k p1 p2 p3 p4 p5 p6 p7 p8 p9 p10 p11 = rw (eqb-true x 94 p10) (inr (inl (r, refl)))
+told-by x r false false false false false false false false false false true p1 p2 p3 p4 p5 p6 p7 p8 p9 p10 p11 = rw (eqb-true x 36 p11) (inr (inr (r, refl)))
 told-by x r false false false false false false false false false false false p1 p2 p3 p4 p5 p6 p7 p8 p9 p10 p11 =
     (x ∷ [], plain-text x (rw (p1, p2, p3, p4, p5, p6, p7, p8, p9, p10, p11)) refl, refl)
 
 pub told : (z : List ℕ) → Told z (wordOf z)
-told [] = tt
+told [] = inl refl
 told (x ∷ r) = told-by x r (eqb x 92) (eqb x 91) (eqb x 40) (eqb x 41) (eqb x 124) (eqb x 42) (eqb x 43) (eqb x 63) (eqb x 46) (eqb x 94) (eqb x 36) refl refl refl refl refl refl refl refl refl refl refl

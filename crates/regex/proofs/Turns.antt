@@ -1,7 +1,7 @@
 -- Turns of the loop that makes a branch's table. Assumes nothing.
 use mathlib.Core.Path.{_≡_, refl, sym, ap, _∙_}
 use mathlib.Core.Bool.{Bool, true, false, _||_}
-use mathlib.Core.List.{List, [], _∷_, _++_, append-assoc}
+use mathlib.Core.List.{List, [], _∷_, _++_, append-assoc, append-nil}
 use Prim.Native.Nat.{ℕ, zero, suc, _+_, _-_, _≤_, _<_}
 use native.Mathlib.Numerals.{add-one}
 use native.Mathlib.Omega.{arith}
@@ -22,10 +22,6 @@ use Rattle.regex.proofs.Forth.{chain, step}
 use Rattle.regex.proofs.Shape.{Markable, markable-still}
 use Rattle.regex.proofs.Walks.{Walks, walk-end}
 use Rattle.regex.proofs.Back.{base}
-
-append-nil : (ys : List Token) → ys ++ [] ≡ ys
-append-nil [] = refl
-append-nil (y ∷ ys) = ap (λ (z : List Token). y ∷ z) (append-nil ys)
 
 -- the tokens of pieces, of branches, of all that is open
 abbrev ofPieces : List Tree → List Token

@@ -1,4 +1,4 @@
--- Which texts are patterns, with their branches. A text is ill-formed exactly if nothing here derives it. Document 02, request 13.
+-- Which texts are patterns, with their branches. A text is ill-formed exactly if nothing here derives it; by which causes says specs/Causes.antt. Document 02, request 13.
 use Prim.Native.Nat.{ℕ, suc}
 use mathlib.Core.Path.{_≡_}
 use mathlib.Core.Bool.{Bool, true, false, not, _||_}

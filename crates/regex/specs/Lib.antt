@@ -1,5 +1,6 @@
 pub mod Language
 pub mod Grammar
+pub mod Causes
 pub mod Words
 pub mod Scan
 pub mod Regex
