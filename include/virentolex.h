@@ -26,6 +26,8 @@
  *    stores        26 no store, or a buffer over 65,536 or under 8 bytes
  *                  27 64 tables held                28 no room
  *                  29 number not held                9 verdict buffer under 64 bytes
+ *    mending       30 under 8 bytes                 10 over 16,384 bytes
+ *                  15 65 fields would be kept        9 list or notice buffer too short
  *
  * What every caller must see to, since nothing checks a caller in C:
  *
@@ -111,6 +113,17 @@ extern "C" {
 
 /* The most bytes of a UBF(A) text that is written; one that is read may be longer. */
 #define VIRENTOLEX_UBF_TEXT_MAX 32839
+
+/* What became of a field, by the list of virentolex_mend. */
+#define VIRENTOLEX_KEPT 0     /* it is in the notice, in its order */
+#define VIRENTOLEX_MOVED 1    /* it is in the notice, but a greater name was kept before it */
+#define VIRENTOLEX_REPEATED 2 /* its name was kept before */
+#define VIRENTOLEX_BAD 3      /* it is not right by itself */
+#define VIRENTOLEX_CUT 4      /* its length passes the end, or a single byte is left */
+
+/* The bytes of the list for each field, and the most bytes of a list: 8,188 fields of length 0. */
+#define VIRENTOLEX_LISTED 3
+#define VIRENTOLEX_LIST_MAX 24564
 
 /*
  * Translates a subscription text to a table of an edition.
@@ -417,6 +430,38 @@ uint8_t virentolex_store_match(const uint8_t *store, size_t store_len,
                                const uint8_t *notice, size_t notice_len,
                                uint8_t *verdicts, size_t verdicts_len,
                                size_t *place);
+
+/*
+ * Mends a notice from the first consoles, which write fields out of order, twice, or cut off at the end.
+ * Any bytes may be passed.
+ *
+ * It goes field by field by the length words from offset 8; the words of the header are not believed. A
+ * field is kept if it is right by itself (its kind, its name and the size of its value are those of a
+ * field of a notice) and its name was not kept before. A field that is not right by itself is bad,
+ * whatever its name, and the walk goes on behind it, also where its length is under 3. A field whose
+ * length passes the end, or a single byte that is left, is cut and ends the walk.
+ *
+ * Answers 0, or the first that applies of: 30 if bytes_len < 8; 10 if bytes_len > VIRENTOLEX_NOTICE_MAX;
+ * 15 if over 64 fields would be kept; 9 if the list or the notice is longer than its buffer. A notice
+ * buffer of bytes_len bytes and a list buffer of VIRENTOLEX_LIST_MAX always suffice.
+ * *place    0.
+ * *length   the mended notice's length, at most bytes_len; 0 if refused.
+ * *fields   the count of fields listed, the cut one too; 0 if refused.
+ * list      after 0 its first VIRENTOLEX_LISTED * *fields bytes are the list, field by field: the offset
+ *           of the field in bytes as a u16, little-endian, and what became of it, VIRENTOLEX_KEPT to
+ *           VIRENTOLEX_CUT. The bytes after it are as they were. After a refusal every byte is as it was.
+ * notice    after 0 its first *length bytes are a well-formed notice, whose fields are exactly those that
+ *           the list calls kept or moved, bytes and all, in the order of their names. The bytes after it
+ *           are as they were. After a refusal every byte is as it was.
+ *
+ * A well-formed notice comes out the same, with every field kept; so mending twice changes nothing more.
+ * The notice is written to a buffer of its own: it cannot be mended in place. A name is sought by halving
+ * among those kept, so that the time grows as the bytes do.
+ */
+uint8_t virentolex_mend(const uint8_t *bytes, size_t bytes_len,
+                        uint8_t *list, size_t list_len,
+                        uint8_t *notice, size_t notice_len,
+                        size_t *place, size_t *length, size_t *fields);
 
 #ifdef __cplusplus
 }

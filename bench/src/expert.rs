@@ -12,7 +12,7 @@ pub const TRUE: u8 = 2;
 // ---- reading bytes that a check has found to be there
 
 #[inline(always)]
-unsafe fn u16_at(s: &[u8], at: usize) -> u16 {
+pub(crate) unsafe fn u16_at(s: &[u8], at: usize) -> u16 {
     u16::from_le((s.as_ptr().add(at) as *const u16).read_unaligned())
 }
 
@@ -125,7 +125,7 @@ fn odd_byte(x: u64) -> bool {
 }
 
 #[inline(always)]
-fn name_right(name: &[u8]) -> bool {
+pub(crate) fn name_right(name: &[u8]) -> bool {
     let n = name.len();
     if n == 0 || n > 64 {
         return false;

@@ -1,7 +1,7 @@
 //! Ours beside the expert's Rust, one machine, one run. `bench` prints every table, `bench quick` the same in a tenth
 //! of the time, `bench agree` compares the answers of both sides on many random cases and times nothing, `bench worst` times
 //! ours alone on the worst inputs found, `bench ubf` prints the tables of UBF(A) alone, `bench many` those of many subscriptions,
-//! `bench store` those of the store, `bench regex` those of `regex`.
+//! `bench store` those of the store, `bench regex` those of `regex`, `bench mend` that of mending.
 //! How it is built and run, with the flags: bench/run.
 
 mod agree;
@@ -10,6 +10,7 @@ mod doors;
 mod hostile;
 mod load;
 mod many;
+mod mends;
 mod meters;
 mod program;
 mod quorum;
@@ -259,6 +260,7 @@ fn main() {
             doors::agree(200_000);
             many::agree(20_000);
             stores::agree(5_000);
+            mends::agree(100_000);
             return agree::agree(200_000);
         }
         "worst" => return worst::rows(),
@@ -266,12 +268,14 @@ fn main() {
         "many" => return many::rows(WHOLE),
         "store" => return stores::rows(WHOLE),
         "regex" => return regexes::rows(WHOLE),
-        _ => panic!("bench [quick | agree | worst | ubf | many | store | regex]"),
+        "mend" => return mends::rows(WHOLE),
+        _ => panic!("bench [quick | agree | worst | ubf | many | store | regex | mend]"),
     };
     agree::agree(2_000);
     doors::agree(2_000);
     many::agree(200);
     stores::agree(200);
+    mends::agree(2_000);
     linear();
     println!(
         "medians of {} rounds, the sides in turn; ratio: ours over expert in the same round",
@@ -281,6 +285,7 @@ fn main() {
     guarded(pace);
     many::rows(pace);
     stores::rows(pace);
+    mends::rows(pace);
     quorum::shows(pace);
     checks(pace);
     translation(pace);

@@ -4,6 +4,8 @@
 
 use crate::clock::{self, Pace};
 use crate::hostile::{self, alike, eight, name, notice, often, string, table, Entry, FOLD};
+use crate::mends::{falling as two_falling, in_turn, short_names};
+use bench::mend::ours as mend;
 use bench::ours;
 use bench::store::ours as store;
 use std::hint::black_box;
@@ -16,7 +18,7 @@ struct Case {
 }
 
 /// An input that grows: `of(1)` is the half and `of(2)` the whole. The bytes of a case are
-/// - of a text, a UBF(A) text and a notice its length, of a decision its length and the notice's, of a store its buffer's;
+/// - of a text, a UBF(A) text, a notice and bytes to mend its length, of a decision its length and the notice's, of a store its buffer's;
 /// - of a table in a check its length, and a name's bytes for each entry that names them;
 /// - of a run, of many too, its table's length, for each string operator the bytes of both its operands with each literal, for each `size` those
 ///   of its string, and for each name the bytes of all the notice's fields but their values.
@@ -96,6 +98,7 @@ pub fn rows() {
     );
     told("virentolex_translate", translations());
     told("virentolex_ubf_read, virentolex_ubf_write", doors());
+    told("virentolex_mend", mends());
 }
 
 fn family(name: impl Into<String>, of: impl Fn(usize) -> Case + 'static) -> Family {
@@ -1239,4 +1242,53 @@ fn doors() -> Vec<Family> {
         written(notice(&names.into_iter().map(field).collect::<Vec<_>>()))
     }));
     all
+}
+
+// ---- mending
+
+/// Bytes mended into buffers of any list's length, and of a notice's.
+fn mended(bytes: Vec<u8>, number: u8) -> Case {
+    let (mut list, mut notice) = (vec![0; 24_564], vec![0; 16_384]);
+    Case {
+        number,
+        bytes: bytes.len(),
+        call: Box::new(move || mend::mend(black_box(&bytes), &mut list, &mut notice).0),
+    }
+}
+
+fn mends() -> Vec<Family> {
+    vec![
+        family("236 fields, 64 names of 64 bytes that share 62", |k| {
+            mended(in_turn(&alike(64, 64), 0, 118 * k), 0)
+        }),
+        family("the same, falling", |k| {
+            mended(in_turn(&falling(64, 64), 0, 118 * k), 0)
+        }),
+        family("2,728 fields of 6 bytes, 64 names", |k| {
+            mended(in_turn(&short_names(), 0, 1364 * k), 0)
+        }),
+        family("2,728 fields of 6 bytes, one name", |k| {
+            mended(in_turn(&[b"n".to_vec()], 0, 1364 * k), 0)
+        }),
+        family("64 fields falling, 16,384 bytes", |k| {
+            mended(in_turn(&two_falling()[..32 * k], 248, 32 * k), 0)
+        }),
+        family("16 strings of 1,000 bytes, falling", |k| {
+            mended(in_turn(&two_falling()[..8 * k], 1000, 8 * k), 0)
+        }),
+        family("236 names of 64 bytes, the last byte 127", |k| {
+            let bad = [vec![b'n'; 63], vec![127]].concat();
+            mended(in_turn(&[bad], 0, 118 * k), 0)
+        }),
+        family("8,188 fields of length 0", |k| mended(vec![0; 8192 * k], 0)),
+        family("3,274 fields of length 3, a name past it", |k| {
+            let fields = [3, 0, 4, 0, 1].repeat(1637 * k);
+            mended([vec![0; 8], fields].concat(), 0)
+        }),
+        family("the first row with a 65th name at its end", |k| {
+            let mut bytes = in_turn(&alike(64, 64), 0, 118 * k - 1);
+            bytes.extend(&in_turn(&[b"z".to_vec()], 63, 1)[8..]);
+            mended(bytes, 15)
+        }),
+    ]
 }

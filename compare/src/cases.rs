@@ -83,7 +83,7 @@ pub fn entry_number(undecided: Option<usize>) -> usize {
 }
 
 /// The kinds in turn, by the case's number.
-const KINDS: [&str; 31] = [
+const KINDS: [&str; 32] = [
     "text",
     "table",
     "notice",
@@ -115,6 +115,7 @@ const KINDS: [&str; 31] = [
     "more",
     "store",
     "regex",
+    "mend",
 ];
 /// So many operators are tried in one case of theirs.
 const OPERATORS: usize = 20;
@@ -149,6 +150,7 @@ impl Case<'_> {
             "more" => self.more(),
             "store" => self.store(),
             "regex" => self.regex(),
+            "mend" => self.mend(),
             "operator" => (0..OPERATORS).try_for_each(|_| self.operator()),
             _ => self.program(),
         }
@@ -579,6 +581,7 @@ mod tests {
             [
                 "find",
                 "many",
+                "mend",
                 "meter",
                 "more",
                 "notice",

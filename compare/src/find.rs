@@ -43,7 +43,7 @@ fn alike(random: &mut Random) -> Vec<u8> {
 }
 
 /// The stem's start, or one that leaves it there.
-fn branch(random: &mut Random, stem: &[u8]) -> Vec<u8> {
+pub fn branch(random: &mut Random, stem: &[u8]) -> Vec<u8> {
     let at = match random.below(3) {
         0 => random.between(0, 64),
         _ => random.pick(&PLACES),

@@ -103,7 +103,7 @@ fn wide_name(random: &mut Random, names: &[Vec<u8>]) -> Vec<u8> {
 }
 
 /// A field of the name, of a kind that suits it.
-fn suited(random: &mut Random, name: Vec<u8>) -> Field {
+pub fn suited(random: &mut Random, name: Vec<u8>) -> Field {
     let kind = kind_for(random, &name);
     Field {
         value: value(random, kind),

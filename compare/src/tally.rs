@@ -2,8 +2,8 @@
 
 use crate::edges::EDGES;
 use crate::{
-    corners, editions, find_edges, many_edges, more_edges, quorum_edges, regex, shift_edges, size,
-    spellings, store_edges, ubf_edges, undecided_edges, wildcard,
+    corners, editions, find_edges, many_edges, mend_edges, more_edges, quorum_edges, regex,
+    shift_edges, size, spellings, store_edges, ubf_edges, undecided_edges, wildcard,
 };
 use reference::op::OPS;
 use std::collections::BTreeMap;
@@ -18,7 +18,7 @@ const MOST_NAMED: usize = 64;
 const RAREST: usize = 8;
 
 /// What must occur in a run of many cases.
-const NUMBERS: [(&str, &[u8]); 18] = [
+const NUMBERS: [(&str, &[u8]); 19] = [
     ("translate", &[0, 1, 2, 3, 4, 5, 6, 7, 8, 9, 10, 18, 25]),
     ("check", &[0, 12]),
     ("run", &[0, 11, 12]),
@@ -37,8 +37,9 @@ const NUMBERS: [(&str, &[u8]); 18] = [
     ("store remove", &[0, 26, 29]),
     ("store fetch", &[0, 26, 29]),
     ("store match", &[0, 9, 11, 26]),
+    ("mend number", &[0, 9, 10, 15, 30]),
 ];
-const WORDS: [(&str, &[&str]); 11] = [
+const WORDS: [(&str, &[&str]); 13] = [
     (
         "case",
         &[
@@ -60,6 +61,7 @@ const WORDS: [(&str, &[&str]); 11] = [
             "shift",
             "more",
             "store",
+            "mend",
         ],
     ),
     ("verdict", &["True", "False", "Bottom"]),
@@ -88,6 +90,8 @@ const WORDS: [(&str, &[&str]); 11] = [
     ("quorum", &quorum_edges::EDGES),
     ("ubf", &ubf_edges::EDGES),
     ("ubf done", &ubf_edges::DONE),
+    ("mend fate", &["Kept", "Moved", "Repeated", "Bad", "Cut"]),
+    ("mend law", &["mended twice", "well-formed"]),
 ];
 
 impl Tally {
@@ -118,6 +122,7 @@ impl Tally {
         let more = more_edges::names().into_iter().map(|one| ("more", one));
         let editions = editions::names().into_iter().map(|one| ("edition", one));
         let stores = store_edges::names().into_iter().map(|one| ("store", one));
+        let mends = mend_edges::names().into_iter().map(|one| ("mend", one));
         let all = numbers
             .chain(words)
             .chain(ops)
@@ -133,6 +138,7 @@ impl Tally {
             .chain(editions)
             .chain(more)
             .chain(stores)
+            .chain(mends)
             .chain(spellings);
         all.filter(|key| !self.counts.contains_key(key))
             .map(|(of, one)| format!("{of} {one}"))

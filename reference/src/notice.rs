@@ -71,7 +71,7 @@ pub fn fields(notice: &[u8]) -> Result<Vec<Field>, usize> {
 
 /// "Field: u16 length of all after it; u16 kind; u8 name length 1..64; name (bytes 32..126); the value
 /// takes the rest."
-fn field(notice: &[u8], at: usize) -> Option<Field> {
+pub(crate) fn field(notice: &[u8], at: usize) -> Option<Field> {
     let end = at + 2 + word(notice, at, 2)? as usize;
     let part = notice.get(..end)?;
     let kind = word(part, at + 2, 2)? as u16;

@@ -28,10 +28,13 @@
 //!   making the store empty, then for each call number:answer: of `a` the table's number, of `r` 0, of `f` the table
 //! - `13-translate.txt`, `13-run.txt`, `13-check.txt`, `13-patterns.txt`: as those of 09 and `01-patterns.txt`, of
 //!   texts, tables and patterns of `regex`
+//! - `14-mend.txt`: bytes, list buffer's length, notice buffer's length, number, place, notice, fields listed, the
+//!   list's bytes
 //!
 //! Runs of files without 07, 09 or 13 in front are from before request 7, so that their answers have no entry.
 //! Texts of files without 09, 10 or 13 in front are from before request 9: of the first edition.
 
+use crate::mend::LISTED;
 use crate::quorum::{self, Decision, Shown};
 use crate::regex::Regex;
 use crate::store;
@@ -79,6 +82,7 @@ fn answer(file: &str, words: &[&str]) -> Option<(usize, String)> {
         ("10-more.txt", 6) => Some((4, more(words)?)),
         ("11-find.txt", 4) => Some((2, find(words)?)),
         ("12-store.txt", _) => store(words),
+        ("14-mend.txt", 8) => Some((3, mend(words)?)),
         _ => None,
     }
 }
@@ -278,6 +282,21 @@ fn store_call(buffer: &mut [u8], call: &str) -> Option<String> {
     })
 }
 
+/// Bytes mended.
+fn mend(words: &[&str]) -> Option<String> {
+    let mut list = vec![0; words[1].parse().ok()?];
+    let mut notice = vec![0; words[2].parse().ok()?];
+    let answer = crate::mend(&bytes(words[0])?, &mut list, &mut notice);
+    Some(format!(
+        "{} {} {} {} {}",
+        answer.number,
+        answer.place,
+        hex(&notice[..answer.length]),
+        answer.fields,
+        hex(&list[..LISTED * answer.fields])
+    ))
+}
+
 fn shown(answer: Shown) -> String {
     let reached = u8::from(answer.reached);
     format!(
@@ -329,5 +348,9 @@ mod tests {
         assert_eq!(agree("12-store.txt", lines), Ok(3));
         assert!(agree("12-store.txt", "8 1 f0 : 0 0:-").is_err());
         assert!(agree("12-store.txt", "8 2 f0 : 0 29:-").is_err());
+        let mended = "00000000000000000500 3 8 0 0 0400000001000000 1 080004";
+        assert_eq!(agree("14-mend.txt", mended), Ok(1));
+        assert!(agree("14-mend.txt", &mended.replace("80004", "80003")).is_err());
+        assert_eq!(agree("14-mend.txt", "00 0 0 30 0 - 0 -"), Ok(1));
     }
 }

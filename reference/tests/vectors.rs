@@ -35,6 +35,7 @@ fn the_vectors_agree() {
         ("13-run.txt", 600),
         ("13-check.txt", 300),
         ("13-patterns.txt", 1200),
+        ("14-mend.txt", 450),
     ];
     for (file, cases) in files {
         let lines = read_to_string(format!("{folder}/{file}")).expect(file);

@@ -5,8 +5,10 @@
 //! refusal's number in the customer's papers, 0 if nothing was refused. No function asks anything of its caller.
 #![deny(unsafe_op_in_unsafe_fn)]
 
+mod mend;
 mod store;
 
+pub use mend::*;
 pub use store::*;
 
 use std::fmt;

@@ -806,6 +806,9 @@ fn the_examples_of_the_formats() {
     assert_eq!(store.remove(0), Ok(()));
     assert_eq!(store.bytes()[..8], example("empty")[..8]);
     assert_eq!(store.bytes()[8..], example("held")[8..]);
+    let mended = MendedNotice::mend(&example("damaged")).unwrap();
+    assert_eq!(mended.notice(), notice);
+    assert_eq!(mended.into_buffers().0, example("list"));
 }
 
 fn converted(number: u8, place: usize, length: usize) -> Converted {

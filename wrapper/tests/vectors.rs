@@ -163,3 +163,23 @@ fn more_fields_never_turn_a_verdict_round() {
         assert!(verdicts.0 == "bottom" || verdicts.0 == verdicts.1);
     });
 }
+
+/// Document 02, request 14: bytes, list buffer's length, notice buffer's length, number, place, notice, fields listed,
+/// the list's bytes.
+#[test]
+fn mending() {
+    cases("14-mend.txt", 450, |words| {
+        let [damaged, list, notice, refusal, place, mended, fields, listed] = words else {
+            panic!("{words:?}");
+        };
+        let (mended, listed) = (bytes(mended), bytes(listed));
+        let (mut list, mut notice) = (vec![0xAA; number(list)], vec![0xAA; number(notice)]);
+        let m = virentolex::mend(&bytes(damaged), &mut list, &mut notice);
+        let meant = (number(refusal), number(place), mended.len(), number(fields));
+        assert_eq!((m.number, m.place, m.length, m.fields), meant, "{words:?}");
+        assert_eq!(notice[..mended.len()], mended, "{words:?}");
+        assert_eq!(list[..listed.len()], listed, "{words:?}");
+        let past = [&list[listed.len()..], &notice[mended.len()..]].concat();
+        assert!(past.iter().all(|byte| *byte == 0xAA), "{words:?}");
+    });
+}

@@ -11,6 +11,7 @@ pub mod Stores
 pub mod Inserts
 pub mod Writes
 pub mod Orders
+pub mod Sorted
 pub mod Searches
 pub mod Faults
 pub mod Trips

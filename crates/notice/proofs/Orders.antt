@@ -42,7 +42,7 @@ before-not-after s t e = go (beforeOf t s) refl
 pub after-by-other : (s t : List ℕ) → sameOf s t ≡ false → beforeOf s t ≡ false → beforeOf t s ≡ true
 after-by-other s t n e = ⊎-elim (λ p. true-false (sym p ∙ e)) (λ q. ⊎-elim (λ p. true-false (sym (same s t .1 p) ∙ n)) (λ p. p) q) (before-total s t)
 
-or-no : (a b : Bool) → (a || b) ≡ false → (a ≡ false) × (b ≡ false)
+pub or-no : (a b : Bool) → (a || b) ≡ false → (a ≡ false) × (b ≡ false)
 or-no true b e = true-false e
 or-no false b e = (refl, e)
 
@@ -240,7 +240,7 @@ abbrev pub allBeforeFirst : List Field → List Field → Bool
 allBeforeFirst acc [] = true
 allBeforeFirst acc (f ∷ fs) = allBefore acc (f .name)
 
-before-new : (acc : List Field) (name : List ℕ) → allBefore acc name ≡ true → hasName name acc ≡ false
+pub before-new : (acc : List Field) (name : List ℕ) → allBefore acc name ≡ true → hasName name acc ≡ false
 before-new [] name e = refl
 before-new (g ∷ gs) name e =
     let p = and-parts (beforeOf (g .name) name) (allBefore gs name) e in
@@ -259,7 +259,7 @@ before-both (g ∷ gs) name next e n =
     let p = and-parts (beforeOf (g .name) name) (allBefore gs name) e in
     ap₂ (λ (a b : Bool). a && b) (before-transitive (g .name) name next (p .0) n) (before-both gs name next (p .1) n)
 
-before-end : (acc : List Field) (f : Field) (name : List ℕ) → allBefore acc name ≡ true → beforeOf (f .name) name ≡ true → allBefore (acc ++ (f ∷ [])) name ≡ true
+pub before-end : (acc : List Field) (f : Field) (name : List ℕ) → allBefore acc name ≡ true → beforeOf (f .name) name ≡ true → allBefore (acc ++ (f ∷ [])) name ≡ true
 before-end [] f name e n = ap (λ (b : Bool). b && true) n
 before-end (g ∷ gs) f name e n =
     let p = and-parts (beforeOf (g .name) name) (allBefore gs name) e in

@@ -1,5 +1,5 @@
 -- Writing: "Writing adds one field, at its name's place, to a notice at the start of a lent buffer whose length the caller names; the bytes after the new notice stay."
-use Prim.Native.Nat.{ℕ, _+_, _≤_}
+use Prim.Native.Nat.{ℕ, suc, _+_, _≤_}
 use mathlib.Core.Path.{_≡_}
 use mathlib.Core.Bool.{Bool, false, cond, not, _&&_, _||_}
 use mathlib.Core.List.{List, [], _∷_, _++_}
@@ -30,6 +30,16 @@ hasName name (f ∷ fs) = sameOf (f .name) name || hasName name fs
 abbrev pub insertField : Field → List Field → List Field
 insertField f [] = f ∷ []
 insertField f (g ∷ gs) = cond (beforeOf (f .name) (g .name)) (f ∷ (g ∷ gs)) (g ∷ insertField f gs)
+
+-- document 02, request 5: "with fields put in name order"
+unfoldable pub sorted : List Field → List Field
+sorted [] = []
+sorted (f ∷ fs) = insertField f (sorted fs)
+
+-- the place of a name among fields in name order: that of the first which it is before
+unfoldable pub placeAmong : List ℕ → List Field → ℕ
+placeAmong name [] = 0
+placeAmong name (g ∷ gs) = cond (beforeOf name (g .name)) 0 (suc (placeAmong name gs))
 
 -- the same in the bytes: of the fields that start at these places, the start of the first that the name is before, or the notice's end
 abbrev pub placeIn : List ℕ → List ℕ → List ℕ → ℕ

@@ -26,14 +26,14 @@ pub fn size_right(kind: u16, size: usize) -> bool
 }
 
 // The field's length word, and the length of its name. The callers have tested that the bytes are there.
-pub(crate) fn field_size(notice: &[u8], at: usize) -> usize
+pub fn field_size(notice: &[u8], at: usize) -> usize
     requires { ⌜ at + 2 ≤ length (now notice) ⌝ }
     ensures { λ r. ⌜ (r ≡ sizeAt (now (notice .entry)) at) × (r < 65536) ⌝ }
 {
     word::read_u16(notice, at) as usize
 }
 
-pub(crate) fn name_size(notice: &[u8], at: usize) -> usize
+pub fn name_size(notice: &[u8], at: usize) -> usize
     requires { ⌜ at + 4 < length (now notice) ⌝ }
     ensures { λ r. ⌜ (r ≡ nameSizeAt (now (notice .entry)) at) × (r < 256) ⌝ }
 {
@@ -57,7 +57,7 @@ pub(crate) fn lies(notice: &[u8], at: usize) -> bool
 }
 
 // Whether a field that is right by itself starts at `at`.
-pub(crate) fn stands(notice: &[u8], at: usize) -> bool
+pub fn stands(notice: &[u8], at: usize) -> bool
     requires { ⌜ at ≤ length (now notice) ⌝ }
     ensures { λ r. ⌜ r ≡ rightAt (now (notice .entry)) at ⌝ }
 {

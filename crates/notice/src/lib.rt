@@ -17,10 +17,10 @@ mod reading;
 mod search;
 mod writing;
 
-use field::field_size;
-use field::name_size;
+pub use field::field_size;
+pub use field::name_size;
 pub use field::size_right;
-use field::stands;
+pub use field::stands;
 pub use name::name_right;
 use order::key_of;
 use order::rises;

@@ -17,6 +17,7 @@ ghost use Rattle.quorum.specs.Showing.{openOf, openedBytes, showOf, shownBytes,
 ghost use Rattle.many.specs.Many.{manyOf, manyBytes};
 ghost use Rattle.many.specs.Held.{matchOf, matchedBytes};
 ghost use Rattle.ubf.specs.Answer.{readAnswer, readBytes, writeAnswer, writeBytes};
+ghost use Rattle.mend.specs.Mend.{mendedOf, listAfter, noticeAfter};
 ghost use Rattle.store.specs.Calls.{makeRefusal, madeBytes, addedOf, addedBytes, heldRefusal, removedBytes, partOf};
 use notice::Layout;
 
@@ -333,5 +334,27 @@ pub extern "C" fn virentolex_store_match<'a>(
 {
     let a = many::match_store(store, notice, verdicts);
     *place = a.place;
+    a.number
+}
+
+// "A tool takes such bytes, .. keeps each field that is right by itself and whose name was not kept before, and writes a well-formed notice": the notice at its buffer's start,
+// and in the list's 3 bytes a field, u16 offset and 0 kept, 1 moved, 2 repeated, 3 bad, 4 cut. A refusal changes no byte.
+#[no_mangle]
+pub extern "C" fn virentolex_mend(
+    bytes: &[u8],
+    list: &mut [u8],
+    notice: &mut [u8],
+    place: &mut usize,
+    len: &mut usize,
+    fields: &mut usize,
+) -> u8
+    ensures { λ r. ⌜ record { number = r; place = now (place .exit); length = now (len .exit); fields = now (fields .exit) } ≡ mendedOf (now (bytes .entry)) (length (now (list .entry))) (length (now (notice .entry))) ⌝ }
+    ensures { λ _. ⌜ now (list .exit) ≡ listAfter (now (bytes .entry)) (now (list .entry)) (now (notice .entry)) ⌝ }
+    ensures { λ _. ⌜ now (notice .exit) ≡ noticeAfter (now (bytes .entry)) (now (list .entry)) (now (notice .entry)) ⌝ }
+{
+    let a = mend::mend(bytes, list, notice);
+    *place = a.place;
+    *len = a.length;
+    *fields = a.fields;
     a.number
 }

@@ -1,8 +1,8 @@
 -- Rows in the order of their names: the row at a place of the order, what comparing with it tells, and one row more. Assumes nothing.
-use mathlib.Core.Path.{_≡_, refl, sym, ap, ap₂, _∙_}
+use mathlib.Core.Path.{_≡_, sym, ap, ap₂, _∙_}
 use mathlib.Core.Bool.{Bool, true, false, _||_}
 use mathlib.Core.List.{List, [], _∷_, _++_, map, append-assoc}
-use Prim.Native.Nat.{ℕ, zero, suc, _+_, _*_, _-_, _≤_, _<_}
+use Prim.Native.Nat.{ℕ, suc, _+_, _*_, _-_, _≤_, _<_}
 use native.Mathlib.Omega.{arith}
 use lib.ListN.{length, getD, set, take, drop, length-drop, length-map, length-append, drop-of-length-le}
 use lib.Seq.{sets, sets-eq, set-at, drop-at, drop-cons, drop-drop, getD-drop, length-take-le}
@@ -11,17 +11,14 @@ use Rattle.common.proofs.Choice.{true-false, false-true}
 use Rattle.common.proofs.Each.{each-map, each-at}
 use Rattle.octets.specs.Octets.{sameOf, beforeOf}
 use Rattle.notice.specs.Field.{Field}
-use Rattle.notice.specs.Write.{hasName, insertField}
-use Rattle.ubf.specs.Answer.{sorted, repeated}
-use Rattle.ubf.specs.Span.{nameIn, fieldIn, SpanIn, noSpan, spansIn, placeAmong, rowIn, rowFields, Rising, ArrangedIs}
+use Rattle.notice.specs.Read.{blank}
+use Rattle.notice.specs.Write.{hasName, insertField, sorted, placeAmong}
+use Rattle.ubf.specs.Answer.{repeated}
+use Rattle.ubf.specs.Span.{nameIn, fieldIn, SpanIn, noSpan, spansIn, rowIn, rowFields, Rising, ArrangedIs}
 use Rattle.ubf.specs.declared.spans.Span.{Span}
 use Rattle.ubf.proofs.Rows.{length-spans, span-row}
-use Rattle.ubf.proofs.Sorted.{noField, nameAt, place-near, insert-place, place-before, place-after, has-none, has-before, sorted-named, sorted-rising, repeated-drop}
-
-map-at : {A : Type 0} (f : A → Field) (l : List A) (n : ℕ) (d : A) (e : Field) → n < length l → getD (map f l) n e ≡ f (getD l n d)
-map-at f [] n d e h = absurd (omega arith)
-map-at f (x ∷ l) zero d e h = refl
-map-at f (x ∷ l) (suc n) d e h = map-at f l n d e (omega arith)
+use Rattle.notice.proofs.Sorted.{map-at, map-around, each-around, nthName, place-near, insert-place, place-before, place-after, has-none, has-before, sorted-named}
+use Rattle.ubf.proofs.Sorted.{sorted-rising, repeated-drop}
 
 -- a row of an order in which names rise
 pub record RowAt (text rows order : List ℕ) (first i : ℕ) : Type 0 where
@@ -29,7 +26,7 @@ pub record RowAt (text rows order : List ℕ) (first i : ℕ) : Type 0 where
   pub near : 7 * getD order i 0 + 7 ≤ length rows
   pub lies : SpanIn text (rowIn rows (getD order i 0))
   pub among : i - first < length (rowFields text rows (drop first order))
-  pub named : nameIn text (rowIn rows (getD order i 0)) ≡ nameAt (rowFields text rows (drop first order)) (i - first)
+  pub named : nameIn text (rowIn rows (getD order i 0)) ≡ nthName (rowFields text rows (drop first order)) (i - first)
 
 module _ (text rows order : List ℕ) (first : ℕ) (r : Rising text rows order first) where
   pub length-rows : length (rowFields text rows (drop first order)) ≡ 64 - first
@@ -49,7 +46,7 @@ module _ (text rows order : List ℕ) (first : ℕ) (r : Rising text rows order 
         near = omega (arith, b .0, r .rows-long);
         lies = b .1;
         among = omega (arith, length-rows);
-        named = ap (λ (g : Field). g .name) (sym (map-at f ks (i - first) 0 noField l ∙ ap f e));
+        named = ap (λ (g : Field). g .name) (sym (map-at f ks (i - first) 0 blank l ∙ ap f e));
       }
 
   -- what comparing a name with that of a row tells of its place
@@ -84,16 +81,6 @@ module _ (text rows order : List ℕ) (first : ℕ) (r : Rising text rows order 
 
 -- ---- one row more
 
-map-around : (f : ℕ → Field) (n : ℕ) (l : List ℕ) (v : ℕ) → map f (take n l ++ (v ∷ drop n l)) ≡ take n (map f l) ++ (f v ∷ drop n (map f l))
-map-around f zero l v = refl
-map-around f (suc n) [] v = refl
-map-around f (suc n) (x ∷ l) v = ap (λ (t : List Field). f x ∷ t) (map-around f n l v)
-
-each-around : (P : ℕ → Type 0) (n : ℕ) (l : List ℕ) (v : ℕ) → Each P l → P v → Each P (take n l ++ (v ∷ drop n l))
-each-around P zero l v e p = (p, e)
-each-around P (suc n) [] v e p = (p, tt)
-each-around P (suc n) (x ∷ l) v e p = (e .0, each-around P n l v (e .1) p)
-
 -- the order after the rows before `at` have moved down and the new one is stored
 pub order-more : (order : List ℕ) (first at v : ℕ) → 0 < first → first ≤ at → at ≤ length order
     → drop (first - 1) (set (sets order (first - 1) (take (at - first) (drop first order))) (at - 1) v) ≡ take (at - first) (drop first order) ++ (v ∷ drop (at - first) (drop first order))
@@ -127,8 +114,8 @@ module _ (text rows : List ℕ) (count : ℕ) (few : count ≤ 64) (long : lengt
   pub row-lies : (k : ℕ) → k < count → SpanIn text (rowIn rows k)
   row-lies k h = rw (span-row count k rows h) at (each-at (SpanIn text) (spansIn count rows) noSpan lie k (omega (arith, length-spans count rows)))
 
-  pub row-field : (k : ℕ) → k < count → getD (map (fieldIn text) (spansIn count rows)) k noField ≡ fieldIn text (rowIn rows k)
-  row-field k h = map-at (fieldIn text) (spansIn count rows) k noSpan noField (omega (arith, length-spans count rows)) ∙ ap (fieldIn text) (span-row count k rows h)
+  pub row-field : (k : ℕ) → k < count → getD (map (fieldIn text) (spansIn count rows)) k blank ≡ fieldIn text (rowIn rows k)
+  row-field k h = map-at (fieldIn text) (spansIn count rows) k noSpan blank (omega (arith, length-spans count rows)) ∙ ap (fieldIn text) (span-row count k rows h)
 
   -- the fields from row k on
   fields-from : (k : ℕ) → k < count → drop k (map (fieldIn text) (spansIn count rows)) ≡ fieldIn text (rowIn rows k) ∷ drop (suc k) (map (fieldIn text) (spansIn count rows))
@@ -136,7 +123,7 @@ module _ (text rows : List ℕ) (count : ℕ) (few : count ≤ 64) (long : lengt
       let ss = spansIn count rows in
       let l = length-spans count rows in
       let m : length (map (fieldIn text) ss) ≡ length ss = length-map ss (fieldIn text) in
-      drop-cons (map (fieldIn text) ss) k noField (omega arith)
+      drop-cons (map (fieldIn text) ss) k blank (omega arith)
       ∙ ap (λ (f : Field). f ∷ drop (suc k) (map (fieldIn text) ss)) (row-field k h)
 
   module _ (order : List ℕ) (whole : length order ≡ 64) (left : ℕ) (s : Sofar text rows count order left) (some : 0 < left) (most : left ≤ count) where

@@ -14,20 +14,22 @@ use Rattle.common.proofs.Each.{each-map}
 use Rattle.octets.proofs.Theorems.{and-parts, or-parts}
 use Rattle.notice.specs.Field.{Field, nameRight, sizeRight, fieldRight}
 use Rattle.notice.specs.Render.{render}
+use Rattle.notice.specs.Read.{blank}
+use Rattle.notice.specs.Write.{sorted}
 use Rattle.notice.proofs.Fields.{right-small}
 use Rattle.notice.proofs.Renders.{length-render}
+use Rattle.notice.proofs.Sorted.{sorted-size}
 use Rattle.ubf.specs.Fields.{Said, noText, noTuple, says, said, inSyntax, isTuple}
-use Rattle.ubf.specs.Answer.{sorted, namesRight, sizesRight, repeated, noticeSize, fitsIn, readBy, readNumber, saidFields, readAnswer, readBytes, leaves}
+use Rattle.ubf.specs.Answer.{namesRight, sizesRight, repeated, noticeSize, fitsIn, readBy, readNumber, saidFields, readAnswer, readBytes, leaves}
 use Rattle.ubf.specs.declared.Answer.{Answer}
 use Rattle.ubf.specs.Span.{fieldIn, SpanIn, SizeIs, spansIn, TupleFound, rowIn, ordered, ArrangedIs, RefusalIs}
 use Rattle.ubf.specs.declared.spans.Tuple.{Tuple}
 use Rattle.ubf.proofs.Names.{or-neither}
-use Rattle.ubf.proofs.Sorted.{noField, sorted-size}
 use Rattle.ubf.proofs.Arranged.{row-lies, row-field}
 use Rattle.ubf.proofs.Placed.{name-length, value-length}
 
 -- each of some right fields is right
-right-at : (fs : List Field) (k : ℕ) → namesRight fs ≡ true → sizesRight fs ≡ true → k < length fs → fieldRight (getD fs k noField) ≡ true
+right-at : (fs : List Field) (k : ℕ) → namesRight fs ≡ true → sizesRight fs ≡ true → k < length fs → fieldRight (getD fs k blank) ≡ true
 right-at [] k n s h = absurd (omega arith)
 right-at (f ∷ fs) zero n s h = ap₂ (λ (a b : Bool). a && b) (and-parts (nameRight (f .name)) (namesRight fs) n .0) (and-parts (sizeRight (f .kind) (length (f .value))) (sizesRight fs) s .0)
 right-at (f ∷ fs) (suc k) n s h = right-at fs k (and-parts (nameRight (f .name)) (namesRight fs) n .1) (and-parts (sizeRight (f .kind) (length (f .value))) (sizesRight fs) s .1) (omega arith)
@@ -116,7 +118,7 @@ module _ (text rows : List ℕ) (t : Tuple) (found : TupleFound text rows t) whe
                 let f2 : leb (noticeSize fs) room ≡ true = le-leb (noticeSize fs) room (omega (arith, z .exact, z .fits)) in
                 let short : (k : ℕ) → k < t .count → (k < 64) × SpanIn text (rowIn rows k) × (rowIn rows k .namelen ≤ 64) × (rowIn rows k .len ≤ 1024) = λ k h.
                 let lies = row-lies text rows (t .count) few rl (lie .1) k h in
-                let g : getD fs k noField ≡ fieldIn text (rowIn rows k) = ap (λ (l : List Field). getD l k noField) (sym (lie .0)) ∙ row-field text rows (t .count) few rl (lie .1) k h in
+                let g : getD fs k blank ≡ fieldIn text (rowIn rows k) = ap (λ (l : List Field). getD l k blank) (sym (lie .0)) ∙ row-field text rows (t .count) few rl (lie .1) k h in
                 let small = right-small (fieldIn text (rowIn rows k)) (sym (ap fieldRight g) ∙ right-at fs k named sized (omega (arith, found .known .count))) in
                 (omega arith, lies, omega (arith, small .name-fits, name-length text (rowIn rows k) lies), omega (arith, small .value-fits, value-length text (rowIn rows k) lies)) in
                 let same-size : noticeSize (ordered text rows (t .count) order) ≡ noticeSize fs = ap noticeSize rises ∙ ap (λ (n : ℕ). 8 + n) (sorted-size fs) in

@@ -1,7 +1,7 @@
 -- The theorems that specs/Theorems.antt states. Assumes nothing.
 use mathlib.Core.Path.{_≡_, refl, sym, ap, ap₂, _∙_}
 use mathlib.Core.Bool.{Bool, true, false, not, _&&_, _||_}
-use mathlib.Core.List.{List, [], _∷_, _++_, map, List·Permᴰ, List·Permᴰ·nil, List·Permᴰ·cons, List·Permᴰ·swap, List·Permᴰ·trans, Permᴰ·refl}
+use mathlib.Core.List.{List, [], _∷_, _++_, map}
 use Prim.Native.Nat.{ℕ, suc, _+_, _≤_}
 use native.Mathlib.Omega.{arith}
 use borrow.Author.Tests.{le-leb, leb-true, eqb-false}
@@ -17,18 +17,19 @@ use Rattle.notice.specs.Field.{Field, nameRight, sizeRight, fieldRight, allRigh
 use Rattle.notice.specs.Render.{fieldsBytes, render, NoticeFields}
 use Rattle.common.proofs.Choice.{true-false, false-true}
 use Rattle.notice.specs.Layout.{unless, valueSizeAt, valueStart, fieldAt, checkOf, startsOf, fieldsOf}
-use Rattle.notice.specs.Write.{hasName, insertField}
+use Rattle.notice.specs.Write.{hasName, sorted}
 use Rattle.notice.proofs.Keys.{bytes-take}
 use Rattle.notice.proofs.Orders.{same-symmetric, before-not-same, perm-right}
 use Rattle.notice.proofs.Renders.{well-render, well-fields, length-render, render-passes, render-fields}
 use Rattle.ubf.specs.declared.Answer.{Answer}
 use Rattle.ubf.specs.Fields.{Phase, outside, names, value, number, whole, wrong, phaseOf, Said, noText, noTuple, says, saidBy, saidIn, said, inSyntax}
 use Rattle.ubf.specs.Text.{textOf}
-use Rattle.ubf.specs.Answer.{sorted, namesRight, sizesRight, repeated, noticeSize, fitsIn, WriteIs, readBy, saidFields, hasReal, writeBy, writeNumber, readAnswer, readBytes, answered, leaves}
+use Rattle.ubf.specs.Answer.{namesRight, sizesRight, repeated, noticeSize, fitsIn, WriteIs, readBy, saidFields, hasReal, writeBy, writeNumber, readAnswer, readBytes, answered, leaves}
 use Rattle.ubf.specs.Grammar.{itemsAfter}
 use Rattle.ubf.specs.Theorems.{WrittenSays, WrittenInput, WriteRead, WriteAccepts, ReadHolds, SortedSame, SyntaxExactly, SaysItems, OutsideSyntax}
 use Rattle.ubf.proofs.Trips.{AllGood, text-says}
-use Rattle.ubf.proofs.Sorted.{sorted-length, sorted-size, sorted-rising}
+use Rattle.notice.proofs.Sorted.{sorted-length, sorted-size, sorted-same, sorted-same-fields}
+use Rattle.ubf.proofs.Sorted.{sorted-rising}
 use Rattle.ubf.proofs.Writes.{written}
 use Rattle.ubf.proofs.Grammar.{input-run, run-input}
 
@@ -90,17 +91,6 @@ not-repeated [] r = refl
 not-repeated (f ∷ fs) r =
     let q = and-parts (beforeFirst (f .name) fs) (rising fs) r in
     rw (not-named (f .name) fs (q .0) (q .1)) (not-repeated fs (q .1))
-
-insert-first : (f : Field) (fs : List Field) → beforeFirst (f .name) fs ≡ true → insertField f fs ≡ f ∷ fs
-insert-first f [] p = refl
-insert-first f (g ∷ gs) p = rw p
-
-pub sorted-same : (fs : List Field) → rising fs ≡ true → sorted fs ≡ fs
-unfolding sorted
-sorted-same [] r = refl
-sorted-same (f ∷ fs) r =
-    let q = and-parts (beforeFirst (f .name) fs) (rising fs) r in
-    ap (insertField f) (sorted-same fs (q .1)) ∙ insert-first f fs (q .0)
 
 read-zero : (fs : List Field) (room : ℕ) → NoticeFields fs → length (render fs) ≤ room → readBy (says fs) room ≡ 0
 read-zero fs room n h =
@@ -173,18 +163,8 @@ write-accepts s buffer w written i well no-real fits =
 
 -- ---- reading
 
-insert-same : (f : Field) (gs : List Field) → List·Permᴰ (insertField f gs) (f ∷ gs)
-insert-same f [] = Permᴰ·refl (f ∷ [])
-insert-same f (g ∷ gs) = go (beforeOf (f .name) (g .name)) refl (insert-same f gs)
-  where
-    go : (b : Bool) → beforeOf (f .name) (g .name) ≡ b → List·Permᴰ (insertField f gs) (f ∷ gs) → List·Permᴰ (insertField f (g ∷ gs)) (f ∷ g ∷ gs)
-    go true e ih = rw e (Permᴰ·refl (f ∷ g ∷ gs))
-    go false e ih = rw e (List·Permᴰ·trans (List·Permᴰ·cons refl ih) (List·Permᴰ·swap refl refl))
-
 pub sorted-perm : SortedSame
-unfolding sorted
-sorted-perm [] = List·Permᴰ·nil
-sorted-perm (f ∷ fs) = List·Permᴰ·trans (insert-same f (sorted fs)) (List·Permᴰ·cons refl (sorted-perm fs))
+sorted-perm fs = sorted-same-fields fs
 
 all-right : (fs : List Field) → namesRight fs ≡ true → sizesRight fs ≡ true → allRight fs ≡ true
 all-right [] n z = refl

@@ -11,15 +11,10 @@ use Rattle.notice.specs.Field.{Field, nameRight, sizeRight}
 use Rattle.notice.specs.Render.{fieldsBytes, render}
 use Rattle.common.specs.Choice.{pick}
 use Rattle.notice.specs.Layout.{unless, checkOf, numberOf, placeOf, fieldsOf}
-use Rattle.notice.specs.Write.{hasName, insertField}
+use Rattle.notice.specs.Write.{hasName, sorted}
 use Rattle.ubf.specs.Fields.{Said, noText, noTuple, says, said}
 use Rattle.ubf.specs.Text.{fieldsText, textOf}
 use Rattle.ubf.specs.declared.Answer.{Answer}
-
--- "with fields put in name order"
-unfoldable pub sorted : List Field → List Field
-sorted [] = []
-sorted (f ∷ fs) = insertField f (sorted fs)
 
 abbrev pub namesRight : List Field → Bool
 namesRight [] = true
@@ -54,6 +49,7 @@ saidFields noText = []
 saidFields noTuple = []
 saidFields (says fs) = fs
 
+-- "reading into our notice, with fields put in name order"
 abbrev pub readNotice : List ℕ → List ℕ
 readNotice text = render (sorted (saidFields (said text)))
 

@@ -9,9 +9,10 @@ use Rattle.ubf.specs.Grammar.{white, comment, gap, whole, delimited, cou
 use Rattle.ubf.specs.Fields.{next, phaseOf}
 use Rattle.ubf.specs.Escape.{escapes}
 use Rattle.ubf.specs.Text.{valueText, fieldsText}
-use Rattle.ubf.specs.Answer.{sorted, hasReal, readNumber, readNotice, writeNumber, writtenText}
+use Rattle.ubf.specs.Answer.{hasReal, readNumber, readNotice, writeNumber, writtenText}
 use Rattle.word.specs.Word.{wordAt, wordBytes}
 use Rattle.notice.specs.Layout.{checkFrom, startsFrom}
+use Rattle.notice.specs.Write.{sorted}
 
 r1 : readNumber (123 ∷ 13 ∷ 34 ∷ 32 ∷ 34 ∷ 34 ∷ 118 ∷ 34 ∷ 37 ∷ 10 ∷ 37 ∷ 34 ∷ 107 ∷ 34 ∷ 49 ∷ 10 ∷ 126 ∷ 118 ∷ 126 ∷ 34 ∷ 107 ∷ 34 ∷ 34 ∷ 34 ∷ 9 ∷ 125 ∷ 36 ∷ []) 16384 ≡ 14
 unfolding fresh step run next phaseOf wordBytes

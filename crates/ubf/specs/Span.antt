@@ -10,13 +10,12 @@ use lib.Seq.{sets}
 use Rattle.common.specs.Choice.{pick}
 use Rattle.common.specs.Each.{Each}
 use Rattle.word.specs.Word.{wordBytes}
-use Rattle.octets.specs.Octets.{beforeOf}
 use Rattle.notice.specs.Field.{Field, rising}
-use Rattle.notice.specs.Write.{field, hasName}
+use Rattle.notice.specs.Write.{field, hasName, sorted}
 use Rattle.ubf.specs.Escape.{escapes, bytesIn}
 use Rattle.ubf.specs.Item.{Item, integer, between, state}
 use Rattle.ubf.specs.Fields.{Phase, outside, names, value, number, whole, wrong, add, asNumber, phaseOf, says, said, isTuple}
-use Rattle.ubf.specs.Answer.{namesRight, sizesRight, repeated, sorted, noticeSize, readNumber, saidFields}
+use Rattle.ubf.specs.Answer.{namesRight, sizesRight, repeated, noticeSize, readNumber, saidFields}
 use Rattle.ubf.specs.Scan.{onward, part, isBlank, Capped}
 use Rattle.ubf.specs.declared.spans.Value.{Value}
 use Rattle.ubf.specs.declared.spans.Span.{Span}
@@ -173,11 +172,6 @@ pub record TupleFound (text : List ℕ) (rows : List ℕ) (t : Tuple) : Type 0 w
 pub record TupleIs (text : List ℕ) (rows : List ℕ) (t : Tuple) : Type 0 where
   pub none : t .right ≡ false → isTuple (said text) ≡ false
   pub found : t .right ≡ true → TupleFound text rows t
-
--- the place of a name among fields in name order: that of the first which it is before
-unfoldable pub placeAmong : List ℕ → List Field → ℕ
-placeAmong name [] = 0
-placeAmong name (g ∷ gs) = cond (beforeOf name (g .name)) 0 (suc (placeAmong name gs))
 
 -- a row by its number, and the fields of some rows
 abbrev pub rowIn : List ℕ → ℕ → Span

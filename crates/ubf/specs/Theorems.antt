@@ -9,10 +9,11 @@ use Rattle.word.specs.Word.{Bytes}
 use Rattle.notice.specs.declared.Layout.{Layout}
 use Rattle.notice.specs.Field.{Field}
 use Rattle.notice.specs.Layout.{checkOf, fieldsOf}
+use Rattle.notice.specs.Write.{sorted}
 use Rattle.ubf.specs.declared.Answer.{Answer}
 use Rattle.ubf.specs.Grammar.{Items, Input, itemsAfter}
 use Rattle.ubf.specs.Fields.{says, saidBy, phaseOf, said, inSyntax}
-use Rattle.ubf.specs.Answer.{sorted, hasReal, writtenText, ReadIs, WriteIs}
+use Rattle.ubf.specs.Answer.{hasReal, writtenText, ReadIs, WriteIs}
 
 -- The fixed form of a notice's fields says these fields, in their order.
 abbrev pub WrittenSays : Type 0

@@ -5,7 +5,8 @@ use Prim.Native.Nat.{ℕ, _+_, _-_, _≤_}
 use native.Mathlib.Omega.{arith}
 use lib.ListN.{length, drop, set, length-set}
 use Rattle.notice.specs.Write.{hasName}
-use Rattle.ubf.specs.Span.{nameIn, SpanIn, placeAmong, rowIn, rowFields, Rising}
+use Rattle.notice.specs.Write.{placeAmong}
+use Rattle.ubf.specs.Span.{nameIn, SpanIn, rowIn, rowFields, Rising}
 use Rattle.ubf.specs.declared.spans.Span.{Span}
 use Rattle.ubf.proofs.Arranged.{place-within, Sofar, row-lies, rising-rows, repeated-here, sofar-start, sofar-more, arranged, not-arranged}
 use Rattle.ubf.proofs.ordering.arrange.Statement.{statement}

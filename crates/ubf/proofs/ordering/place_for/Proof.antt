@@ -3,7 +3,8 @@ use mathlib.Core.Path.{sym, subst, _∙_}
 use Prim.Native.Nat.{_+_, _-_, _/_, _≤_}
 use native.Mathlib.Omega.{arith}
 use lib.ListN.{drop}
-use Rattle.ubf.specs.Span.{nameIn, SpanIn, placeAmong, rowFields}
+use Rattle.notice.specs.Write.{placeAmong}
+use Rattle.ubf.specs.Span.{nameIn, SpanIn, rowFields}
 use Rattle.ubf.proofs.Arranged.{RowAt, row-at, not-after, after, place-within}
 use Rattle.ubf.proofs.ordering.place_for.Statement.{statement}
 use Rattle.ubf.proofs.ordering.place_for.Tie as tie

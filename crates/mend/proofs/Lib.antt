@@ -1,0 +1,10 @@
+pub mod Orders
+pub mod Stores
+pub mod Walks
+pub mod Admitted
+pub mod Placed
+pub mod Turns
+pub mod Answers
+pub mod Kept
+pub mod Headers
+pub mod Theorems

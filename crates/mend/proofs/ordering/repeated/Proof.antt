@@ -1,0 +1,45 @@
+-- `repeated` meets its contract: where names rise, only the one before the place may be the same. Assumes nothing.
+use mathlib.Core.Path.{sym, _∙_}
+use Prim.Native.Nat.{_-_}
+use native.Mathlib.Omega.{arith}
+use Rattle.notice.specs.Layout.{nameAt}
+use Rattle.mend.proofs.Orders.{right-at, place-within, first-new, by-before}
+use borrow.Author.Needs.{needs}
+use Rattle.mend.proofs.ordering.repeated.Statement.{statement}
+use Rattle.mend.proofs.ordering.repeated.Tie as tie
+
+returns : tie.Need-returns
+returns c =
+    let a = c .before .before .args in
+    sym (first-new (a .bytes .now) (a .order .now) (a .n) (c .before .before .pre .1) (nameAt (a .bytes .now) (a .at)) (a .place) (c .before .before .pre .2) (omega (arith, c .if1 .taken)))
+
+sub-same-name : tie.Need-sub-same-name
+sub-same-name c = search needs
+
+mul-same-name : tie.Need-mul-same-name
+mul-same-name c = let a = c .before .before .args in let w = place-within (a .bytes .now) (a .order .now) (a .n) (c .before .before .pre .1) (nameAt (a .bytes .now) (a .at)) in omega (arith, w, c .before .before .pre .2, c .before .before .pre .1 .few)
+
+element-copy-out-same-name : tie.Need-element-copy-out-same-name
+element-copy-out-same-name c = let a = c .before .before .args in let w = place-within (a .bytes .now) (a .order .now) (a .n) (c .before .before .pre .1) (nameAt (a .bytes .now) (a .at)) in omega (arith, w, c .if1 .left, c .before .before .pre .2, c .before .before .pre .1 .few, c .before .before .pre .1 .long)
+
+same-name-requires : tie.Need-same-name-requires
+same-name-requires c κs =
+    let a = c .before .before .before .args in
+    let w = place-within (a .bytes .now) (a .order .now) (a .n) (c .before .before .before .pre .1) (nameAt (a .bytes .now) (a .at)) in
+    (right-at (a .bytes .now) (a .order .now) (a .n) (c .before .before .before .pre .1) (a .place - 1) (omega (arith, w, c .before .if1 .left, c .before .before .before .pre .2)), c .before .before .before .pre .0)
+
+returns-2 : tie.Need-returns-2
+returns-2 c =
+    let a = c .before .before .before .before .args in
+    c .same-name .ensures ∙ by-before (a .bytes .now) (a .order .now) (a .n) (c .before .before .before .before .pre .1) (nameAt (a .bytes .now) (a .at)) (a .place) (c .before .before .before .before .pre .2) (omega (arith, c .before .before .if1 .left))
+
+pub repeated-spec : {M : Type 1} → statement M
+repeated-spec =
+    tie.close
+    (tie.spec
+    returns
+    sub-same-name
+    mul-same-name
+    element-copy-out-same-name
+    same-name-requires
+    returns-2)
