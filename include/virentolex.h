@@ -42,8 +42,8 @@
  *
  * The functions keep nothing between calls, so that threads may call them at the same time. They end,
  * use no heap and call nothing but memset. The stack is not part of the proofs. Measured: translating
- * takes 14 kB for a flat text, 18 kB with `wildcard` or `regex`, and 349 kB for the deepest texts tried
- * (24 parentheses, every operator level and 24 prefix operators between each two); a run with `regex`
+ * takes 25 kB for a flat text and at most 58 kB, within 64 KiB, for the deepest texts (24 parentheses or
+ * calls, every operator level and 24 prefix operators between each two); a run with `regex`
  * takes 23 kB and one whose `contains` goes on by borders 14 kB, among many tables, those of a store and
  * in a decision too, the other functions at most 6 kB, of which reading UBF(A) takes 4. The time of
  * `regex` is at most that of the pattern's bytes times the value's; a pattern never makes it go back.

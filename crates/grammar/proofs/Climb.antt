@@ -12,15 +12,8 @@ use Rattle.lexer.specs.Token.{Token}
 use Rattle.grammar.specs.Tree.{Tree, binary}
 use Rattle.grammar.specs.Grammar.{rank}
 use Rattle.grammar.specs.Parse.{Result, ok, bad, andThen, kindAt, level, more, prefix, levelOf, moreOf, prefixOf, fuel}
-use Rattle.grammar.specs.Size.{skips, entriesOf, poolOf, depthOf}
-use Rattle.grammar.specs.Judge.{isLogic, formsRight, patternsRight, kindsRight}
-use Rattle.grammar.specs.Answer.{foundOf, binaryFound, answerOf}
-use Rattle.grammar.specs.declared.found.Found.{Found}
-use Rattle.grammar.specs.declared.Parsed.{Parsed}
-use Rattle.grammar.specs.declared.Parsed.the-variants.{Whole, Broken}
 use Rattle.grammar.proofs.Sound.{Holds, then-holds, pick-holds}
 use Rattle.grammar.proofs.Laws.{level-prefix, level-then, more-then, more-stop}
-use Rattle.grammar.proofs.Sizes.{operator-entries, Seen}
 
 -- no operator of a level from m on stands at j
 abbrev pub Free : List Token → ℕ → Tree → ℕ → Type 0
@@ -32,10 +25,6 @@ free-more ks l t j h ne n le lt e = go (ℕ-discrete l n)
     go : Dec (l ≡ n) → ⊥
     go (yes q) = ne (rw q e)
     go (no q) = h n (omega arith) lt e
-
-pub less-holds : (Q R : Tree → ℕ → Type 0) (x : Result) → Holds Q x → ((t : Tree) (j : ℕ) → Q t j → R t j) → Holds R x
-less-holds Q R (ok t j) q f = f t j q
-less-holds Q R (bad p) q f = tt
 
 any-holds : (R : Tree → ℕ → Type 0) (x : Result) → ((t : Tree) (j : ℕ) → R t j) → Holds R x
 any-holds R (ok t j) f = f t j
@@ -103,25 +92,6 @@ down-skip (suc c) b ks l t j le lt k = go (ℕ-discrete b c) (λ h. down-skip c 
     go (yes q) ih = rw q
     go (no q) ih = down-once c b ks l t j (omega arith) q k ∙ ih (omega arith)
 
--- a tree holds what stands left in it
-Grown : Tree → Tree → ℕ → Type 0
-Grown t u j = (entriesOf t ≤ entriesOf u) × (poolOf t ≤ poolOf u)
-
-grown-more : (f : ℕ) (ks : List Token) (i l : ℕ) (t : Tree) → Holds (Grown t) (more f ks i l t)
-unfolding more Grown entriesOf poolOf
-grown-more zero ks i l t = tt
-grown-more (suc f) ks i l t =
-    pick-holds _ (eqb (rank (kindAt ks i)) l) _ _
-    (λ e. then-holds _ _ (level f ks (i + 1) (l + 1)) _ (any-holds (λ u j. Unit {0}) (level f ks (i + 1) (l + 1)) (λ u j. tt))
-    (λ u j _. less-holds _ _ (more f ks j l (binary (kindAt ks i) t u)) (grown-more f ks j l (binary (kindAt ks i) t u)) (λ v n g. omega arith)))
-    (λ e. omega arith)
-
-grown-down : (c : ℕ) (ks : List Token) (l : ℕ) (t : Tree) (j : ℕ) → Holds (Grown t) (down ks l c t j)
-unfolding down moreOf Grown
-grown-down zero ks l t j = omega arith
-grown-down (suc c) ks l t j =
-    then-holds _ _ (moreOf ks j (l + c) t) _ (grown-more (fuel ks) ks j (l + c) t) (λ u i g. less-holds _ _ (down ks l c u i) (grown-down c ks l u i) (λ v n h. omega arith))
-
 -- ---- the loop: a tree that is read so far, and the loops of the levels that are left
 
 pub record Spine (ks : List Token) (at l next : ℕ) (t : Tree) : Type 0 where
@@ -141,11 +111,6 @@ spine-bad ks at l le b =
     rw (level-down (11 - l) ks at l (omega arith), q, level-prefix ks at, b)
 
 module _ {ks : List Token} {at l next : ℕ} {t : Tree} (g : Spine ks at l next t) where
-  -- the whole expression holds what is read so far
-  pub spine-grows : {u : Tree} {n : ℕ} → levelOf ks at l ≡ ok u n → (entriesOf t ≤ entriesOf u) × (poolOf t ≤ poolOf u)
-  unfolding Grown
-  spine-grows {u} {n} e = subst (Holds (Grown t)) (sym (g .on) ∙ e) (grown-down (g .levels) ks l t next)
-
   stop : Free ks l t next → levelOf ks at l ≡ ok t next
   stop h = rw (g .on, down-stop (g .levels) ks l t next (g .fits) h)
 
@@ -194,53 +159,3 @@ module _ {ks : List Token} {at l next : ℕ} {t : Tree} (g : Spine ks at l next 
       spine-on q =
           let e : r + 1 ≡ l + (r - l) + 1 = omega arith in
           on-by (r - l) (omega arith) (omega arith) (rw e at q)
-
--- the same with the numbers that the parser keeps
-pub record Climbing (ks : List Token) (at l next : ℕ) (f : Found) : Type 0 where
-  pub tree : Tree
-  pub spine : Spine ks at l next tree
-  pub has : foundOf tree ≡ f
-  pub lt : at < next
-  pub le : next ≤ length ks
-  pub entries : f .entries ≤ 2 * (next - at)
-  pub pool : f .pool ≤ 4096 * (next - at)
-  pub depth : f .depth ≤ f .entries
-
-pub climb-start : {ks : List Token} {at next : ℕ} {f : Found} (l : ℕ) → l ≤ 11 → Seen ks at (prefixOf ks at) next f → Climbing ks at l next f
-climb-start l le s =
-    record { tree = s .tree; spine = spine-start l le (s .is-ok); has = s .has; lt = s .lt; le = s .le; entries = s .entries; pool = s .pool; depth = s .depth }
-
-pub climb-bad-start : (ks : List Token) (at l : ℕ) → l ≤ 11 → {p : ℕ} → prefixOf ks at ≡ bad p → Broken p ≡ answerOf (levelOf ks at l)
-climb-bad-start ks at l le b = rw (spine-bad ks at l le b)
-
-binary-found : (k : ℕ) (t u : Tree) → foundOf (binary k t u) ≡ binaryFound k (foundOf t) (foundOf u)
-unfolding entriesOf poolOf depthOf isLogic formsRight patternsRight kindsRight
-binary-found k t u = refl
-
-module _ {ks : List Token} {at l next : ℕ} {f : Found} (g : Climbing ks at l next f) (r : ℕ) (is-r : r ≡ rank (kindAt ks next)) where
-  pub stop-below : r < l → Whole next f ≡ answerOf (levelOf ks at l)
-  stop-below lt = rw (stops-below (g .spine) r is-r lt, g .has)
-
-  pub stop-above : 11 ≤ r → Whole next f ≡ answerOf (levelOf ks at l)
-  stop-above le = rw (stops-above (g .spine) r is-r le, g .has)
-
-  pub turn-bad : l ≤ r → r < 11 → {p : ℕ} → levelOf ks (next + 1) (r + 1) ≡ bad p → Broken p ≡ answerOf (levelOf ks at l)
-  turn-bad a b q = rw (spine-broken (g .spine) r is-r a b q)
-
-  pub turn-on : l ≤ r → r < 11 → {n : ℕ} {e d : Found} → Seen ks (next + 1) (levelOf ks (next + 1) (r + 1)) n e → d ≡ binaryFound (kindAt ks next) f e
-      → Climbing ks at l n d
-  turn-on a b {n} {e} {d} s is-d =
-      let o = operator-entries (skips (kindAt ks next)) in
-      let de = ap (λ (x : Found). x .entries) is-d in
-      let dp = ap (λ (x : Found). x .pool) is-d in
-      let dd = ap (λ (x : Found). x .depth) is-d in
-      record {
-        tree = binary (kindAt ks next) (g .tree) (s .tree);
-        spine = spine-on (g .spine) r is-r a b (s .is-ok);
-        has = binary-found (kindAt ks next) (g .tree) (s .tree) ∙ ap₂ (binaryFound (kindAt ks next)) (g .has) (s .has) ∙ sym is-d;
-        lt = omega (arith, g .lt, s .lt);
-        le = s .le;
-        entries = omega (arith, de, o .1, g .entries, s .entries, g .lt, s .lt);
-        pool = omega (arith, dp, g .pool, s .pool, g .lt, s .lt);
-        depth = omega (arith, dd, de, o .0, g .depth, s .depth, s .some);
-      }

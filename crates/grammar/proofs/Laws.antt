@@ -2,7 +2,7 @@
 use Prim.Native.Nat.{ℕ, zero, suc, _+_, _-_, _*_, _<_, _≤_}
 use native.Mathlib.Omega.{arith}
 use mathlib.Core.Path.{_≡_, refl, sym, ap, _∙_, subst}
-use mathlib.Core.Bool.{Bool, true, false}
+use mathlib.Core.Bool.{Bool, true, false, cond}
 use mathlib.Core.List.{List, [], _∷_}
 use lib.ListN.{length, getD}
 use lib.Dec.{eqb}
@@ -64,3 +64,7 @@ module _ (ks : List Token) (i : ℕ) where
 
     pub args-bad : (p : ℕ) → levelOf ks i 0 ≡ bad p → argumentsOf ks i x ts ≡ bad p
     args-bad p e = arguments-is ks i x ts ∙ rw e
+
+pub operator-entries : (b : Bool) → (1 ≤ cond b 2 1) × (cond b 2 1 ≤ 2)
+operator-entries true = omega arith
+operator-entries false = omega arith

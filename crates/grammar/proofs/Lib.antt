@@ -3,9 +3,6 @@ pub mod Sound
 pub mod Fuel
 pub mod Laws
 pub mod Complete
-pub mod Sizes
-pub mod Literals
 pub mod Climb
-pub mod Steps
 pub mod First
 pub mod Theorems

@@ -7,23 +7,17 @@ use native.Mathlib.Nat.{not-suc-le-zero, le-of-suc-le-suc}
 use native.Mathlib.Numerals.{add-one}
 use native.Mathlib.Omega.{arith}
 use native.Mathlib.Decide.{ℕ-discrete, decLt}
-use lib.Dec.{eqb, leb, ltb, T, eqb→eq}
+use lib.Dec.{eqb, leb, ltb}
 use lib.ListN.{length, getD, drop, drop-of-length-le, List·getD-eq-default, length-drop}
 use lib.Seq.{drop-cons, getD-drop}
 use borrow.Author.Tests.{eq-eqb, ne-eqb, lt-ltb, le-ltb, le-leb, lt-leb, leb-true}
-use Rattle.number.proofs.Table.{at}
 use Rattle.lexer.specs.Token.{Token, name, int32, int64, real, text, symbol, kindOf, nameAt, escapedAt, stringAt, integerAt, realAt}
 use Rattle.lexer.specs.Run.{takes, ends, runFrom, unescaped, bodyOf}
-use Rattle.grammar.specs.Tree.{leaf}
 use Rattle.grammar.specs.Grammar.{rank}
 use Rattle.grammar.specs.Parse.{ended, tokenAt, kindAt}
 use Rattle.grammar.specs.Function.{functionOf, opOfName}
-use Rattle.grammar.specs.Size.{poolBytes, entriesOf, poolOf, depthOf}
-use Rattle.grammar.specs.Judge.{formsRight, patternsRight, kindsRight, isLogic}
 use Rattle.grammar.specs.Nesting.{openAfter, rowAfter, deepFrom}
-use Rattle.grammar.specs.Answer.{foundOf, leafFound}
 use Rattle.grammar.specs.Stream.{tokenOf, tokensIn}
-use Rattle.grammar.specs.declared.found.Found.{Found}
 
 -- within a list the default does not matter
 pub within : {A : Type 0} (l : List A) (n : ℕ) (d e : A) → n < length l → getD l n d ≡ getD l n e
@@ -109,79 +103,10 @@ pub string-small : (s : List ℕ) (p : ℕ) → length (stringAt s p) ≤ length
 string-small s p =
     omega (arith, unescaped-small false (bodyOf (drop p s)), run-small (getD (drop p s) 0 0) false (drop 1 (drop p s)), length-drop 1 (drop p s), length-drop p s)
 
-small-token : (s : List ℕ) (k p : ℕ) → poolBytes (tokenOf s k p) ≤ length s
-small-token s k p = go (ℕ-discrete k 5) (ℕ-discrete k 4) (ℕ-discrete k 1) (ℕ-discrete k 2) (ℕ-discrete k 3)
-  where
-    go : Dec (k ≡ 5) → Dec (k ≡ 4) → Dec (k ≡ 1) → Dec (k ≡ 2) → Dec (k ≡ 3) → poolBytes (tokenOf s k p) ≤ length s
-    go (yes e) b c d f = rw e (name-small s p)
-    go (no a) (yes e) c d f = rw e (string-small s p)
-    go (no a) (no b) (yes e) d f = rw e (omega arith)
-    go (no a) (no b) (no c) (yes e) f = rw e (omega arith)
-    go (no a) (no b) (no c) (no d) (yes e) = rw e (omega arith)
-    go (no a) (no b) (no c) (no d) (no f) = rw (ne-eqb k 5 a, ne-eqb k 4 b, ne-eqb k 1 c, ne-eqb k 2 d, ne-eqb k 3 f) (omega arith)
-
-pub small : (s kinds starts : List ℕ) (i : ℕ) → poolBytes (tokenAt (tokensIn s kinds starts) i) ≤ length s
-small s kinds starts i = go (decLt i (length kinds))
-  where
-    go : Dec (i < length kinds) → poolBytes (tokenAt (tokensIn s kinds starts) i) ≤ length s
-    go (yes h) = rw (token-in s kinds starts i h) (small-token s (getD kinds i 99) (getD starts i 0))
-    go (no h) =
-        let out : length (tokensIn s kinds starts) ≤ i = rw (length-tokens s kinds starts) (omega arith) in
-        rw (List·getD-eq-default (tokensIn s kinds starts) ended out) (omega arith)
-
--- ---- a leaf's numbers
-
-leaf-is : (x : Token) {k n : ℕ} → kindOf x ≡ k → poolBytes x ≡ n → leafFound k n ≡ foundOf (leaf x)
-unfolding entriesOf poolOf depthOf formsRight patternsRight kindsRight isLogic
-leaf-is x e f = rw (← e, ← f)
-
-no-bytes : (s : List ℕ) (k p : ℕ) → (k ≡ 5 → ⊥) → (k ≡ 4 → ⊥) → poolBytes (tokenOf s k p) ≡ 0
-no-bytes s k p a b = go (ℕ-discrete k 1) (ℕ-discrete k 2) (ℕ-discrete k 3)
-  where
-    go : Dec (k ≡ 1) → Dec (k ≡ 2) → Dec (k ≡ 3) → poolBytes (tokenOf s k p) ≡ 0
-    go (yes e) d f = rw e
-    go (no c) (yes e) f = rw e
-    go (no c) (no d) (yes e) = rw e
-    go (no c) (no d) (no f) = rw (ne-eqb k 5 a, ne-eqb k 4 b, ne-eqb k 1 c, ne-eqb k 2 d, ne-eqb k 3 f)
-
-no-bytes-at : (s kinds starts : List ℕ) (i : ℕ) → (getD kinds i 99 ≡ 5 → ⊥) → (getD kinds i 99 ≡ 4 → ⊥) → poolBytes (tokenAt (tokensIn s kinds starts) i) ≡ 0
-no-bytes-at s kinds starts i a b = go (decLt i (length kinds))
-  where
-    go : Dec (i < length kinds) → poolBytes (tokenAt (tokensIn s kinds starts) i) ≡ 0
-    go (yes h) = ap poolBytes (token-in s kinds starts i h) ∙ no-bytes s (getD kinds i 99) (getD starts i 0) a b
-    go (no h) =
-        let out : length (tokensIn s kinds starts) ≤ i = rw (length-tokens s kinds starts) (omega arith) in
-        ap poolBytes (List·getD-eq-default (tokensIn s kinds starts) ended out)
-
-module _ (s kinds starts : List ℕ) (i : ℕ) {k : ℕ} (ek : k ≡ getD kinds i 99) where
-  pub leaf-name : {p n : ℕ} {r : Found} → p ≡ getD starts i 0 → k ≡ 5 → n ≡ length (nameAt s p) → r ≡ leafFound k n → r ≡ foundOf (leaf (tokenAt (tokensIn s kinds starts) i))
-  leaf-name ep is-k en er =
-      er ∙ leaf-is (tokenAt (tokensIn s kinds starts) i) (kind-is s kinds starts i ek) (rw (name-at s kinds starts i (sym ek ∙ is-k), en, ep))
-
-  pub leaf-text : {p n : ℕ} {r : Found} → p ≡ getD starts i 0 → k ≡ 4 → n ≡ length (stringAt s p) → r ≡ leafFound k n → r ≡ foundOf (leaf (tokenAt (tokensIn s kinds starts) i))
-  leaf-text ep is-k en er =
-      er ∙ leaf-is (tokenAt (tokensIn s kinds starts) i) (kind-is s kinds starts i ek) (rw (token-at s kinds starts i 4 (sym ek ∙ is-k) (omega arith), en, ep))
-
-  pub leaf-other : {r : Found} → (k ≡ 5 → ⊥) → (k ≡ 4 → ⊥) → r ≡ leafFound k 0 → r ≡ foundOf (leaf (tokenAt (tokensIn s kinds starts) i))
-  leaf-other a b er = er ∙ leaf-is (tokenAt (tokensIn s kinds starts) i) (kind-is s kinds starts i ek) (no-bytes-at s kinds starts i (λ e. a (ek ∙ e)) (λ e. b (ek ∙ e)))
-
 -- ---- levels
 
 abbrev pub ranks : List ℕ
 ranks = 11 ∷ 11 ∷ 11 ∷ 11 ∷ 11 ∷ 11 ∷ 11 ∷ 11 ∷ 11 ∷ 11 ∷ 11 ∷ 11 ∷ 11 ∷ 11 ∷ 11 ∷ 11 ∷ 10 ∷ 10 ∷ 10 ∷ 9 ∷ 8 ∷ 7 ∷ 6 ∷ 6 ∷ 6 ∷ 5 ∷ 5 ∷ 11 ∷ 11 ∷ 11 ∷ 11 ∷ 11 ∷ 3 ∷ 3 ∷ 4 ∷ 4 ∷ 4 ∷ 4 ∷ 11 ∷ 11 ∷ 11 ∷ 2 ∷ 1 ∷ 0 ∷ []
-
-rank-right : ℕ → ℕ → Bool
-rank-right k x = eqb x (rank k) && leb x 11
-
-and-parts : (a b : Bool) → T (a && b) → T a × T b
-and-parts true b t = (tt, t)
-and-parts false b t = absurd t
-
-pub rank-low : (k : ℕ) → k < 44 → (getD ranks k 0 ≡ rank k) × (getD ranks k 0 ≤ 11)
-unfolding rank rank-right
-rank-low k h =
-    let p = and-parts (eqb (getD ranks k 0) (rank k)) (leb (getD ranks k 0) 11) (at rank-right ranks tt k h) in
-    (eqb→eq (getD ranks k 0) (rank k) (p .0), lib.Dec.leb→le (getD ranks k 0) 11 (p .1))
 
 pub rank-high : (k : ℕ) → 44 ≤ k → (11 ≡ rank k) × (11 ≤ 11)
 unfolding rank

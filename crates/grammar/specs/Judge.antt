@@ -12,10 +12,14 @@ use Rattle.regex.specs.Regex.{wellFormed as regexFormed}
 use Rattle.grammar.specs.Tree.{Tree, leaf, group, unary, binary, call, Trees, none, _then_}
 use Rattle.grammar.specs.Function.{functionOf}
 use Rattle.grammar.specs.Size.{countOf}
-use Rattle.grammar.specs.declared.found.Form.{Form}
-use Rattle.grammar.specs.declared.found.Form.the-variants.{Name, Text, FoldCase, Other}
 
 -- The form of an argument: a name, a string literal, a `fold-case` call; "names and literals asked for take no own parentheses"
+pub data Form : Type 0 where
+  Name : Form
+  Text : Form
+  FoldCase : Form
+  Other : Form
+
 abbrev pub leafForm : ℕ → Form
 leafForm k = cond (eqb k naming) Name (cond (eqb k textKind) Text Other)
 

@@ -8,4 +8,6 @@ pub mod Judge
 pub mod Nesting
 pub mod Answer
 pub mod Stream
+pub mod Marks
+pub mod Code
 pub mod Theorems

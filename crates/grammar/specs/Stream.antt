@@ -1,13 +1,11 @@
 -- The tokens that the lexer's arrays stand for: kinds and starts, over the text. Defined for all arrays; a start that is lacking counts as 0.
 use Prim.Native.Nat.{ℕ}
-use mathlib.Core.Bool.{Bool, true, cond, _&&_}
+use mathlib.Core.Bool.{cond}
 use mathlib.Core.List.{List, [], _∷_}
-use lib.Dec.{eqb, ltb}
+use lib.Dec.{eqb}
 use lib.ListN.{getD, drop}
 use Rattle.lexer.specs.Kind.{int32Kind, int64Kind, real64Kind, textKind, naming}
 use Rattle.lexer.specs.Token.{Token, name, int32, int64, real, text, symbol, nameAt, escapedAt, stringAt, integerAt, realAt}
-use Rattle.grammar.specs.Judge.{isText, takesPatterns, patternTest}
-use Rattle.grammar.specs.declared.found.Form.{Form}
 
 -- the token of a kind that starts at a place of the text
 abbrev pub tokenOf : List ℕ → ℕ → ℕ → Token
@@ -21,7 +19,3 @@ tokenOf s k at =
 unfoldable pub tokensIn : List ℕ → List ℕ → List ℕ → List Token
 tokensIn s [] starts = []
 tokensIn s (k ∷ kinds) starts = tokenOf s k (getD starts 0 0) ∷ tokensIn s kinds (drop 1 starts)
-
--- `laterRight` of specs/Judge.antt, of an argument that begins with the token i, by its form: a string literal is that one token
-abbrev pub laterRightAt : List ℕ → List ℕ → ℕ → ℕ → ℕ → Form → Bool
-laterRightAt s starts i f n form = cond (takesPatterns f && (ltb 0 n && isText form)) (patternTest f (stringAt s (getD starts i 0))) true

@@ -3,18 +3,11 @@ ghost use mathlib.Core.Path.{_≡_};
 ghost use mathlib.Core.Bool.{true, false};
 ghost use Prim.Native.Nat.{_+_, _≤_, _<_};
 ghost use lib.ListN.{length, getD};
-ghost use Rattle.grammar.specs.Grammar.{isPrefix, isLiteral};
-ghost use Rattle.grammar.specs.Grammar.{rank as rankOf};
-ghost use Rattle.grammar.specs.Parse.{tokenAt};
+ghost use Rattle.grammar.specs.Grammar.{isPrefix};
 ghost use Rattle.grammar.specs.Function.{changes, tests, matches, among, opOfName};
 ghost use Rattle.grammar.specs.Nesting.{openAfter, rowAfter};
-ghost use Rattle.grammar.specs.Tree.{leaf as leafTree};
-ghost use Rattle.grammar.specs.Answer.{foundOf};
-ghost use Rattle.grammar.specs.Stream.{tokensIn};
 ghost use Rattle.lexer.specs.Token.{nameAt, escapedAt};
 ghost use Rattle.lexer.specs.Kind.{ending};
-use crate::found;
-use crate::found::Found;
 
 // The kind of the token at `at`, and `END` past the last one.
 pub fn kind(kinds: &[u8], at: usize) -> u8
@@ -43,86 +36,10 @@ fn wide(x: u16) -> usize
     x as usize
 }
 
-// The level of each kind: 11 for a kind that is no binary operator.
-const RANKS: [u8; 44] = [
-    11,
-    11,
-    11,
-    11,
-    11,
-    11,
-    11,
-    11,
-    11,
-    11,
-    11,
-    11,
-    11,
-    11,
-    11,
-    11,
-    10,
-    10,
-    10,
-    9,
-    8,
-    7,
-    6,
-    6,
-    6,
-    5,
-    5,
-    11,
-    11,
-    11,
-    11,
-    11,
-    3,
-    3,
-    4,
-    4,
-    4,
-    4,
-    11,
-    11,
-    11,
-    2,
-    1,
-    0,
-];
-
-pub fn rank(k: u8) -> u8
-    ensures { λ r. ⌜ (r ≡ rankOf k) × (r ≤ 11) ⌝ }
-{
-    let i = k as usize;
-    if i < 44 { RANKS[i] } else { 11 }
-}
-
 pub fn is_prefix(k: u8) -> bool
     ensures { λ r. ⌜ r ≡ isPrefix k ⌝ }
 {
     (k == opcode::NOT) | (k == opcode::COMPLEMENT)
-}
-
-pub fn is_literal(k: u8) -> bool
-    ensures { λ r. ⌜ r ≡ isLiteral k ⌝ }
-{
-    (lexer::INT32 <= k) & (k <= lexer::TEXT)
-}
-
-// What is known of a literal or a name.
-pub fn leaf(text: &[u8], kinds: &[u8], starts: &[u16], at: usize) -> Found
-    ensures { λ r. ⌜ r ≡ foundOf (leafTree (tokenAt (tokensIn (now (text .entry)) (now (kinds .entry)) (now (starts .entry))) at)) ⌝ }
-{
-    let k = kind(kinds, at);
-    let s = start(starts, at);
-    if k == lexer::NAME {
-        return found::leaf(k, lexer::name_length(text, s));
-    }
-    if k == lexer::TEXT {
-        return found::leaf(k, lexer::string_length(text, s));
-    }
-    found::leaf(k, 0)
 }
 
 // The op of the function that the name at a place of the text calls, 0 if there is none.

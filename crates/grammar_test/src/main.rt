@@ -1,7 +1,11 @@
-// Judges the texts of standard input: prints the number and place of refusal 1, 3, 10, 6, 2, 4 or 5, or `0` and the entries, pool bytes and slots of the code.
-use grammar::Parsed;
-use lexer::Lexing;
+// Judges the texts of standard input: prints the number and place of refusal 1, 3, 10, 6, 2, 4, 18, 5 or 7, or `0` and the entries, pool bytes and slots of the code.
+ghost use Rattle.postfix.specs.Answer.{Ready};
 use libc::STDOUT_FILENO;
+use postfix::Judged;
+use postfix::Parsed;
+use translator::read;
+use translator::read::Reading;
+use translator::write;
 
 fn put_number(n: u64) {
     io::print_decimal(STDOUT_FILENO, n);
@@ -14,67 +18,58 @@ fn put_refusal(number: u64, place: usize) {
     io::write_all(STDOUT_FILENO, b"\n");
 }
 
-fn wide(x: u16) -> usize {
-    x as usize
-}
-
-fn put_place(text: &[u8], starts: &[u16], p: usize) {
-    if p < starts.len() {
-        put_refusal(2, wide(starts[p]));
-    } else {
-        put_refusal(2, text.len());
-    }
-}
-
-fn judge(text: &[u8], kinds: &[u8], starts: &[u16]) {
-    if grammar::too_deep(kinds) {
-        put_refusal(6, 0);
+fn put_sizes(sizes: &[u16], codes: &[u16], count: usize) {
+    if 512 < codes.len() {
         return;
     }
-    if 4096 < text.len() {
+    if 4096 < count {
         return;
     }
-    if 4096 < kinds.len() {
-        return;
-    }
-    match grammar::parse(text, kinds, starts) {
-        Parsed::Broken(p) => put_place(text, starts, p),
-        Parsed::Whole(_, found) => {
-            if !found.forms {
-                put_refusal(4, 0);
-                return;
-            }
-            if !found.patterns {
-                put_refusal(18, 0);
-                return;
-            }
-            if !(found.kinds & found.logic) {
-                put_refusal(5, 0);
-                return;
-            }
-            put_number(0);
-            put_number(found.entries as u64);
-            put_number(found.pool as u64);
-            put_number(found.depth as u64);
-            io::write_all(STDOUT_FILENO, b"\n");
-        }
-    }
+    put_number(0);
+    put_number(codes.len() as u64);
+    put_number(write::pool_length(sizes, count) as u64);
+    put_number(write::depth(codes) as u64);
+    io::write_all(STDOUT_FILENO, b"\n");
 }
 
-fn tokens(text: &[u8], n: usize, kinds: &[u8], starts: &[u16]) {
-    if n <= kinds.len() {
-        if n <= starts.len() {
-            judge(text, &kinds[0..n], &starts[0..n]);
-        }
+fn put_judged(sizes: &[u16], codes: &[u16], count: usize, patterns: bool, j: Judged) {
+    if !j.forms {
+        put_refusal(4, 0);
+        return;
+    }
+    if !patterns {
+        put_refusal(18, 0);
+        return;
+    }
+    if !(j.kinds & j.logic) {
+        put_refusal(5, 0);
+        return;
+    }
+    let n = j.entries;
+    if codes.len() < n {
+        put_refusal(7, 0);
+        return;
+    }
+    put_sizes(sizes, &codes[0..n], count);
+}
+
+fn judge(text: &[u8], marks: &[u8], sizes: &[u16], count: usize, patterns: bool)
+    requires { ⌜ Ready (now marks) 0 0 ⌝ }
+{
+    let mut codes = [0u16; 512];
+    match postfix::parse(marks, &mut codes) {
+        Parsed::Broken(p) => put_refusal(2, read::place(text, p)),
+        Parsed::Whole(j) => put_judged(sizes, &codes, count, patterns, j),
     }
 }
 
 fn lexed(text: &[u8]) {
-    let mut kinds = [0u8; 4096];
-    let mut starts = [0u16; 4096];
-    match lexer::lex(text, &mut kinds, &mut starts) {
-        Lexing::Refused(number, place) => put_refusal(number as u64, place),
-        Lexing::Tokens(n) => tokens(text, n, &kinds, &starts),
+    let mut marks = [0u8; 4096];
+    let mut places = [0u16; 512];
+    let mut sizes = [0u16; 512];
+    match read::read(text, &mut marks, &mut places, &mut sizes) {
+        Reading::Refused(number, place) => put_refusal(number as u64, place),
+        Reading::Tokens(n, count, patterns) => judge(text, &marks[0..n], &sizes, count, patterns),
     }
 }
 

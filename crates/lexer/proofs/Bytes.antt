@@ -1,7 +1,7 @@
 -- Bytes in a range, the bytes that most names have, and the values of digits. Assumes nothing.
-use mathlib.Core.Path.{_≡_, refl, sym}
+use mathlib.Core.Path.{_≡_, refl, sym, _∙_}
 use mathlib.Core.Logic.{_⊎_, inl, inr}
-use mathlib.Core.Bool.{Bool, true, false}
+use mathlib.Core.Bool.{Bool, true, false, _||_}
 use Prim.Native.Nat.{ℕ, _+_, _-_, _≤_, _<_}
 use native.Mathlib.Omega.{arith}
 use lib.Dec.{eqb, leb, lit<}
@@ -46,6 +46,13 @@ module _ (b : ℕ) (e : isCommon b ≡ true) where
       let high = le-leb b 126 (common-bound .1) in
       rw (low, high, ne-eqb b 91 (common-bound .2), ne-eqb b 93 (common-bound .4), above 39 (lit< tt), above 34 (lit< tt))
 
+pub low-common : (b : ℕ) → 94 ≤ b → b ≤ 126 → isCommon b ≡ true
+low-common b h k = rw (le-leb 94 b h, le-leb b 126 k) (go (within 45 90 b))
+  where
+    go : (x : Bool) → (x || true) ≡ true
+    go true = refl
+    go false = refl
+
 -- a digit of each of the three ranges, and none
 abbrev Digit : ℕ → ℕ → Type 0
 Digit b v = (v ≡ digitOf b) × (v ≤ 16)
@@ -71,3 +78,9 @@ module _ (b : ℕ) where
       go false e true f r g = rw (e, f) (sym (le-ltb (b - 97 + 10) 10 (omega arith)))
       go false e false f true g = rw (e, f, g) (sym (le-ltb (b - 65 + 10) 10 (omega arith)))
       go false e false f false g = rw (e, f, g)
+
+-- a digit is a byte that most names have
+pub digit-common : (b : ℕ) → isDigitIn 10 b ≡ true → isCommon b ≡ true
+digit-common b e =
+    let r = range 48 57 b (decimal b ∙ e) in
+    rw (le-leb 45 b (omega arith), le-leb b 90 (omega arith))

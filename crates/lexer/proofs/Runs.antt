@@ -1,20 +1,20 @@
 -- Steps and ends of the loops over runs: what the rest gives from a place on is what the whole gives. Assumes nothing.
 use mathlib.Core.Path.{_≡_, refl, sym, ap, _∙_}
 use mathlib.Core.Bool.{Bool, true, false, not, _&&_, and-false, and-assoc}
-use mathlib.Core.List.{List, [], _∷_, _++_}
+use mathlib.Core.List.{List, [], _∷_, _++_, append-nil}
 use Prim.Native.Nat.{ℕ, zero, suc, _+_, _-_, _≤_, _<_}
 use native.Mathlib.Nat.{add-zero}
 use native.Mathlib.Numerals.{add-one}
 use native.Mathlib.Omega.{arith}
 use lib.Dec.{eqb, ltb}
 use lib.ListN.{length, getD, take, drop, set, drop-of-length-le, length-drop, length-append, List·getD-eq-default}
-use lib.Seq.{drop-cons, getD-drop, sets, take-all, take-append-seam, drop-length}
-use borrow.Author.Tests.{eq-eqb, ne-eqb, ltb-true, eqb-false}
+use lib.Seq.{length-take-le, take-suc, drop-cons, append-snoc, drop-drop, getD-drop, sets, take-all, take-append-seam, drop-length}
+use borrow.Author.Tests.{eq-eqb, ne-eqb, ltb-true, eqb-true, eqb-false}
 use Rattle.common.proofs.Choice.{true-false, false-true}
 use Rattle.octets.specs.Octets.{folded, sameOf}
 use Rattle.octets.proofs.Theorems.{same, same-refl, not-folded}
-use Rattle.lexer.specs.Byte.{is, isCommon}
-use Rattle.lexer.specs.Run.{takes, ends, runFrom, unescaped, Free, hasEscape, legalByte, legalName, GoesOn}
+use Rattle.lexer.specs.Byte.{is, isDelimiter, isCommon}
+use Rattle.lexer.specs.Run.{takes, ends, runFrom, unescaped, Free, hasEscape, legalByte, legalName, Passes, GoesOn, isEmpty}
 use Rattle.lexer.proofs.Bytes.{common-ends-none, common-takes-none, common-plain}
 
 -- a place past the end
@@ -76,16 +76,25 @@ module _ (s : List ℕ) (i : ℕ) where
     pub free-more : (q : ℕ) → ends q (getD s i 0) ≡ false → (getD s i 0 ≡ 92 → ⊥) → Free q s i → Free q s (i + 1)
     free-more q e f g = let k = kept q false e (ne-eqb (getD s i 0) 92 f) in (omega arith, omega (arith, ap length k, g .1))
 
+    pub passes-on : (q : ℕ) → ends q (getD s i 0) ≡ false → eqb (getD s i 0) 92 ≡ false → Passes q s i → Passes q s (i + 1)
+    passes-on q e f p =
+        let b = getD s i 0 in
+        let more = unescaped false (runFrom q false (drop (i + 1) s)) in
+        let m = rw f at (run-more q false e) in
+        let z : take (i + 1) s ≡ take i s ++ (b ∷ []) = rw (add-one i) (take-suc s i 0 h) in (
+          omega arith,
+          omega (arith, m, p .1),
+          ap (λ (l : List ℕ). l ++ more) z ∙ append-snoc (take i s) b more ∙ ap (λ (l : List ℕ). take i s ++ l) (kept q false e f) ∙ p .2,
+        )
+
     -- a common byte of a name
     pub goes-on : isCommon (getD s i 0) ≡ true → GoesOn s i → GoesOn s (i + 1)
     goes-on e g =
         let b = getD s i 0 in
         let d : (not false && ends 0 b) ≡ false = common-ends-none b e in
         let t : takes false b ≡ false = common-takes-none b e in
-        let m = rw t at (run-more 0 false d) in
-        let k = kept 0 false d t in
         let l = rw (common-plain b e) at (legal-so-far 0 false d true false t) in
-        (omega arith, omega (arith, m, g .1), omega (arith, ap length k, g .2), l ∙ g .3)
+        (passes-on 0 d t (g .0), l ∙ g .1)
 
     pub legal-stop : (q : ℕ) (t : Bool) → (not t && ends q (getD s i 0)) ≡ true → legalName t (runFrom q t (drop i s)) ≡ not t
     legal-stop q t e = rw (drop-cons s i 0 h, e)
@@ -102,6 +111,77 @@ module _ (s : List ℕ) (i : ℕ) where
 
     pub legal-end : (q : ℕ) (t : Bool) → legalName t (runFrom q t (drop i s)) ≡ not t
     legal-end q t = rw (drop-of-length-le s h)
+
+-- A text from a place on: the byte there, what stands after more bytes, and a byte there.
+pub byte-here : (s : List ℕ) (at : ℕ) → getD (drop at s) 0 0 ≡ getD s at 0
+byte-here s at = getD-drop at s 0 0 ∙ ap (λ (k : ℕ). getD s k 0) (add-zero at)
+
+module _ (s : List ℕ) (at i : ℕ) (h : at ≤ i) where
+  between : at + (i - at) ≡ i
+  between = omega arith
+
+  pub rest-later : drop (i - at) (drop at s) ≡ drop i s
+  rest-later = drop-drop (i - at) at s ∙ ap (λ (k : ℕ). drop k s) between
+
+  pub byte-later : getD (drop at s) (i - at) 0 ≡ getD s i 0
+  byte-later = getD-drop at s (i - at) 0 ∙ ap (λ (k : ℕ). getD s k 0) between
+
+  pub goes-on-at : i < length s → isCommon (getD s i 0) ≡ true → GoesOn (drop at s) (i - at) → GoesOn (drop at s) (i + 1 - at)
+  goes-on-at l e g =
+      let z : i - at + 1 ≡ i + 1 - at = omega arith in
+      let b : i - at < length (drop at s) = simp length-drop (omega arith) in
+      rw (← z) (goes-on (drop at s) (i - at) b (ap isCommon byte-later ∙ e) g)
+
+  pub passes-on-at : (q : ℕ) → i < length s → ends q (getD s i 0) ≡ false → eqb (getD s i 0) 92 ≡ false → Passes q (drop at s) (i - at) → Passes q (drop at s) (i + 1 - at)
+  passes-on-at q l e f p =
+      let z : i - at + 1 ≡ i + 1 - at = omega arith in
+      let b : i - at < length (drop at s) = simp length-drop (omega arith) in
+      rw (← z) (passes-on (drop at s) (i - at) b q (ap (ends q) byte-later ∙ e) (ap (λ (b : ℕ). eqb b 92) byte-later ∙ f) p)
+
+pub passes-first : (q : ℕ) (s : List ℕ) → Passes q s 0
+passes-first q s = (omega arith, omega arith, refl)
+
+-- how many bytes there are without escapes
+pub passes-length : (q : ℕ) (s : List ℕ) (n : ℕ) → Passes q s n → n + length (unescaped false (runFrom q false (drop n s))) ≡ length (unescaped false (runFrom q false s))
+passes-length q s n p =
+    omega (arith, ap length (p .2), length-append (take n s) (unescaped false (runFrom q false (drop n s))), length-take-le n s (p .0))
+
+-- where nothing of a run is left
+pub none-left : (l : List ℕ) → length l ≡ 0 → l ≡ []
+none-left [] e = refl
+none-left (b ∷ l) e = absurd (omega arith)
+
+pub empty : (l : List ℕ) → isEmpty l ≡ true → length l ≡ 0
+empty l e = eqb-true (length l) 0 e
+
+pub passes-all : (q : ℕ) (s : List ℕ) (n : ℕ) → Passes q s n → length (runFrom q false (drop n s)) ≡ 0
+    → (n ≡ length (runFrom q false s)) × (take n s ≡ unescaped false (runFrom q false s)) × (n ≡ length (unescaped false (runFrom q false s)))
+passes-all q s n p e =
+    let z = none-left (runFrom q false (drop n s)) e in
+    let h = rw z at (p .2) in
+    let u = rw z at (passes-length q s n p) in
+    (omega (arith, e, p .1), sym (append-nil (take n s)) ∙ h, omega (arith, u))
+
+pub ends-here : (s : List ℕ) (i : ℕ) → i < length s → isDelimiter (getD s i 0) ≡ isEmpty (runFrom 0 false (drop i s))
+ends-here s i h = rw (drop-cons s i 0 h) (go (isDelimiter (getD s i 0)) refl)
+  where
+    go : (e : Bool) → isDelimiter (getD s i 0) ≡ e → isDelimiter (getD s i 0) ≡ isEmpty (runFrom 0 false (getD s i 0 ∷ drop (suc i) s))
+    go true e = rw e
+    go false e =
+        let b = getD s i 0 in
+        rw e (sym (ne-eqb (length (b ∷ runFrom 0 (takes false b) (drop (suc i) s))) 0 (λ z. omega arith)))
+
+pub ends-past : (s : List ℕ) (i : ℕ) → length s ≤ i → true ≡ isEmpty (runFrom 0 false (drop i s))
+ends-past s i h = rw (drop-of-length-le s h)
+
+pub ended-name : (s : List ℕ) (n : ℕ) → GoesOn s n → isEmpty (runFrom 0 false (drop n s)) ≡ true
+    → (n ≡ length (runFrom 0 false s)) × (n ≡ length (unescaped false (runFrom 0 false s))) × (legalName false (runFrom 0 false s) ≡ true)
+ended-name s n g e =
+    let l = empty (runFrom 0 false (drop n s)) e in
+    let w = passes-all 0 s n (g .0) l in
+    let z = none-left (runFrom 0 false (drop n s)) l in
+    let h = rw z at (g .1) in
+    (w .0, w .2, sym h)
 
 -- what stands first
 abbrev pub First : List ℕ → List ℕ → Type 0

@@ -3,28 +3,30 @@ use mathlib.Core.Path.{_≡_, refl, sym, ap, _∙_}
 use mathlib.Core.Logic.{_⊎_, inl, inr}
 use mathlib.Core.Bool.{Bool, true, false, not, cond, _&&_, _||_}
 use mathlib.Core.List.{List, [], _∷_}
-use Prim.Native.Nat.{ℕ, _+_, _≤_, _<_}
+use Prim.Native.Nat.{ℕ, suc, _+_, _-_, _≤_, _<_}
 use native.Mathlib.Decide.{decLe}
 use native.Mathlib.Omega.{arith}
 use lib.Dec.{eqb, leb}
 use lib.IntN.{ℤ}
 use lib.ListN.{length, getD, drop, length-drop, List·getD-eq-default}
-use borrow.Author.Tests.{leb-true, eqb-true, eqb-false, ne-eqb, eq-eqb}
+use lib.Seq.{length-take-le, drop-cons, drop-drop, drop-length}
+use borrow.Author.Tests.{leb-true, lt-ltb, eqb-true, eqb-false, ne-eqb, eq-eqb}
 use Rattle.common.specs.Choice.{pick}
 use Rattle.common.proofs.Choice.{false-true}
 use Rattle.octets.proofs.Theorems.{and-parts}
-use Rattle.lexer.specs.Byte.{startsName, startsNumber, isQuote}
-use Rattle.lexer.specs.Run.{runOf, unescaped, takes, hasEscape, legalName, nameFits, bodyOf, isEmpty, isClosed}
-use Rattle.lexer.specs.Digits.{signLength}
+use Rattle.lexer.specs.Byte.{within, startsName, startsNumber, isQuote}
+use Rattle.lexer.specs.Run.{runOf, unescaped, Passes, takes, hasEscape, legalName, nameFits, bodyOf, isEmpty, isClosed}
+use Rattle.lexer.specs.Digits.{isMinus, signLength, digitsOf, wholeOf, capped}
 use Rattle.lexer.specs.Integer.{baseOf, prefixLength, integerDigits, suffixAt, isLong, isInteger, integerFits, integerOf}
 use Rattle.lexer.specs.Real.{wholeDigits, fromPoint, fractionDigits, exponentPart, isExponent, isReal, realFits, realOf}
 use Rattle.lexer.specs.Symbol.{threeBytes, twoBytes, symbolOf, symbolLength}
-use Rattle.lexer.specs.Token.{Token, name, int32, int64, real, text, symbol, kindOf, Scan, good, bad, judged, scanName, integerToken, scanInteger, scanRun, scanNumber, scanString, scanBytes, scanSymbol, scanOf}
+use Rattle.lexer.specs.Token.{Token, name, int32, int64, real, text, symbol, kindOf, Scan, good, bad, judged, scanName, integerToken, scanInteger, scanRun, scanNumber, scanString, scanBytes, scanSymbol, scanOf, stringAt}
 use Rattle.lexer.specs.Theorems.{StartsNoOther}
-use Rattle.lexer.specs.Answer.{scannedOf}
+use Rattle.lexer.specs.Answer.{scannedOf, Stand}
 use Rattle.lexer.specs.declared.Scanned.the-variants.{Good, Bad}
-use Rattle.lexer.proofs.Runs.{first-fits, run-first}
-use Rattle.lexer.proofs.Wholes.{digits-fit}
+use Rattle.lexer.proofs.Bytes.{range}
+use Rattle.lexer.proofs.Runs.{ends-quote, run-stop, run-end, byte-here, rest-later, passes-all, first-fits, run-first}
+use Rattle.lexer.proofs.Wholes.{digits-fit, digits-run, digits-again, first-digit}
 
 pub pick-yes : {A : Type 0} (b : Bool) (x y : Unit {0} → A) → b ≡ true → pick b x y ≡ x tt
 pick-yes b x y e = rw e
@@ -128,6 +130,54 @@ module _ (run : List ℕ) where
       kind-of : (b : Bool) → b ≡ false → 1 ≡ kindOf (cond b (int64 (integerOf run)) (int32 (integerOf run)))
       kind-of b e = rw e
 
+-- decimal digits alone that do not start with `0`
+module _ (run : List ℕ) (all : digitsOf 10 run ≡ run) (m : isMinus run ≡ false) (z : eqb (getD run 0 0) 48 ≡ false) (h : 0 < length run) where
+  no-point : isReal run ≡ false
+  no-point =
+      let p : getD (fromPoint run) 0 0 ≡ 0 = rw (m, all, drop-length run) in
+      let e : eqb (getD (fromPoint run) 0 0) 46 ≡ false = rw p in
+      cut (not (isEmpty (wholeDigits run))) (eqb (getD (fromPoint run) 0 0) 46) (not (isEmpty (fractionDigits run))) (isEmpty (exponentPart run) || isExponent (exponentPart run)) e
+    where
+      cut : (a b c d : Bool) → b ≡ false → (a && b && c && d) ≡ false
+      cut true b c d e = rw e
+      cut false b c d e = refl
+
+  digits-all : integerDigits run ≡ run
+  digits-all = rw (m, z) all
+
+  at-end : suffixAt run ≡ length run
+  at-end = rw (m, z, all) (omega arith)
+
+  no-suffix : isLong run ≡ false
+  no-suffix = let g : getD run (suffixAt run) 0 ≡ 0 = rw at-end (List·getD-eq-default run 0 (omega arith)) in rw g
+
+  right-form : isInteger run ≡ true
+  right-form =
+      let l : length (drop (suffixAt run) run) ≡ 0 = length-drop (suffixAt run) run ∙ omega (arith, at-end) in
+      let i : isEmpty (integerDigits run) ≡ false = rw digits-all (ne-eqb (length run) 0 (λ y. omega arith)) in
+      rw (no-suffix, i, l)
+
+  in-limits : wholeOf 10 run < 2147483648 → integerFits run ≡ true
+  in-limits v = rw (no-suffix, m, z, all) (lt-ltb (wholeOf 10 run) 2147483648 v)
+
+  digits-only : wholeOf 10 run < 2147483648 → Good 1 (length run) ≡ scannedOf (scanRun run)
+  digits-only v = short-legal run right-form (in-limits v) no-suffix ∙ ap scannedOf (sym (scan-integer run no-point))
+
+pub plain-number : (s : List ℕ) (at e v : ℕ) → at < length s → e ≡ at + length (digitsOf 10 (drop at s)) → v ≡ capped (wholeOf 10 (digitsOf 10 (drop at s)))
+    → within 49 57 (getD s at 0) ≡ true → v < 2147483648 → isEmpty (runOf 0 (drop e s)) ≡ true → Good 1 (e - at) ≡ scannedOf (scanNumber (drop at s))
+plain-number s at e v h d w b l n =
+    let t = drop at s in
+    let run = digitsOf 10 t in
+    let x = getD s at 0 in
+    let y = range 49 57 x b in
+    let k : drop (length run) t ≡ drop e s = drop-drop (length run) at s ∙ ap (λ (k : ℕ). drop k s) (sym d) in
+    let r : runOf 0 t ≡ run = digits-run t (ap (λ l. isEmpty (runOf 0 l)) k ∙ n) in
+    let f : (getD run 0 0 ≡ x) × (0 < length run) = rw (drop-cons s at 0 h) (first-digit x (drop (suc at) s) b) in
+    let i : e - at ≡ length run = omega (arith, d) in
+    let m : isMinus run ≡ false = rw (f .0) (ne-eqb x 45 (λ q. omega (arith, y .0))) in
+    let o : eqb (getD run 0 0) 48 ≡ false = rw (f .0) (ne-eqb x 48 (λ q. omega (arith, y .0))) in
+    ap (λ (k : ℕ). Good 1 k) i ∙ digits-only run (digits-again 10 t) m o (f .1) (omega (arith, w, l)) ∙ ap (λ l. scannedOf (scanRun l)) (sym r)
+
 -- What stands first is judged by its form and its limits, whatever its class; it is no symbol, or the text starts nothing else.
 abbrev pub isSymbol : Token → Bool
 isSymbol (name bytes escaped) = false
@@ -186,6 +236,49 @@ module _ (s : List ℕ) where
   string-legal f =
       let z : isClosed s ≡ true = rw (ne-eqb (length (drop (length (bodyOf s) + 1) s)) 0 f) in
       legal (isClosed s) true (text (unescaped false (bodyOf s))) (length (bodyOf s) + 2) z refl
+
+pub quote-some : (q : ℕ) → isQuote q ≡ true → q ≡ 0 → ⊥
+quote-some q e z = false-true (rw z at e)
+
+-- a string in a text, by where its bytes without a quote and a backslash end
+module _ (s : List ℕ) (at e : ℕ) (h : at < length s) (l : at + 1 ≤ e) (p : Passes (getD s at 0) (drop (at + 1) s) (e - (at + 1))) where
+  body-at : bodyOf (drop at s) ≡ runOf (getD s at 0) (drop (at + 1) s)
+  body-at = rw (byte-here s at, drop-drop 1 at s)
+
+  body-length : length (runOf (getD s at 0) (drop e s)) ≡ 0 → length (bodyOf (drop at s)) ≡ e - (at + 1)
+  body-length z =
+      let none : length (runOf (getD s at 0) (drop (e - (at + 1)) (drop (at + 1) s))) ≡ 0 = rw (rest-later s (at + 1) e l) z in
+      rw body-at (sym (passes-all (getD s at 0) (drop (at + 1) s) (e - (at + 1)) p none .0))
+
+  left : length (drop (length (bodyOf (drop at s)) + 1) (drop at s)) ≡ length s - at - (length (bodyOf (drop at s)) + 1)
+  left = simp length-drop refl
+
+  pub string-unclosed : length s ≤ e → Bad 1 ≡ scannedOf (scanString (drop at s))
+  string-unclosed m =
+      let b = body-length (run-end s e m (getD s at 0) false) in
+      string-open (drop at s) (omega (arith, b, left, p .0, length-drop (at + 1) s))
+
+  pub string-closed : e < length s → (getD s at 0 ≡ 0 → ⊥) → getD s e 0 ≡ getD s at 0 → Good 4 (e - at + 1) ≡ scannedOf (scanString (drop at s))
+  string-closed m f z =
+      let q = getD s at 0 in
+      let b = body-length (run-stop s e m q false (sym (ends-quote q (getD s e 0) f) ∙ eq-eqb (getD s e 0) q z)) in
+      let n : e - at + 1 ≡ length (bodyOf (drop at s)) + 2 = omega (arith, b) in
+      ap (λ (k : ℕ). Good 4 k) n ∙ string-legal (drop at s) (λ y. omega (arith, b, left, y))
+
+  -- its bytes stand between the quotes
+  pub string-stands : e < length s → (getD s at 0 ≡ 0 → ⊥) → getD s e 0 ≡ getD s at 0 → Stand s (at + 1) (e - at - 1) (stringAt s at)
+  string-stands m f z =
+      let q = getD s at 0 in
+      let k : e - (at + 1) ≡ e - at - 1 = omega arith in
+      let none : length (runOf q (drop (e - (at + 1)) (drop (at + 1) s))) ≡ 0 =
+      rw (rest-later s (at + 1) e l) (run-stop s e m q false (sym (ends-quote q (getD s e 0) f) ∙ eq-eqb (getD s e 0) q z)) in
+      let w = passes-all q (drop (at + 1) s) (e - (at + 1)) p none .1 in
+      (omega arith, rw (← k) (w ∙ ap (unescaped false) (sym body-at)))
+
+pub stand-length : (s : List ℕ) (at n : ℕ) (bytes : List ℕ) → Stand s at n bytes → n ≡ length bytes
+stand-length s at n bytes p =
+    let h : n ≤ length (drop at s) = simp length-drop (omega (arith, p .0)) in
+    omega (arith, ap length (p .1), length-take-le n (drop at s) h)
 
 module _ (a b c : ℕ) where
   pub symbol-none : symbolOf a b c ≡ 0 → Bad 1 ≡ scannedOf (scanBytes a b c)
@@ -273,7 +366,7 @@ string-fit s =
     (λ e f. (omega arith, omega (arith, not-empty (drop (length (bodyOf s) + 1) s) e, length-drop (length (bodyOf s) + 1) s)))
 
 -- a byte that is not 0 is there
-is-there : (s : List ℕ) (i : ℕ) → (getD s i 0 ≡ 0 → ⊥) → i < length s
+pub is-there : (s : List ℕ) (i : ℕ) → (getD s i 0 ≡ 0 → ⊥) → i < length s
 is-there s i f = go (decLe (length s) i)
   where
     go : Dec (length s ≤ i) → i < length s

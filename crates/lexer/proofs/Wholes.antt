@@ -1,5 +1,5 @@
 -- Digits that stand first, and the whole numbers that they form. Assumes nothing.
-use mathlib.Core.Path.{_≡_, refl, ap, _∙_}
+use mathlib.Core.Path.{_≡_, refl, sym, ap, _∙_}
 use mathlib.Core.Bool.{Bool, true, false}
 use mathlib.Core.List.{List, [], _∷_}
 use Prim.Native.Nat.{ℕ, _+_, _-_, _*_, _/_, _≤_, _<_}
@@ -9,11 +9,13 @@ use native.Mathlib.Numerals.{add-one}
 use native.Mathlib.Omega.{arith}
 use lib.ListN.{length, getD, drop, drop-of-length-le, length-drop}
 use lib.Seq.{drop-cons}
-use borrow.Author.Tests.{lt-ltb, le-ltb}
-use Rattle.lexer.specs.Byte.{digitOf, isDigitIn}
+use borrow.Author.Tests.{le-leb, lt-ltb, le-ltb}
+use Rattle.lexer.specs.Byte.{within, digitOf, isDigitIn}
+use Rattle.lexer.specs.Run.{runFrom, isEmpty}
 use Rattle.lexer.specs.Digits.{signLength, digitsOf, wholeFrom, capped}
 use Rattle.lexer.specs.Integer.{isHex, baseOf, prefixLength}
-use Rattle.lexer.proofs.Runs.{First, first-fits}
+use Rattle.lexer.proofs.Bytes.{range, common-ends-none, common-takes-none, decimal, digit-common}
+use Rattle.lexer.proofs.Runs.{none-left, empty, First, first-fits}
 
 module _ (s : List ℕ) (i base : ℕ) where
   pub digits-stop : i < length s → base ≤ digitOf (getD s i 0) → digitsOf base (drop i s) ≡ []
@@ -91,3 +93,31 @@ decimal-prefix run e = go (isHex run) refl
     go : (b : Bool) → isHex run ≡ b → prefixLength run ≡ signLength run
     go true f = let z = rw f at e in absurd (omega (arith, z))
     go false f = rw f (omega arith)
+
+-- Digits are all of a run where nothing of it is left after them.
+pub digits-run : (s : List ℕ) → isEmpty (runFrom 0 false (drop (length (digitsOf 10 s)) s)) ≡ true → runFrom 0 false s ≡ digitsOf 10 s
+digits-run [] e = refl
+digits-run (b ∷ s) e = go (digits-run s) (isDigitIn 10 b) refl
+  where
+    go : (isEmpty (runFrom 0 false (drop (length (digitsOf 10 s)) s)) ≡ true → runFrom 0 false s ≡ digitsOf 10 s)
+        → (x : Bool) → isDigitIn 10 b ≡ x → runFrom 0 false (b ∷ s) ≡ digitsOf 10 (b ∷ s)
+    go ih true f =
+        let c = digit-common b f in
+        let g = rw f at e in
+        rw (f, common-ends-none b c, common-takes-none b c) (ap (λ (l : List ℕ). b ∷ l) (ih g))
+    go ih false f = let g = rw f at e in rw f (none-left (runFrom 0 false (b ∷ s)) (empty (runFrom 0 false (b ∷ s)) g))
+
+pub digits-again : (base : ℕ) (s : List ℕ) → digitsOf base (digitsOf base s) ≡ digitsOf base s
+digits-again base [] = refl
+digits-again base (b ∷ s) = go (digits-again base s) (isDigitIn base b) refl
+  where
+    go : digitsOf base (digitsOf base s) ≡ digitsOf base s → (x : Bool) → isDigitIn base b ≡ x → digitsOf base (digitsOf base (b ∷ s)) ≡ digitsOf base (b ∷ s)
+    go ih true e = rw (e, e) (ap (λ (l : List ℕ). b ∷ l) ih)
+    go ih false e = rw e
+
+-- the first of them, which is not `0`
+pub first-digit : (b : ℕ) (s : List ℕ) → within 49 57 b ≡ true → (getD (digitsOf 10 (b ∷ s)) 0 0 ≡ b) × (0 < length (digitsOf 10 (b ∷ s)))
+first-digit b s e =
+    let r = range 49 57 b e in
+    let f : isDigitIn 10 b ≡ true = sym (decimal b) ∙ rw (le-leb 48 b (omega arith), le-leb b 57 (r .1)) in
+    rw f (refl, omega arith)

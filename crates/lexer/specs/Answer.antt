@@ -1,8 +1,8 @@
 -- What the code answers, by the definitions.
-use Prim.Native.Nat.{ℕ, _+_}
+use Prim.Native.Nat.{ℕ, _+_, _≤_}
 use mathlib.Core.Path.{_≡_}
 use mathlib.Core.List.{List}
-use lib.ListN.{length, drop}
+use lib.ListN.{length, take, drop}
 use Rattle.lexer.specs.Digits.{digitsOf, wholeFrom, capped}
 use Rattle.lexer.specs.Token.{Scan, good, bad, kindOf, Lexed, tokens, refused}
 use Rattle.lexer.specs.declared.digits.Numeral.{Numeral}
@@ -34,3 +34,7 @@ scannedOf (bad k) = Bad k
 abbrev pub Reads : ℕ → ℕ → ℕ → List ℕ → Numeral → Type 0
 Reads base high at s n =
     (n .end ≡ at + length (digitsOf base (drop at s))) × (n .value ≡ capped (wholeFrom base high (digitsOf base (drop at s))))
+
+-- bytes that stand in s from a place on, so many
+abbrev pub Stand : List ℕ → ℕ → ℕ → List ℕ → Type 0
+Stand s at n bytes = (at + n ≤ length s) × (take n (drop at s) ≡ bytes)

@@ -3,9 +3,9 @@
 use Prim.Native.Nat.{ℕ, zero, suc, _+_, _≤_}
 use mathlib.Core.Path.{_≡_}
 use mathlib.Core.Bool.{Bool, true, false, not, cond, _&&_, _||_}
-use mathlib.Core.List.{List, [], _∷_}
+use mathlib.Core.List.{List, [], _∷_, _++_}
 use lib.Dec.{eqb}
-use lib.ListN.{length, getD, drop}
+use lib.ListN.{length, getD, take, drop}
 use Rattle.lexer.specs.Byte.{is, within, isDelimiter, isPlain}
 
 -- "A backslash takes the next byte": a byte is such a backslash if it is not taken itself
@@ -34,6 +34,13 @@ unescaped taken (b ∷ s) = cond (takes taken b) (unescaped true s) (b ∷ unesc
 abbrev pub Free : ℕ → List ℕ → ℕ → Type 0
 Free quote s n = (n ≤ length s) × (n + length (unescaped false (runOf quote (drop n s))) ≡ length (unescaped false (runOf quote s)))
 
+-- Inside the code: the first n bytes of s end nothing and take nothing. The run that stands first is these and what is left of it, with and without escapes.
+abbrev pub Passes : ℕ → List ℕ → ℕ → Type 0
+Passes quote s n =
+    (n ≤ length s)
+    × (n + length (runOf quote (drop n s)) ≡ length (runOf quote s))
+    × (take n s ++ unescaped false (runOf quote (drop n s)) ≡ unescaped false (runOf quote s))
+
 -- whether there is an escape: the first backslash is one
 abbrev pub hasEscape : List ℕ → Bool
 hasEscape [] = false
@@ -48,13 +55,9 @@ abbrev pub legalName : Bool → List ℕ → Bool
 legalName taken [] = not taken
 legalName taken (b ∷ s) = legalByte taken b && legalName (takes taken b) s
 
--- Inside the code: the name that stands first in s has n bytes more than what is left of it after n bytes, with and without escapes, and is as legal.
+-- Inside the code: the name that stands first in s is as legal as what is left of it after n bytes, which end nothing and take nothing.
 abbrev pub GoesOn : List ℕ → ℕ → Type 0
-GoesOn s n =
-    (n ≤ length s)
-    × (n + length (runOf 0 (drop n s)) ≡ length (runOf 0 s))
-    × (n + length (unescaped false (runOf 0 (drop n s))) ≡ length (unescaped false (runOf 0 s)))
-    × (legalName false (runOf 0 (drop n s)) ≡ legalName false (runOf 0 s))
+GoesOn s n = Passes 0 s n × (legalName false (runOf 0 (drop n s)) ≡ legalName false (runOf 0 s))
 
 -- "After removing escapes 1..64 bytes."
 abbrev pub nameFits : List ℕ → Bool

@@ -81,5 +81,8 @@ fn is_decimal(b: u8) -> bool
 pub fn starts_number(a: u8, b: u8) -> bool
     ensures { λ r. ⌜ r ≡ startsNumber a b ⌝ }
 {
-    is_decimal(a) | ((a == b'-') & is_decimal(b))
+    if a == b'-' {
+        return is_decimal(b);
+    }
+    is_decimal(a)
 }

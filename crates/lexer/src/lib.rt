@@ -1,11 +1,14 @@
 // Tokens. Document 01, "Tokens", and "Refusals by number", 10, 1 and 3.
 ghost use mathlib.Core.Path.{_≡_};
-ghost use Prim.Native.Nat.{_≤_};
-ghost use lib.ListN.{length};
+ghost use mathlib.Core.Bool.{true};
+ghost use Prim.Native.Nat.{_+_, _-_, _≤_, _<_};
+ghost use lib.ListN.{length, getD, drop};
 ghost use lib.Seq.{sets};
+ghost use Rattle.lexer.specs.Byte.{isQuote};
+ghost use Rattle.lexer.specs.Run.{GoesOn};
 ghost use Rattle.lexer.specs.Digits.{signLength};
 ghost use Rattle.lexer.specs.Token.{scanName, scanInteger, scanNumber, scanString, scanSymbol, scanOf, tokensOf, kindsOf, startsOf, nameAt, escapedAt, nameIs, stringAt, integerAt, realAt};
-ghost use Rattle.lexer.specs.Answer.{lexingOf, scannedOf, Reads};
+ghost use Rattle.lexer.specs.Answer.{lexingOf, scannedOf, Reads, Stand};
 
 mod byte;
 mod digits;
@@ -29,12 +32,15 @@ use real::real_fits;
 use real::whole_digits;
 use run::body;
 use run::byte_at;
+use run::common_end;
 use run::copy_plain;
+use run::ended;
 use run::has_escape;
 use run::measure_name;
 use run::plain_length;
 use run::rest;
 use run::run;
+use run::unquoted_end;
 use symbol::symbol;
 use symbol::symbol_length;
 
@@ -65,16 +71,33 @@ enum Scanned {
     Bad(u8),
 }
 
-fn scan_name(s: &[u8]) -> Scanned
+// A name that goes on after its first bytes.
+fn scan_odd_name(s: &[u8], first: usize) -> Scanned
+    requires { ⌜ GoesOn (now s) first ⌝ }
     ensures { λ r. ⌜ r ≡ scannedOf (scanName (now (s .entry))) ⌝ }
 {
-    let m = measure_name(s);
+    let m = measure_name(s, first);
     if !m.legal {
         return Scanned::Bad(1);
     }
     let n = m.plain;
     if (1 <= n) & (n <= 64) {
         return Scanned::Good(NAME, m.bytes);
+    }
+    Scanned::Bad(3)
+}
+
+// A name of common bytes alone is legal and has no escape.
+fn scan_name(text: &[u8], at: usize) -> Scanned
+    ensures { λ r. ⌜ r ≡ scannedOf (scanName (drop at (now (text .entry)))) ⌝ }
+{
+    let end = common_end(text, at);
+    let n = end - at;
+    if !ended(text, end) {
+        return scan_odd_name(rest(text, at), n);
+    }
+    if (1 <= n) & (n <= 64) {
+        return Scanned::Good(NAME, n);
     }
     Scanned::Bad(3)
 }
@@ -99,10 +122,10 @@ fn scan_integer(bytes: &[u8], whole: Numeral) -> Scanned
 }
 
 // The digits of a number are read once, but those of an octal or hex integer, which are read as decimal ones too.
-fn scan_number(s: &[u8]) -> Scanned
-    ensures { λ r. ⌜ r ≡ scannedOf (scanNumber (now (s .entry))) ⌝ }
+fn scan_odd_number(text: &[u8], at: usize) -> Scanned
+    ensures { λ r. ⌜ r ≡ scannedOf (scanNumber (drop at (now (text .entry)))) ⌝ }
 {
-    let bytes = run(s, 0, 0);
+    let bytes = run(text, at, 0);
     let whole = whole_digits(bytes);
     let all = fraction_digits(bytes, whole);
     if !is_real(bytes, whole.end, all.end) {
@@ -114,7 +137,22 @@ fn scan_number(s: &[u8]) -> Scanned
     Scanned::Bad(3)
 }
 
-fn scan_string(s: &[u8]) -> Scanned
+// Decimal digits alone that do not start with `0` and whose value fits are an int32; else all forms are tried.
+fn scan_number(text: &[u8], at: usize) -> Scanned
+    requires { ⌜ at < length (now text) ⌝ }
+    ensures { λ r. ⌜ r ≡ scannedOf (scanNumber (drop at (now (text .entry)))) ⌝ }
+{
+    let d = digits::digits(text, at, 10, 0);
+    let end = d.end;
+    let a = text[at];
+    if ((b'1' <= a) & (a <= b'9')) & (d.value < 0x8000_0000) & ended(text, end) {
+        return Scanned::Good(INT32, end - at);
+    }
+    scan_odd_number(text, at)
+}
+
+// A string with escapes.
+fn scan_odd_string(s: &[u8]) -> Scanned
     ensures { λ r. ⌜ r ≡ scannedOf (scanString (now (s .entry))) ⌝ }
 {
     let bytes = body(s);
@@ -126,12 +164,29 @@ fn scan_string(s: &[u8]) -> Scanned
     Scanned::Good(TEXT, n + 2)
 }
 
-fn scan_symbol(s: &[u8]) -> Scanned
-    ensures { λ r. ⌜ r ≡ scannedOf (scanSymbol (now (s .entry))) ⌝ }
+// The first quote or backslash is its end, if it is a quote.
+fn scan_string(text: &[u8], at: usize) -> Scanned
+    requires { ⌜ (at < length (now text)) × (isQuote (getD (now text) at 0) ≡ true) ⌝ }
+    ensures { λ r. ⌜ r ≡ scannedOf (scanString (drop at (now (text .entry)))) ⌝ }
 {
-    let a = byte_at(s, 0);
-    let b = byte_at(s, 1);
-    let c = byte_at(s, 2);
+    let quote = text[at];
+    let end = unquoted_end(text, at + 1, quote);
+    if text.len() <= end {
+        return Scanned::Bad(1);
+    }
+    if text[end] == quote {
+        return Scanned::Good(TEXT, end - at + 1);
+    }
+    scan_odd_string(rest(text, at))
+}
+
+fn scan_symbol(text: &[u8], at: usize) -> Scanned
+    requires { ⌜ (length (now text) ≤ 4096) × (at < length (now text)) ⌝ }
+    ensures { λ r. ⌜ r ≡ scannedOf (scanSymbol (drop at (now (text .entry)))) ⌝ }
+{
+    let a = text[at];
+    let b = byte_at(text, at + 1);
+    let c = byte_at(text, at + 2);
     let kind = symbol(a, b, c);
     if kind == 0 {
         return Scanned::Bad(1);
@@ -140,20 +195,21 @@ fn scan_symbol(s: &[u8]) -> Scanned
 }
 
 // By the first byte, and the second after a `-`.
-fn scan(s: &[u8]) -> Scanned
-    ensures { λ r. ⌜ r ≡ scannedOf (scanOf (now (s .entry))) ⌝ }
+fn scan(text: &[u8], at: usize) -> Scanned
+    requires { ⌜ (length (now text) ≤ 4096) × (at < length (now text)) ⌝ }
+    ensures { λ r. ⌜ r ≡ scannedOf (scanOf (drop at (now (text .entry)))) ⌝ }
 {
-    let a = byte_at(s, 0);
+    let a = text[at];
     if starts_name(a) {
-        return scan_name(s);
+        return scan_name(text, at);
     }
-    if starts_number(a, byte_at(s, 1)) {
-        return scan_number(s);
+    if starts_number(a, byte_at(text, at + 1)) {
+        return scan_number(text, at);
     }
     if is_quote(a) {
-        return scan_string(s);
+        return scan_string(text, at);
     }
-    scan_symbol(s)
+    scan_symbol(text, at)
 }
 
 // How many tokens there are; or the number of a refusal and its place.
@@ -180,7 +236,7 @@ pub fn lex(text: &[u8], kinds: &mut [u8], starts: &mut [u16]) -> Lexing
             at += 1;
             continue;
         }
-        match scan(rest(text, at)) {
+        match scan(text, at) {
             Scanned::Good(kind, length) => {
                 kinds[n] = kind;
                 starts[n] = at as u16;
@@ -234,19 +290,45 @@ pub fn name_is(text: &[u8], at: usize, word: &[u8]) -> bool
     spells(text, at, word)
 }
 
+// One more than the length of the string at a place, where it has no escape; else 0.
+fn plain_string(text: &[u8], at: usize) -> usize
+    ensures { λ r. ⌜ ((r ≡ 0 → ⊥) → Stand (now (text .entry)) (at + 1) (r - 1) (stringAt (now (text .entry)) at)) ⌝ }
+{
+    let quote = byte_at(text, at);
+    if !is_quote(quote) {
+        return 0;
+    }
+    let end = unquoted_end(text, at + 1, quote);
+    if byte_at(text, end) == quote {
+        return end - at;
+    }
+    0
+}
+
 pub fn string_length(text: &[u8], at: usize) -> usize
     ensures { λ r. ⌜ r ≡ length (stringAt (now (text .entry)) at) ⌝ }
 {
-    let from = rest(text, at);
-    plain_length(rest(from, 1), byte_at(from, 0))
+    let n = plain_string(text, at);
+    if n == 0 {
+        let from = rest(text, at);
+        return plain_length(rest(from, 1), byte_at(from, 0));
+    }
+    n - 1
 }
 
 pub fn copy_string(text: &[u8], at: usize, part: &mut [u8]) -> usize
     ensures { λ r. ⌜ r ≡ length (stringAt (now (text .entry)) at) ⌝ }
     ensures { λ _. ⌜ now (part .exit) ≡ sets (now (part .entry)) 0 (stringAt (now (text .entry)) at) ⌝ }
 {
-    let from = rest(text, at);
-    copy_plain(rest(from, 1), byte_at(from, 0), part)
+    let n = plain_string(text, at);
+    if (n == 0) | (part.len() < n) {
+        let from = rest(text, at);
+        return copy_plain(rest(from, 1), byte_at(from, 0), part);
+    }
+    let start = at + 1;
+    let end = at + n;
+    common::copy_to(part, 0, &text[start..end]);
+    n - 1
 }
 
 pub fn int_value(text: &[u8], at: usize) -> i64

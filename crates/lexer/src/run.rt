@@ -3,9 +3,10 @@
 ghost use mathlib.Core.Path.{_≡_};
 ghost use mathlib.Core.Bool.{false};
 ghost use mathlib.Core.List.{[]};
+ghost use Prim.Native.Nat.{_-_, _≤_};
 ghost use lib.ListN.{length, getD, drop, set};
 ghost use lib.Seq.{sets};
-ghost use Rattle.lexer.specs.Run.{takes as takesOf, ends as endsOf, runOf, unescaped, Free, hasEscape, legalByte, legalName, GoesOn, bodyOf};
+ghost use Rattle.lexer.specs.Run.{takes as takesOf, ends as endsOf, runOf, unescaped, Free, Passes, hasEscape, legalByte, legalName, GoesOn, bodyOf, isEmpty};
 use crate::byte::is_common;
 use crate::byte::is_delimiter;
 use crate::byte::is_plain;
@@ -87,6 +88,22 @@ pub fn has_escape(run: &[u8]) -> bool
         i += 1;
     }
     false
+}
+
+// Where the bytes of a string end, from a place on, that are neither its quote nor a backslash.
+pub fn unquoted_end(s: &[u8], at: usize, quote: u8) -> usize
+    requires { ⌜ (quote ≡ 0 → ⊥) ⌝ }
+    ensures { λ r. ⌜ (at ≤ r) × Passes quote (drop at (now (s .entry))) (r - at) ⌝ }
+{
+    let mut i = at;
+    while i < s.len() {
+        let b = s[i];
+        if (b == quote) | (b == b'\\') {
+            return i;
+        }
+        i += 1;
+    }
+    i
 }
 
 // How many bytes stand first that end nothing and take nothing. Where no backslash comes after them, they are all.
@@ -185,13 +202,21 @@ fn legal_byte(taken: bool, b: u8) -> bool
     is_plain(b)
 }
 
-// How many of the bytes that most names have stand first. A name goes on after them, so that only the others need every test.
-fn common_length(s: &[u8]) -> usize
-    ensures { λ r. ⌜ GoesOn (now (s .entry)) r ⌝ }
+// Where the bytes that most names have end, from a place on. A name goes on after them, so that only the others need every test. Small letters come first in it.
+pub fn common_end(s: &[u8], at: usize) -> usize
+    ensures { λ r. ⌜ (at ≤ r) × GoesOn (drop at (now (s .entry))) (r - at) ⌝ }
 {
-    let mut i = 0;
+    let mut i = at;
     while i < s.len() {
-        if !is_common(s[i]) {
+        let b = s[i];
+        if b < b'^' {
+            if !is_common(b) {
+                return i;
+            }
+            i += 1;
+            continue;
+        }
+        if b'~' < b {
             return i;
         }
         i += 1;
@@ -199,17 +224,28 @@ fn common_length(s: &[u8]) -> usize
     i
 }
 
-// Of the name that stands first: its bytes, how many they are without escapes, whether they are legal.
+// Whether nothing of a name or a number stands from a place on.
+pub fn ended(s: &[u8], at: usize) -> bool
+    ensures { λ r. ⌜ r ≡ isEmpty (runOf 0 (drop at (now (s .entry)))) ⌝ }
+{
+    if at < s.len() {
+        is_delimiter(s[at])
+    } else {
+        true
+    }
+}
+
+// Of the name that stands first: its bytes, how many they are without escapes, whether they are legal. It is known to go on after the first bytes.
 pub struct Measured {
     pub bytes: usize,
     pub plain: usize,
     pub legal: bool,
 }
 
-pub fn measure_name(s: &[u8]) -> Measured
+pub fn measure_name(s: &[u8], first: usize) -> Measured
+    requires { ⌜ GoesOn (now s) first ⌝ }
     ensures { λ r. ⌜ (r .bytes ≡ length (runOf 0 (now (s .entry)))) × (r .plain ≡ length (unescaped false (runOf 0 (now (s .entry))))) × (r .legal ≡ legalName false (runOf 0 (now (s .entry)))) ⌝ }
 {
-    let first = common_length(s);
     let mut legal = true;
     let mut n = first;
     let mut taken = false;

@@ -21,8 +21,7 @@ use Rattle.grammar.specs.Tree.{Tree, Trees, none}
 use Rattle.grammar.specs.Grammar.{rank, isPrefix, Level, operator, tighter, tightest, Prefix, applied, plain, Operand, a-literal, a-name, a-group, a-call-none, a-call, Arguments, first, next}
 use Rattle.grammar.specs.Function.{functionOf}
 use Rattle.grammar.specs.Size.{countOf}
-use Rattle.grammar.specs.Judge.{callRight, takesName, takesTexts, takesValues, takesFolded, isName, isText, isFolding, firstOf, laterTexts, formsRight, formsIn}
-use Rattle.grammar.specs.declared.found.Form.{Form}
+use Rattle.grammar.specs.Judge.{Form, callRight, takesName, takesTexts, takesValues, takesFolded, isName, isText, isFolding, firstOf, laterTexts, formsRight, formsIn}
 use Rattle.grammar.proofs.Streams.{ranks, rank-high}
 use Rattle.translator.proofs.Entries.{TokenRight, ofMany, many-range, equals-many}
 use Rattle.translator.proofs.Derived.{AllRight, all-left, all-rest}

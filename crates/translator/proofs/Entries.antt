@@ -32,8 +32,7 @@ use Rattle.table.proofs.Shapes.{pop-front}
 use Rattle.table.proofs.Theorems.{widened}
 use Rattle.lexer.specs.Token.{Token, name, int32, int64, real, text, symbol, kindOf}
 use Rattle.grammar.specs.Grammar.{rank, isPrefix}
-use Rattle.grammar.specs.Judge.{givesLogic, takesLogic, isName, isFolding, callRight, takesFolded, takesValues, takesTexts, takesName}
-use Rattle.grammar.specs.declared.found.Form.{Form}
+use Rattle.grammar.specs.Judge.{Form, givesLogic, takesLogic, isName, isFolding, callRight, takesFolded, takesValues, takesTexts, takesName}
 use Rattle.grammar.proofs.Streams.{rank-high}
 use Rattle.translator.specs.Compile.{entry, leafEntry, callEntry, leafBytes}
 
@@ -44,11 +43,11 @@ kindBy false = value
 
 -- ---- a test over all numbers below a bound, computed once
 
-below : (ℕ → Bool) → ℕ → Bool
+unfoldable pub below : (ℕ → Bool) → ℕ → Bool
 below p zero = true
 below p (suc n) = p n && below p n
 
-below-at : (p : ℕ → Bool) (n k : ℕ) → below p n ≡ true → k < n → p k ≡ true
+pub below-at : (p : ℕ → Bool) (n k : ℕ) → below p n ≡ true → k < n → p k ≡ true
 unfolding below
 below-at p zero k e h = absurd (not-suc-le-zero h)
 below-at p (suc n) k e h = go (decLt k n) (below-at p n k)
@@ -71,12 +70,15 @@ pub record Does (e : Entry) (ts : List Kind) (g : Kind) : Type 0 where
 pub does-flow : {e : Entry} {ts : List Kind} {g : Kind} → Does e ts g → (ks : List Kind) → length ks < 32 → after e (some (ts ++ ks)) ≡ some (g ∷ ks)
 does-flow {e} {ts} {g} d ks h = rw (d .takes, d .gives, pop-front ts ks, lt-ltb (length ks) 32 h)
 
--- an entry that is right in every table, and no skip
+-- an entry that is right in every table, and neither a skip nor that of a literal or a name; its op and its a fit into a code
 pub record Acts (e : Entry) (ts : List Kind) (g : Kind) : Type 0 where
   pub does : Does e ts g
   pub right : (pool : List ℕ) → entryRight pool e ≡ true
   pub plain : isSkip e ≡ false
   pub fits : Fits e
+  pub over : 5 < e .op
+  pub under : e .op < 64
+  pub low : e .a ≤ 8
 
 -- ---- operators
 
@@ -104,7 +106,7 @@ manyFits (Op.Many m) = true
 manyFits (Op.Skip s) = false
 manyFits Op.Unknown = false
 
-acts-unary : (k : ℕ) (t g : Kind) (op : Op) → opOf k ≡ op → k < 2 ^ 16 → unaryFits op t g ≡ true → Acts (entry k 0 0) (t ∷ []) g
+acts-unary : (k : ℕ) (t g : Kind) (op : Op) → opOf k ≡ op → (5 < k) × (k < 64) → unaryFits op t g ≡ true → Acts (entry k 0 0) (t ∷ []) g
 acts-unary k t g (Op.Load l) e f h = false-true h
 acts-unary k t g (Op.Unary u) e f h =
     let p = both-true _ _ h in
@@ -112,14 +114,17 @@ acts-unary k t g (Op.Unary u) e f h =
       does = record { takes = rw (e, kind-eq (unaryTakes u) t (p .0)); gives = rw (e, kind-eq (unaryGives u) g (p .1)) };
       right = λ pool. rw e;
       plain = rw e;
-      fits = record { op = f; a = lit< tt; b = lit< tt };
+      fits = record { op = omega (arith, f .1); a = lit< tt; b = lit< tt };
+      over = f .0;
+      under = f .1;
+      low = omega arith;
     }
 acts-unary k t g (Op.Binary b) e f h = false-true h
 acts-unary k t g (Op.Many m) e f h = false-true h
 acts-unary k t g (Op.Skip s) e f h = false-true h
 acts-unary k t g Op.Unknown e f h = false-true h
 
-acts-binary : (k : ℕ) (t g : Kind) (op : Op) → opOf k ≡ op → k < 2 ^ 16 → binaryFits op t g ≡ true → Acts (entry k 0 0) (t ∷ t ∷ []) g
+acts-binary : (k : ℕ) (t g : Kind) (op : Op) → opOf k ≡ op → (5 < k) × (k < 64) → binaryFits op t g ≡ true → Acts (entry k 0 0) (t ∷ t ∷ []) g
 acts-binary k t g (Op.Load l) e f h = false-true h
 acts-binary k t g (Op.Unary u) e f h = false-true h
 acts-binary k t g (Op.Binary b) e f h =
@@ -128,13 +133,16 @@ acts-binary k t g (Op.Binary b) e f h =
       does = record { takes = rw (e, kind-eq (binaryTakes b) t (p .0)); gives = rw (e, kind-eq (binaryGives b) g (p .1)) };
       right = λ pool. rw e;
       plain = rw e;
-      fits = record { op = f; a = lit< tt; b = lit< tt };
+      fits = record { op = omega (arith, f .1); a = lit< tt; b = lit< tt };
+      over = f .0;
+      under = f .1;
+      low = omega arith;
     }
 acts-binary k t g (Op.Many m) e f h = false-true h
 acts-binary k t g (Op.Skip s) e f h = false-true h
 acts-binary k t g Op.Unknown e f h = false-true h
 
-acts-many : (k a : ℕ) (op : Op) → opOf k ≡ op → k < 2 ^ 16 → manyFits op ≡ true → 1 ≤ a → a ≤ 8 → Acts (entry k a 0) (replicate (suc a) value) logic
+acts-many : (k a : ℕ) (op : Op) → opOf k ≡ op → (5 < k) × (k < 64) → manyFits op ≡ true → 1 ≤ a → a ≤ 8 → Acts (entry k a 0) (replicate (suc a) value) logic
 acts-many k a (Op.Load l) e f h m n = false-true h
 acts-many k a (Op.Unary u) e f h m n = false-true h
 acts-many k a (Op.Binary b) e f h m n = false-true h
@@ -143,23 +151,27 @@ acts-many k a (Op.Many o) e f h m n =
       does = record { takes = rw e; gives = rw e };
       right = λ pool. rw (e, le-leb 1 a m, le-leb a 8 n);
       plain = rw e;
-      fits = record { op = f; a = omega arith; b = lit< tt };
+      fits = record { op = omega (arith, f .1); a = omega arith; b = lit< tt };
+      over = f .0;
+      under = f .1;
+      low = n;
     }
 acts-many k a (Op.Skip s) e f h m n = false-true h
 acts-many k a Op.Unknown e f h m n = false-true h
 
 prefix-right : ℕ → Bool
-prefix-right k = not (isPrefix k) || unaryFits (opOf k) (kindBy (takesLogic k)) (kindBy (givesLogic k))
+prefix-right k = not (isPrefix k) || (leb 6 k && unaryFits (opOf k) (kindBy (takesLogic k)) (kindBy (givesLogic k)))
 
 binary-right : ℕ → Bool
-binary-right k = not (ltb (rank k) 11) || binaryFits (opOf k) (kindBy (takesLogic k)) (kindBy (givesLogic k))
+binary-right k = not (ltb (rank k) 11) || (leb 6 k && binaryFits (opOf k) (kindBy (takesLogic k)) (kindBy (givesLogic k)))
 
 -- `!` and `~`
 pub prefix-acts : (k : ℕ) → isPrefix k ≡ true → Acts (entry k 0 0) (kindBy (takesLogic k) ∷ []) (kindBy (givesLogic k))
 unfolding prefix-right below
 prefix-acts k e =
     let l : k < 41 = go (decLt k 41) in
-    acts-unary k _ _ (opOf k) refl (omega arith) (implied _ _ (below-at prefix-right 41 k refl l) e)
+    let p = both-true _ _ (implied _ _ (below-at prefix-right 41 k refl l) e) in
+    acts-unary k _ _ (opOf k) refl (leb-true 6 k (p .0), omega arith) (p .1)
   where
     go : Dec (k < 41) → k < 41
     go (yes h) = h
@@ -170,7 +182,8 @@ pub binary-acts : (k : ℕ) → rank k < 11 → Acts (entry k 0 0) (kindBy (take
 unfolding binary-right below rank
 binary-acts k h =
     let l : k < 44 = go (decLt k 44) in
-    acts-binary k _ _ (opOf k) refl (omega arith) (implied _ _ (below-at binary-right 44 k refl l) (lt-ltb _ _ h))
+    let p = both-true _ _ (implied _ _ (below-at binary-right 44 k refl l) (lt-ltb _ _ h)) in
+    acts-binary k _ _ (opOf k) refl (leb-true 6 k (p .0), omega arith) (p .1)
   where
     go : Dec (k < 44) → k < 44
     go (yes q) = q
@@ -195,7 +208,7 @@ pub equals-many : (f : ℕ) → f ≡ equalsOp → ofMany f ≡ true
 equals-many f e = rw e
 
 one-right : ℕ → Bool
-one-right f = not (ofOne f) || (not (leb 56 f) && unaryFits (opOf f) value (kindBy (givesLogic f)))
+one-right f = not (ofOne f) || (not (leb 56 f) && (leb 6 f && unaryFits (opOf f) value (kindBy (givesLogic f))))
 
 many-right : ℕ → Bool
 many-right f = not (ofMany f) || manyFits (opOf f)
@@ -209,7 +222,8 @@ unfolding one-right below
 one-acts f count e n =
     let l : f < 55 = go (decLt f 55) in
     let p = both-true _ _ (implied _ _ (below-at one-right 55 f refl l) e) in
-    rw (n, not-false-of (leb 56 f) (p .0)) (acts-unary f value (kindBy (givesLogic f)) (opOf f) refl (omega arith) (p .1))
+    let q = both-true _ _ (p .1) in
+    rw (n, not-false-of (leb 56 f) (p .0)) (acts-unary f value (kindBy (givesLogic f)) (opOf f) refl (leb-true 6 f (q .0), omega arith) (q .1))
   where
     go : Dec (f < 55) → f < 55
     go (yes h) = h
@@ -222,7 +236,7 @@ many-acts f count e m n =
     let q : suc (count - 1) ≡ count = omega arith in
     let fits = implied _ _ (below-at many-right (length ops) f refl l) e in
     rw (le-leb 56 f low, le-leb 32 f (omega arith))
-    (subst (λ (n : ℕ). Acts (entry f (count - 1) 0) (replicate n value) logic) q (acts-many f (count - 1) (opOf f) refl (omega arith) fits (omega arith) (omega arith)))
+    (subst (λ (n : ℕ). Acts (entry f (count - 1) 0) (replicate n value) logic) q (acts-many f (count - 1) (opOf f) refl (omega arith, omega arith) fits (omega arith) (omega arith)))
 
 -- a call whose arguments refusal 4 does not name
 pub call-acts : (f count : ℕ) (form : Form) (texts : Bool) → callRight f form count texts ≡ true → Acts (callEntry f count) (replicate count value) (kindBy (givesLogic f))

@@ -13,6 +13,7 @@ use Rattle.common.proofs.Stores.{sets-append}
 use Rattle.word.specs.Word.{wordBytes}
 use Rattle.word.proofs.Laws.{length-wordBytes}
 use Rattle.opcode.specs.declared.Edition.{Edition}
+use Rattle.table.specs.declared.Entry.{Entry}
 use Rattle.table.specs.Table.{entriesBytes, tableKind, bodyBytes, encode}
 use Rattle.table.proofs.Encoding.{length-body, length-encode}
 use Rattle.lexer.specs.Token.{Token}
@@ -20,18 +21,14 @@ use Rattle.grammar.specs.Tree.{Tree}
 use Rattle.grammar.specs.Parse.{Result, ok, bad, levelOf, parseAll}
 use Rattle.grammar.specs.Size.{entriesOf, poolOf, depthOf}
 use Rattle.grammar.specs.Function.{orElse}
-use Rattle.grammar.specs.Judge.{formsRight, kindsRight, isLogic}
-use Rattle.grammar.specs.Answer.{foundOf}
-use Rattle.grammar.specs.declared.found.Found.{Found}
+use Rattle.grammar.specs.Judge.{formsRight, patternsRight, kindsRight, isLogic}
+use Rattle.grammar.specs.Answer.{Found, foundOf}
 use Rattle.translator.specs.Compile.{codeOf, bytesOf, compile}
-use Rattle.translator.specs.Pool.{broughtFrom}
-use Rattle.translator.specs.Emit.{entryStart, Accepts, Writes, Judged, Filled, Known, tableAnswer, headerBytes, refusalBy}
-use Rattle.translator.specs.Translation.{refusalOf, ofTree, refusal, answerOf, Answers, ofResult}
-use Rattle.translator.specs.declared.Emitted.{Emitted}
+use Rattle.translator.specs.Expand.{expand, pooled, mostBy}
+use Rattle.translator.specs.Emit.{entryStart, Coded, tableAnswer, headerBytes, refusalBy}
+use Rattle.translator.specs.Translation.{Outcome, refusalOf, ofTree, refusal, answerOf, Answers, translationIn}
 use Rattle.translator.specs.declared.Translated.{Translated}
 use Rattle.translator.proofs.Sound.{size, pool-size}
-use Rattle.translator.proofs.Stores.{length-entries}
-use Rattle.translator.proofs.Brought.{brought-all}
 
 -- ---- the header
 
@@ -77,43 +74,14 @@ whole-level ks {t} {n} e = go (levelOf ks 0 0) refl e
         by false f g = let z : _≡_ {A = ℕ} 0 1 = cc in absurd (omega arith)
     go (bad p) q h = let z : _≡_ {A = ℕ} 0 1 = cc in absurd (omega arith)
 
-module _ {ks : List Token} {entries pool long : ℕ} (j : Judged ks entries pool long) where
-  pub level-accepts : Accepts (levelOf ks 0 0) 0 0 long
-  level-accepts =
-      record {
-        tree = j .tree;
-        next = length ks;
-        is-ok = whole-level ks (j .is-ok) .0;
-        entries = omega (arith, j .entries-are, j .few);
-        pool = omega (arith, j .pool-is, j .small);
-        bytes = omega (arith, j .entries-are, j .room);
-      }
-
-  pub pool-fits : entryStart entries + length (broughtFrom ks 0 (length ks)) ≤ long
-  pool-fits =
-      let b = ap length (brought-all ks (whole-level ks (j .is-ok) .0)) in
-      omega (arith, b, pool-size (j .tree), j .pool-is, j .room)
-
-  pub header-fits : 10 ≤ long
-  header-fits = omega (arith, j .room)
-
-  pub table-filled : (edition : Edition) {was head mid now : List ℕ} {r : Emitted} → head ≡ sets was 0 (headerBytes edition entries pool) → Writes (levelOf ks 0 0) 0 0 head mid r → now ≡ sets mid (10 + 12 * entries) (broughtFrom ks 0 (length ks)) → Filled edition ks was now
-  table-filled edition {was} {head} {mid} {now} h w p =
-      let t = j .tree in
-      let l = whole-level ks (j .is-ok) .0 in
-      let same : w .tree ≡ t = let x = w .is-ok in cc in
-      let code = entriesBytes (codeOf 0 t) in
-      let n : length code ≡ 12 * entriesOf t = length-entries (codeOf 0 t) ∙ ap (λ (m : ℕ). 12 * m) (size t 0) in
-      let lh = length-header edition (entriesOf t) (poolOf t) in
-      let a : head ≡ sets was 0 (headerBytes edition (entriesOf t) (poolOf t)) = h ∙ ap₂ (λ (x y : ℕ). sets was 0 (headerBytes edition x y)) (j .entries-are) (j .pool-is) in
-      let b : mid ≡ sets head 10 code = w .bytes ∙ ap (λ (u : Tree). sets head 10 (entriesBytes (codeOf 0 u))) same in
-      let c : now ≡ sets mid (10 + length code) (bytesOf t) = p ∙ ap₂ (λ (x : ℕ) (y : List ℕ). sets mid x y) (omega (arith, n, j .entries-are)) (brought-all ks l) in
-      let two : now ≡ sets head 10 (code ++ bytesOf t) = c ∙ ap (λ (o : List ℕ). sets o (10 + length code) (bytesOf t)) b ∙ sym (sets-append code (bytesOf t) head 10) in
-      let three : now ≡ sets was 0 (headerBytes edition (entriesOf t) (poolOf t) ++ (code ++ bytesOf t)) =
-      two ∙ ap (λ (o : List ℕ). sets o 10 (code ++ bytesOf t)) a
-      ∙ ap (λ (m : ℕ). sets (sets was 0 (headerBytes edition (entriesOf t) (poolOf t))) m (code ++ bytesOf t)) (omega (arith, lh))
-      ∙ sym (sets-append (headerBytes edition (entriesOf t) (poolOf t)) (code ++ bytesOf t) was 0) in
-      record { tree = t; is-ok = j .is-ok; bytes = three ∙ ap (sets was 0) (sym (table-is edition t)) }
+-- header, entries and pool are written one after the other
+pub table-written : (edition : Edition) (n pool : ℕ) (entries bytes was : List ℕ) {head now : List ℕ} → length entries ≡ 12 * n → head ≡ sets was 0 (headerBytes edition n pool)
+    → now ≡ sets (sets head 10 entries) (entryStart n) bytes → now ≡ sets was 0 (headerBytes edition n pool ++ (entries ++ bytes))
+table-written edition n pool entries bytes was {head} {now} le h q =
+    let header = headerBytes edition n pool in
+    let lh = length-header edition n pool in
+    let two : now ≡ sets head 10 (entries ++ bytes) = q ∙ ap (λ (m : ℕ). sets (sets head 10 entries) m bytes) (omega (arith, le)) ∙ sym (sets-append entries bytes head 10) in
+    two ∙ ap (λ (l : List ℕ). sets l 10 (entries ++ bytes)) h ∙ ap (λ (m : ℕ). sets (sets was 0 header) m (entries ++ bytes)) (omega (arith, lh)) ∙ sym (sets-append header (entries ++ bytes) was 0)
 
 -- ---- the refusals of a tree
 
@@ -168,29 +136,56 @@ pub refusal-by : (edition : Edition) (t : Tree) (room : ℕ) → refusalOf editi
 unfolding refusalOf
 refusal-by edition t room = rw (table-size edition t)
 
-module _ {ks : List Token} {f : Found} (k : Known ks f) (room : ℕ) {n : ℕ} (en : n ≡ refusalBy f room) where
-  number-is : (edition : Edition) → refusalOf edition (k .tree) room ≡ n
-  number-is edition = refusal-by edition (k .tree) room ∙ ap (λ (g : Found). refusalBy g room) (k .has) ∙ sym en
+-- ---- the answer of a tree
 
-  pub answers-refused : (edition : Edition) (long : ℕ) (starts : List ℕ) {was : List ℕ} {r : Translated} → (n ≡ 0 → ⊥) → r ≡ answerOf (refusal n 0) → Answers (ofResult edition long starts room (parseAll ks)) was was r
-  unfolding ofResult ofTree
-  answers-refused edition long starts z e = rw (k .is-ok, number-is edition, ne-eqb n 0 z) (record { answer = e; bytes = refl })
+module _ (edition : Edition) (t : Tree) (room : ℕ) where
+  pub tree-refused : {n : ℕ} {was : List ℕ} {r : Translated} → refusalOf edition t room ≡ n → (n ≡ 0 → ⊥) → r ≡ answerOf (refusal n 0) → Answers (ofTree edition t room) was was r
+  unfolding ofTree
+  tree-refused {n} e z q = rw (e, ne-eqb n 0 z) (record { answer = q; bytes = refl })
 
-  pub judged : n ≡ 0 → Judged ks (f .entries) (f .pool) room
-  judged z =
-      let fr = free f room (sym en ∙ z) in
-      let h = k .has in
-      let e = ap (λ (g : Found). g .entries) h in
-      let p = ap (λ (g : Found). g .pool) h in
-      record { tree = k .tree; is-ok = k .is-ok; entries-are = sym e; pool-is = sym p; few = fr .few; small = omega (arith, p, k .small); room = fr .fits }
+  pub tree-table : {was now : List ℕ} {r : Translated} → refusalOf edition t room ≡ 0 → r ≡ tableAnswer (entriesOf t) (poolOf t) → now ≡ sets was 0 (encode (compile edition t)) → Answers (ofTree edition t room) was now r
+  unfolding ofTree
+  tree-table e q b = rw e (record { answer = q ∙ ap (λ (x : ℕ). record { number = 0; place = 0; length = x }) (sym (table-size edition t)); bytes = b })
 
-  pub answers-table : (edition : Edition) (long : ℕ) (starts : List ℕ) {was now : List ℕ} {r : Translated} → n ≡ 0 → r ≡ tableAnswer (f .entries) (f .pool) → Filled edition ks was now
-      → Answers (ofResult edition long starts room (parseAll ks)) was now r
-  unfolding ofResult ofTree
-  answers-table edition long starts {was} z e w =
-      let t = k .tree in
-      let same : w .tree ≡ t = let x = w .is-ok in let y = k .is-ok in cc in
-      let a = ap (λ (g : Found). g .entries) (k .has) in
-      let b = ap (λ (g : Found). g .pool) (k .has) in
-      let len : entryStart (f .entries) + f .pool ≡ length (encode (compile edition t)) = omega (arith, table-size edition t, a, b) in
-      rw (k .is-ok, number-is edition, z) (record { answer = e ∙ ap (λ (x : ℕ). record { number = 0; place = 0; length = x }) len; bytes = w .bytes ∙ ap (λ (u : Tree). sets was 0 (encode (compile edition u))) same })
+pub answers-as : {o p : Outcome} {was now : List ℕ} {r : Translated} → o ≡ p → Answers p was now r → Answers o was now r
+answers-as e a = rw e a
+
+-- of codes to which the refusals up to 7 do not apply
+module _ {s places codes : List ℕ} {pool : ℕ} (k : Coded s places codes pool) (edition : Edition) (room : ℕ) where
+  abbrev t : Tree
+  t = k .tree
+
+  -- the tests before 8
+  forms-right : not (formsRight t) ≡ false
+  forms-right = rw (k .right .forms)
+
+  patterns-right : not (patternsRight t) ≡ false
+  patterns-right = rw (k .right .patterns)
+
+  kinds-right : not (kindsRight t && isLogic t) ≡ false
+  kinds-right = rw (k .right .kinds, k .right .logic)
+
+  pub coded-8 : {d : ℕ} {was : List ℕ} {r : Translated} → d ≡ mostBy codes 0 → 32 < d → r ≡ answerOf (refusal 8 0) → Answers (translationIn edition s room) was was r
+  coded-8 e h q =
+      let n : refusalOf edition t room ≡ 8 = refusal-by edition t room ∙ sym (by-8 (foundOf t) room forms-right patterns-right kinds-right (k .few) (omega (arith, e, k .depth))) in
+      answers-as (k .outcome edition room) (tree-refused edition t room n (λ z. omega arith) q)
+
+  pub coded-9 : {d : ℕ} {was : List ℕ} {r : Translated} → d ≡ mostBy codes 0 → d ≤ 32 → room < entryStart (length codes) + pool → r ≡ answerOf (refusal 9 0) → Answers (translationIn edition s room) was was r
+  coded-9 e h l q =
+      let n : refusalOf edition t room ≡ 9 =
+      refusal-by edition t room ∙ sym (by-9 (foundOf t) room forms-right patterns-right kinds-right (k .few) (omega (arith, e, k .depth)) (omega (arith, k .count, k .pool-is))) in
+      answers-as (k .outcome edition room) (tree-refused edition t room n (λ z. omega arith) q)
+
+  pub coded-table : {d : ℕ} {was now : List ℕ} {r : Translated} → d ≡ mostBy codes 0 → d ≤ 32 → entryStart (length codes) + pool ≤ room → r ≡ tableAnswer (length codes) pool
+      → now ≡ sets was 0 (headerBytes edition (length codes) pool ++ (entriesBytes (expand s places codes 0 0) ++ pooled s places codes 0)) → Answers (translationIn edition s room) was now r
+  coded-table {d} {was} {now} e h l q b =
+      let n : refusalOf edition t room ≡ 0 =
+      refusal-by edition t room ∙ sym (by-0 (foundOf t) room forms-right patterns-right kinds-right (k .few) (omega (arith, e, k .depth)) (omega (arith, k .count, k .pool-is))) in
+      let all : headerBytes edition (length codes) pool ++ (entriesBytes (expand s places codes 0 0) ++ pooled s places codes 0) ≡ headerBytes edition (entriesOf t) (poolOf t) ++ (entriesBytes (codeOf 0 t) ++ bytesOf t) =
+      ap₂ (λ (x y : List ℕ). x ++ y) (ap₂ (headerBytes edition) (k .count) (k .pool-is)) (ap₂ (λ (x : List Entry) (y : List ℕ). entriesBytes x ++ y) (k .entries) (k .bytes)) in
+      let filled : now ≡ sets was 0 (encode (compile edition t)) = b ∙ ap (sets was 0) (all ∙ sym (table-is edition t)) in
+      answers-as (k .outcome edition room) (tree-table edition t room n (q ∙ ap₂ tableAnswer (k .count) (k .pool-is)) filled)
+
+  -- the pool is as long as it is said to be
+  pub coded-pool : pool ≡ length (pooled s places codes 0)
+  coded-pool = k .pool-is ∙ sym (ap length (k .bytes) ∙ pool-size t)

@@ -28,12 +28,14 @@ use Rattle.lexer.specs.Symbol.{symbolOf, symbolLength}
 use Rattle.lexer.specs.Token.{Token, name, int32, int64, real, text, symbol, kindOf, Placed, Scan, good, bad, judged, scanName, integerToken, scanRun, scanNumber, scanString, scanBytes, scanSymbol, scanOf, tokens, tokensOf, found}
 use Rattle.lexer.specs.Theorems.{Laid, Nothing, ValueAt}
 use Rattle.lexer.proofs.Theorems.{whole, values}
+use Rattle.grammar.specs.Parse.{kindAt}
 use Rattle.grammar.specs.Size.{poolBytes}
+use Rattle.grammar.specs.Marks.{calling}
 use Rattle.grammar.specs.Stream.{tokenOf, tokensIn}
 use Rattle.grammar.proofs.Streams.{run-small, unescaped-small}
 use Rattle.translator.proofs.Entries.{TokenRight}
 use Rattle.translator.proofs.Derived.{AllRight}
-use Rattle.translator.proofs.Brought.{totalOf}
+use Rattle.translator.proofs.Bounded.{totalOf}
 
 -- ---- bytes
 
@@ -215,10 +217,25 @@ unfolding tokensIn
 tokens-are s [] v = refl
 tokens-are s (p ∷ ps) v = ap₂ (λ (x : Token) (xs : List Token). x ∷ xs) (token-is s (p .start) (p .token) (v .0)) (tokens-are s ps (v .1))
 
+kind-low : (s : List ℕ) (at : ℕ) (x : Token) → ValueAt s at x → kindOf x < calling
+kind-low s at (name b e) v = omega arith
+kind-low s at (int32 z) v = omega arith
+kind-low s at (int64 z) v = omega arith
+kind-low s at (real x) v = omega arith
+kind-low s at (text b) v = omega arith
+kind-low s at (symbol k) v = omega (arith, v .1)
+
+-- no kind is as large as the mark of a call
+lows : (s : List ℕ) (ps : List Placed) → Each (λ p. ValueAt s (p .start) (p .token)) ps → (i : ℕ) → kindAt (tokensOnly ps) i < calling
+lows s [] v i = omega arith
+lows s (p ∷ ps) v zero = kind-low s (p .start) (p .token) (v .0)
+lows s (p ∷ ps) v (suc i) = lows s ps (v .1) i
+
 -- What holds of the tokens of a text.
 pub record LexedText (s : List ℕ) (ps : List Placed) : Type 0 where
   pub short : length s ≤ 4096
   pub count : length ps ≤ length s
+  pub low : (i : ℕ) → kindAt (tokensOnly ps) i < calling
   pub total : totalOf (tokensOnly ps) ≤ 4096
   pub right : AllRight (tokensOnly ps)
   pub stand : tokensIn s (map (λ p. kindOf (p .token)) ps) (map (λ p. p .start) ps) ≡ tokensOnly ps
@@ -231,6 +248,7 @@ lexed-text s ps h e =
     record {
       short = w .0;
       count = l .count;
+      low = lows s ps v;
       total = omega (arith, w .0, l .total);
       right = rights s ps (l .all) v;
       stand = tokens-are s ps v;

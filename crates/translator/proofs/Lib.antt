@@ -4,10 +4,11 @@ pub mod Derived
 pub mod Patterned
 pub mod Depth
 pub mod Passes
+pub mod Bounded
+pub mod Expanding
 pub mod Stores
-pub mod Emitting
 pub mod Making
-pub mod Brought
+pub mod Writing
 pub mod Lexed
 pub mod Filling
 pub mod Answering

@@ -27,9 +27,7 @@ use Rattle.lexer.specs.Token.{Token, name, int32, int64, real, text, symbol, ki
 use Rattle.grammar.specs.Tree.{Tree, leaf, Trees, _then_}
 use Rattle.grammar.specs.Function.{functionOf}
 use Rattle.grammar.specs.Size.{countOf, entriesOf, poolOf, poolIn}
-use Rattle.grammar.specs.Judge.{formOf, isName, isText, isFolding, firstOf, laterTexts, callRight, takesTexts, patternTest, laterRight, formsRight, formsIn, patternsRight, patternsIn}
-use Rattle.grammar.specs.declared.found.Form.{Form}
-use Rattle.grammar.proofs.Literals.{no-call}
+use Rattle.grammar.specs.Judge.{Form, FoldCase, Other, formOf, isName, isText, isFolding, firstOf, laterTexts, callRight, takesTexts, patternTest, laterRight, formsRight, formsIn, patternsRight, patternsIn}
 use Rattle.translator.specs.Compile.{entry, leafEntry, skipEntries, callEntry, codeOf, codeIn, bytesOf, bytesIn}
 use Rattle.translator.proofs.Entries.{TokenRight, part-is}
 use Rattle.translator.proofs.Sound.{Sound, SoundIn, a-leaf, a-group, a-unary, a-binary, a-call, no-more, one-more, pool-size, pool-in, regroup, before}
@@ -134,6 +132,10 @@ leaf-text (int64 z) k r h = false-true h
 leaf-text (real x) k r h = false-true h
 leaf-text (text s) k r h = (s, refl)
 leaf-text (symbol j) k r h = absurd (omega arith)
+
+no-call : {A : Type 0} (b : Bool) → isText (cond b FoldCase Other) ≡ true → A
+no-call true h = false-true h
+no-call false h = false-true h
 
 is-literal : {t : Tree} → Sound t → isText (formOf t) ≡ true → (s : List ℕ) × (t ≡ leaf (text s))
 is-literal (a-leaf {x} k r) h = leaf-text x k r h

@@ -333,8 +333,11 @@ mutual
       let right : Each (EntryGood pool) (codeOf (at + poolIn ts) t) = rw regroup at (good f (at + poolIn ts) (pre ++ bytesIn ts) post len (omega arith) (omega arith)) in
       each-append (EntryGood pool) (codeIn at ts) (codeOf (at + poolIn ts) t) left right
 
+pub good-all : (t : Tree) → Sound t → poolOf t ≤ 4096 → entriesOf t ≤ 512 → Each (EntryGood (bytesOf t)) (codeOf 0 t)
+good-all t d p n = rw append-nil at (good d 0 [] [] refl (omega arith) n)
+
 pub good-at : (t : Tree) → Sound t → poolOf t ≤ 4096 → entriesOf t ≤ 512 → (i : ℕ) → i < length (codeOf 0 t) → EntryGood (bytesOf t) (getD (codeOf 0 t) i blank)
-good-at t d p n i h = each-at (EntryGood (bytesOf t)) (codeOf 0 t) blank (rw append-nil at (good d 0 [] [] refl (omega arith) n)) i h
+good-at t d p n i h = each-at (EntryGood (bytesOf t)) (codeOf 0 t) blank (good-all t d p n) i h
 
 pub entries-some : (t : Tree) → 1 ≤ entriesOf t
 unfolding entriesOf

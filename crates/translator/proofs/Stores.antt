@@ -1,16 +1,15 @@
--- Stretches of a buffer: those that adjoin are one, and those apart are written in either order. Assumes nothing.
-use Prim.Native.Nat.{ℕ, zero, suc, _+_, _*_, _≤_, _<_}
+-- Stretches of a buffer: those apart are written in either order, and a part up to the end is put back. Assumes nothing.
+use Prim.Native.Nat.{ℕ, zero, suc, _+_, _-_, _*_, _≤_, _<_}
 use native.Mathlib.Omega.{arith}
 use mathlib.Core.Path.{_≡_, refl, sym, ap, _∙_}
-use mathlib.Core.List.{List, [], _∷_, _++_, append-assoc, append-nil}
-use lib.ListN.{length, set, drop, length-append}
-use lib.Seq.{sets, sets-eq, set-comm, drop-length, length-sets}
-use Rattle.common.proofs.Stores.{sets-append}
+use mathlib.Core.List.{List, [], _∷_, _++_, append-nil}
+use lib.ListN.{length, set, take, drop, length-append, length-drop, take-append-drop, drop-of-length-le}
+use lib.Seq.{sets, sets-eq, set-comm, drop-length, length-sets, take-all}
+use borrow.Rule.Slice.PartMut.{midOf, postOf, putMid}
 use Rattle.word.proofs.Laws.{length-wordBytes}
 use Rattle.word.specs.Word.{wordBytes}
 use Rattle.table.specs.declared.Entry.{Entry}
 use Rattle.table.specs.Table.{entryBytes, entriesBytes}
-use Rattle.translator.specs.Emit.{entryStart}
 
 set-sets : (ys l : List ℕ) (i j a : ℕ) → i < j → set (sets l j ys) i a ≡ sets (set l i a) j ys
 set-sets [] l i j a h = refl
@@ -36,55 +35,33 @@ unfolding entriesBytes
 length-entries [] = refl
 length-entries (e ∷ es) = omega (arith, length-append (entryBytes e) (entriesBytes es), length-entry e, length-entries es)
 
-entries-append : (xs ys : List Entry) → entriesBytes (xs ++ ys) ≡ entriesBytes xs ++ entriesBytes ys
-unfolding entriesBytes
-entries-append [] ys = refl
-entries-append (x ∷ xs) ys = ap (λ (r : List ℕ). entryBytes x ++ r) (entries-append xs ys) ∙ sym (append-assoc (entryBytes x) (entriesBytes xs) (entriesBytes ys))
-
-pub entries-one : (e : Entry) → entriesBytes (e ∷ []) ≡ entryBytes e
-unfolding entriesBytes
-entries-one e = append-nil (entryBytes e)
-
-pub entries-none : entriesBytes [] ≡ []
-unfolding entriesBytes
-entries-none = refl
-
--- some entries, and then some more after them
-pub join : (was mid now : List ℕ) (i n : ℕ) (xs ys : List Entry) → mid ≡ sets was (entryStart i) (entriesBytes xs) → now ≡ sets mid (entryStart n) (entriesBytes ys) → n ≡ i + length xs
-    → now ≡ sets was (entryStart i) (entriesBytes (xs ++ ys))
-join was mid now i n xs ys p q e =
-    let at : entryStart n ≡ entryStart i + length (entriesBytes xs) = omega (arith, length-entries xs) in
-    q
-    ∙ ap (λ (l : List ℕ). sets l (entryStart n) (entriesBytes ys)) p
-    ∙ ap (λ (m : ℕ). sets (sets was (entryStart i) (entriesBytes xs)) m (entriesBytes ys)) at
-    ∙ sym (sets-append (entriesBytes xs) (entriesBytes ys) was (entryStart i))
-    ∙ ap (sets was (entryStart i)) (sym (entries-append xs ys))
-
--- and one more
-pub join-one : (was mid now : List ℕ) (i n : ℕ) (xs : List Entry) (e : Entry) → mid ≡ sets was (entryStart i) (entriesBytes xs) → now ≡ sets mid (entryStart n) (entryBytes e) → n ≡ i + length xs
-    → now ≡ sets was (entryStart i) (entriesBytes (xs ++ (e ∷ [])))
-join-one was mid now i n xs e p q h = join was mid now i n xs (e ∷ []) p (q ∙ ap (sets mid (entryStart n)) (sym (entries-one e))) h
-
--- the left side; then the right side, with the skip's stretch left free before it; then the skip and the operator
-pub between : (was mid right now : List ℕ) (i n m : ℕ) (xs ss us : List Entry) (e : Entry)
-    → mid ≡ sets was (entryStart i) (entriesBytes xs) → n ≡ i + length xs
-    → right ≡ sets mid (entryStart (n + length ss)) (entriesBytes us) → m ≡ n + length ss + length us
-    → now ≡ sets (sets right (entryStart n) (entriesBytes ss)) (entryStart m) (entryBytes e)
-    → now ≡ sets was (entryStart i) (entriesBytes (xs ++ (ss ++ (us ++ (e ∷ [])))))
-between was mid right now i n m xs ss us e p pn q qm r =
-    let ls = length-entries ss in
-    let skipped = sets mid (entryStart n) (entriesBytes ss) in
-    let swap : sets right (entryStart n) (entriesBytes ss) ≡ sets skipped (entryStart (n + length ss)) (entriesBytes us) =
-    ap (λ (l : List ℕ). sets l (entryStart n) (entriesBytes ss)) q ∙ sets-swap (entriesBytes ss) (entriesBytes us) mid (entryStart n) (entryStart (n + length ss)) (omega arith) in
-    let two : skipped ≡ sets was (entryStart i) (entriesBytes (xs ++ ss)) = join was mid skipped i n xs ss p refl pn in
-    let l2 = length-append xs ss in
-    let three : sets right (entryStart n) (entriesBytes ss) ≡ sets was (entryStart i) (entriesBytes ((xs ++ ss) ++ us)) =
-    join was skipped (sets right (entryStart n) (entriesBytes ss)) i (n + length ss) (xs ++ ss) us two swap (omega arith) in
-    let l3 = length-append (xs ++ ss) us in
-    let four : now ≡ sets was (entryStart i) (entriesBytes (((xs ++ ss) ++ us) ++ (e ∷ []))) =
-    join-one was (sets right (entryStart n) (entriesBytes ss)) now i m ((xs ++ ss) ++ us) e three r (omega arith) in
-    four ∙ ap (λ (l : List Entry). sets was (entryStart i) (entriesBytes l)) (simp append-assoc)
-
 -- writing keeps the length
 pub kept-by : (s now : List ℕ) (at : ℕ) (xs : List ℕ) → now ≡ sets s at xs → length now ≡ length s
 kept-by s now at xs e = ap length e ∙ length-sets s at xs
+
+-- ---- the buffer from a place on
+
+set-after : (p q : List ℕ) (i a : ℕ) → set (p ++ q) (length p + i) a ≡ p ++ set q i a
+set-after [] q i a = let e : 0 + i ≡ i = omega arith in rw e
+set-after (x ∷ p) q i a = let e : suc (length p) + i ≡ suc (length p + i) = omega arith in rw e (ap (λ (l : List ℕ). x ∷ l) (set-after p q i a))
+
+sets-after : (xs p q : List ℕ) (i : ℕ) → sets (p ++ q) (length p + i) xs ≡ p ++ sets q i xs
+sets-after [] p q i = refl
+sets-after (x ∷ xs) p q i =
+    let e : suc (length p + i) ≡ length p + suc i = omega arith in
+    rw (e, set-after p q i x) (sets-after xs p (set q i x) (suc i))
+
+pub rest-back : (s xs : List ℕ) (at : ℕ) → at ≤ length s → take at s ++ sets (drop at s) 0 xs ≡ sets s at xs
+rest-back s xs at h =
+    let n : length (take at s) + 0 ≡ at = rw (lib.Seq.length-take-le at s h) (omega arith) in
+    sym (sets-after xs (take at s) (drop at s) 0) ∙ rw (n, take-append-drop at s)
+
+-- a part up to the end, put back with bytes at its start
+pub rest-put : (s part xs : List ℕ) (at : ℕ) → at ≤ length s → part ≡ sets (midOf at (length s - at) s) 0 xs → putMid at (length s - at) s part ≡ sets s at xs
+rest-put s part xs at h e =
+    let n = length-drop at s in
+    let all : midOf at (length s - at) s ≡ drop at s = take-all (length s - at) (drop at s) (omega (arith, n)) in
+    let nothing : postOf at (length s - at) s ≡ [] = drop-of-length-le (drop at s) {i = length s - at} (omega (arith, n)) in
+    ap (λ (l : List ℕ). take at s ++ (part ++ l)) nothing
+    ∙ ap (λ (l : List ℕ). take at s ++ l) (append-nil part ∙ e ∙ ap (λ (l : List ℕ). sets l 0 xs) all)
+    ∙ rest-back s xs at h

@@ -26,9 +26,9 @@ use Rattle.translator.proofs.Sound as sound
 use Rattle.translator.proofs.Derived.{level-sound}
 use Rattle.translator.proofs.Depth.{most-slots}
 use Rattle.translator.proofs.Passes as passes
-use Rattle.translator.proofs.Brought.{tree-small}
+use Rattle.translator.proofs.Bounded.{bounded}
 use Rattle.translator.proofs.Lexed.{lexed-text}
-use Rattle.translator.proofs.Filling.{table-size, whole-level, by-0, free, refusal-by}
+use Rattle.translator.proofs.Filling.{table-size, by-0, free, refusal-by}
 use Rattle.translator.proofs.Stages.{Stage, before, at-tree, in-edition, stage}
 
 -- ---- the answer
@@ -79,10 +79,7 @@ module _ (s : List ℕ) (ps : List Placed) (t : Tree) (b : Bytes s) (q : tokensO
   text-sound f k = level-sound d (lexed-text s ps b q .right) f k
 
   text-small : poolOf t ≤ 4096
-  text-small =
-      let ks = map (λ p. p .token) ps in
-      let l = whole-level ks (parses ks t .1 d) .0 in
-      omega (arith, tree-small ks l (omega arith), lexed-text s ps b q .total)
+  text-small = omega (arith, bounded d .pool, lexed-text s ps b q .total)
 
 module _ (s : List ℕ) (t : Tree) (b : Bytes s) (a : Accepted s t) where
   whole-sound : sound.Sound t

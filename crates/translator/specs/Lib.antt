@@ -1,6 +1,6 @@
 pub mod Compile
 pub mod Depth
-pub mod Pool
+pub mod Expand
 pub mod Translation
-pub mod Emit
 pub mod Theorems
+pub mod Emit

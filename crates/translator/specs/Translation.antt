@@ -16,8 +16,7 @@ use Rattle.grammar.specs.Parse.{Result, ok, bad, parseAll}
 use Rattle.grammar.specs.Nesting.{tooDeep}
 use Rattle.grammar.specs.Function.{orElse}
 use Rattle.grammar.specs.Size.{poolOf}
-use Rattle.grammar.specs.Answer.{foundOf, foundNumber, numberOf, placeOf}
-use Rattle.grammar.specs.declared.Parsed.the-variants.{Broken}
+use Rattle.grammar.specs.Answer.{Broken, foundOf, foundNumber, numberOf, placeOf}
 use Rattle.table.specs.Table.{encode}
 use Rattle.translator.specs.Compile.{compile}
 use Rattle.translator.specs.declared.Translated.{Translated}

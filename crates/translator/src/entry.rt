@@ -1,28 +1,25 @@
-// Entries: how each is made, and how it is written into its own stretch of the table buffer.
+// Entries: how each is made of its code, and how it is written into its own stretch of the table buffer.
 ghost use mathlib.Core.Path.{_≡_};
-ghost use Prim.Native.Nat.{_+_, _-_, _*_, _≤_, _<_};
-ghost use lib.ListN.{length, getD};
+ghost use mathlib.Core.Bool.{true};
+ghost use Prim.Native.Nat.{_+_, _*_, _≤_, _<_};
+ghost use lib.ListN.{length};
 ghost use lib.Seq.{sets};
-ghost use Rattle.lexer.specs.Kind.{int32Kind, naming, ending};
-ghost use Rattle.grammar.specs.Grammar.{isLiteral};
-ghost use Rattle.grammar.specs.Parse.{tokenAt};
-ghost use Rattle.grammar.specs.Stream.{tokensIn};
-ghost use Rattle.table.specs.Table.{entryBytes, entriesBytes};
-ghost use Rattle.translator.specs.Compile.{entry, leafEntry, callEntry, skipOp, skipEntries};
-ghost use Rattle.translator.specs.Emit.{entryStart, skipCount};
-use grammar::stream;
+ghost use Rattle.grammar.specs.Marks.{isOperand};
+ghost use Rattle.grammar.specs.Stream.{tokenOf};
+ghost use Rattle.table.specs.Table.{entryBytes};
+ghost use Rattle.translator.specs.Compile.{entry, leafEntry, leafBytes};
+ghost use Rattle.translator.specs.Emit.{entryStart};
+ghost use Rattle.translator.specs.Expand.{opIn, aIn, pushes as pushesOf, broughtBy, entryBy};
 use table::Entry;
 
-// The ops that an entry is given by name, as wide as an entry has them.
+// The ops of literals and names, as wide as an entry has them.
+const INT32: u16 = opcode::INT32 as u16;
+
 const REAL64: u16 = opcode::REAL64 as u16;
 
 const TEXT: u16 = opcode::TEXT as u16;
 
 const NAME: u16 = opcode::NAME as u16;
-
-const SKIP_IF_FALSE: u16 = opcode::SKIP_IF_FALSE as u16;
-
-const SKIP_IF_TRUE: u16 = opcode::SKIP_IF_TRUE as u16;
 
 // The entry, over the whole of a part of 12 bytes.
 fn put_entry(part: &mut [u8], e: Entry)
@@ -43,34 +40,23 @@ pub fn put(out: &mut [u8], i: usize, e: Entry)
     put_entry(&mut out[at..at + 12], e);
 }
 
-// The entry of an operator.
-pub fn operator_entry(k: u8) -> Entry
-    ensures { λ r. ⌜ r ≡ entry k 0 0 ⌝ }
+// Whether a code is a literal's or a name's.
+pub fn pushes(c: u16) -> bool
+    ensures { λ r. ⌜ r ≡ pushesOf c ⌝ }
 {
-    Entry {
-        op: k as u16,
-        a: 0,
-        b: 0,
-    }
+    let op = c % 64;
+    (INT32 <= op) & (op <= NAME)
 }
 
-// The entry that pushes the literal or name at a token, whose bytes stand in the pool from `pool` on. It asks that a literal or a name stands there.
-pub fn leaf_entry(text: &[u8], kinds: &[u8], starts: &[u16], at: usize, pool: usize) -> Entry
-    requires { ⌜ (length (now text) ≤ 4096) × (int32Kind ≤ getD (now kinds) at ending) × (getD (now kinds) at ending ≤ naming) ⌝ }
-    ensures { λ r. ⌜ r ≡ leafEntry pool (tokenAt (tokensIn (now (text .entry)) (now (kinds .entry)) (now (starts .entry))) at) ⌝ }
+// The entry of an operator, a call or a skip, which its code has whole.
+fn code_entry(c: u16) -> Entry
+    ensures { λ r. ⌜ r ≡ entry (opIn c) (aIn c) 0 ⌝ }
 {
-    let k = stream::kind(kinds, at);
-    let s = stream::start(starts, at);
-    if k == lexer::NAME {
-        return part_entry(NAME, lexer::name_length(text, s), pool);
+    Entry {
+        op: c % 64,
+        a: c / 64,
+        b: 0,
     }
-    if k == lexer::TEXT {
-        return part_entry(TEXT, lexer::string_length(text, s), pool);
-    }
-    if k == lexer::REAL64 {
-        return literal_entry(REAL64, number::bits_of_real(lexer::real_value(text, s)));
-    }
-    literal_entry(k as u16, word::bits_of_i64(lexer::int_value(text, s)))
 }
 
 // "a length, b pool offset"
@@ -92,59 +78,59 @@ fn literal_entry(op: u16, b: u64) -> Entry
     Entry { op: op, a: 0, b: b }
 }
 
-// The entry of a call of the function f with so many arguments.
-pub fn call_entry(f: u8, count: usize) -> Entry
-    requires { ⌜ count ≤ 4096 ⌝ }
-    ensures { λ r. ⌜ r ≡ callEntry f count ⌝ }
+// The entry that pushes the literal or name of a kind at a place of the text, of which n bytes stand in the pool from `pool` on.
+fn leaf_entry(text: &[u8], op: u16, place: usize, n: usize, pool: usize) -> Entry
+    requires { ⌜ (isOperand op ≡ true) × (n ≡ length (leafBytes (tokenOf (now text) op place))) × (n ≤ 4096) ⌝ }
+    ensures { λ r. ⌜ r ≡ leafEntry pool (tokenOf (now (text .entry)) op place) ⌝ }
 {
-    if f < opcode::BEGINS_WITH {
-        return operator_entry(f);
+    if op == NAME {
+        return part_entry(NAME, n, pool);
     }
-    if count == 0 {
-        return operator_entry(f);
+    if op == TEXT {
+        return part_entry(TEXT, n, pool);
     }
-    part_entry(f as u16, count - 1, 0)
+    if op == REAL64 {
+        return literal_entry(REAL64, number::bits_of_real(lexer::real_value(text, place)));
+    }
+    literal_entry(op, word::bits_of_i64(lexer::int_value(text, place)))
 }
 
-// The skip of `&&` and of `||`; 0 for any other operator.
-fn skip_op(k: u8) -> u16
-    ensures { λ r. ⌜ r ≡ skipOp k ⌝ }
+// Copies what a literal or a name brings to the pool to the buffer, from `at` on, and answers how many bytes that is.
+fn put_bytes(text: &[u8], op: u16, place: usize, out: &mut [u8], at: usize) -> usize
+    requires { ⌜ at ≤ length (now out) ⌝ }
+    ensures { λ r. ⌜ r ≡ length (leafBytes (tokenOf (now (text .entry)) op place)) ⌝ }
+    ensures { λ _. ⌜ now (out .exit) ≡ sets (now (out .entry)) at (leafBytes (tokenOf (now (text .entry)) op place)) ⌝ }
 {
-    if k == opcode::AND {
-        return SKIP_IF_FALSE;
+    if op == TEXT {
+        let n = lexer::copy_string(text, place, &mut out[at..]);
+        return n;
     }
-    if k == opcode::OR {
-        return SKIP_IF_TRUE;
+    if op == NAME {
+        let n = lexer::copy_name(text, place, &mut out[at..]);
+        return n;
     }
     0
 }
 
-// The first entry of the right side of an operator, where the left side ends before the entry i.
-pub fn after_skip(k: u8, i: usize) -> usize
-    requires { ⌜ i ≤ 512 ⌝ }
-    ensures { λ r. ⌜ r ≡ i + skipCount k ⌝ }
+// Writes the entry i, which is that of the code c, and from `at` on what it brings to the pool; answers how many bytes that is. The next operand starts at `place`.
+pub fn put_code(
+    text: &[u8],
+    c: u16,
+    place: usize,
+    out: &mut [u8],
+    i: usize,
+    at: usize,
+    pool: usize,
+) -> usize
+    requires { ⌜ (i < 512) × (entryStart (i + 1) ≤ at) × (at + length (broughtBy (now text) c place) ≤ length (now out)) × (length (broughtBy (now text) c place) ≤ 4096) ⌝ }
+    ensures { λ r. ⌜ r ≡ length (broughtBy (now (text .entry)) c place) ⌝ }
+    ensures { λ _. ⌜ now (out .exit) ≡ sets (sets (now (out .entry)) at (broughtBy (now (text .entry)) c place)) (entryStart i) (entryBytes (entryBy (now (text .entry)) c place pool)) ⌝ }
 {
-    if skip_op(k) == 0 { i } else { i + 1 }
-}
-
-// The skip before a right side of n entries: "a is R's entries plus 1".
-fn skip_entry(skip: u16, n: usize) -> Entry
-    requires { ⌜ n < 4096 ⌝ }
-    ensures { λ r. ⌜ r ≡ entry skip (n + 1) 0 ⌝ }
-{
-    part_entry(skip, n + 1, 0)
-}
-
-// Writes a binary operator as the entry `end`, and the skip, if it has one, as the entry `from`, before its right side.
-pub fn put_operator(out: &mut [u8], k: u8, from: usize, end: usize)
-    requires { ⌜ (from < end) × (end < 512) × (entryStart (end + 1) ≤ length (now out)) ⌝ }
-    ensures { λ _. ⌜ now (out .exit) ≡ sets (sets (now (out .entry)) (entryStart from) (entriesBytes (skipEntries k (end - from - 1)))) (entryStart end) (entryBytes (entry k 0 0)) ⌝ }
-{
-    let skip = skip_op(k);
-    if skip == 0 {
-        put(out, end, operator_entry(k));
-        return;
+    if !pushes(c) {
+        put(out, i, code_entry(c));
+        return 0;
     }
-    put(out, from, skip_entry(skip, end - from - 1));
-    put(out, end, operator_entry(k));
+    let n = put_bytes(text, c % 64, place, out, at);
+    put(out, i, leaf_entry(text, c % 64, place, n, pool));
+    n
 }

@@ -9,7 +9,6 @@ use Rattle.lexer.proofs.lex.Tie as tie
 use Rattle.lexer.proofs.lex.Reads as reads
 use Rattle.lexer.proofs.lex.Lts as lts
 use Rattle.lexer.proofs.byte.is_space.Reads as is-space-reads
-use Rattle.lexer.proofs.run.rest.Reads as rest-reads
 use Rattle.lexer.proofs.scan.Reads as scan-reads
 
 abbrev Inv-loop : tie.InvT-loop
@@ -20,18 +19,18 @@ abbrev μ-loop : tie.MeasureT-loop
 μ-loop text kinds₀ starts₀ n₀ at₀ kinds starts n at = length text - at
 
 -- the token that was found, stored
-next : (c : tie.After-kind Inv-loop μ-loop) → let l = c .before .before .before .before .before .before .before .before .loop in
-    let a = c .before .before .before .before .before .before .before .before .before .before .before .before .before .args in
+next : (c : tie.After-kind Inv-loop μ-loop) → let l = c .before .before .before .before .before .before .before .loop in
+    let a = c .before .before .before .before .before .before .before .before .before .before .before .before .args in
     let g = c .kind .given .0 in
     Goes (a .text .now) (a .kinds .now) (a .starts .now) (set (l .kinds) (l .n) (g .0)) (set (l .starts) (l .n) (l .at)) (l .n + 1) (l .at + g .1 .0)
     × (0 < g .1 .0)
     × (l .at + g .1 .0 ≤ length (a .text .now))
 next c =
-    let l = c .before .before .before .before .before .before .before .before .loop in
-    let a = c .before .before .before .before .before .before .before .before .before .before .before .before .before .args in
+    let l = c .before .before .before .before .before .before .before .loop in
+    let a = c .before .before .before .before .before .before .before .before .before .before .before .before .args in
     let g = c .kind .given .0 in
-    let f = sym (c .before .before .before .before .before .is-space .ensures) ∙ c .before .before .before .before .if2 .left in
-    let q = rw (c .before .before .before .rest .ensures) at (sym (c .before .before .scan .ensures) ∙ c .kind .given .1) in
+    let f = sym (c .before .before .before .before .is-space .ensures) ∙ c .before .before .before .if2 .left in
+    let q = sym (c .before .before .scan .ensures) ∙ c .kind .given .1 in
     goes-on (a .text .now) (a .kinds .now) (a .starts .now) (l .kinds) (l .starts) (l .n) (l .at) (l .inv .1) (omega arith) f (g .0) (g .1 .0) q
 
 returns : tie.Need-returns Inv-loop μ-loop
@@ -58,45 +57,42 @@ loop-again c =
     let a = c .before .before .before .before .before .before .before .before .before .args in
     (l .inv .0, goes-space (a .text .now) (a .kinds .now) (a .starts .now) (l .kinds) (l .starts) (l .n) (l .at) (l .inv .1) (omega arith) (sym (c .before .is-space .ensures) ∙ c .if2 .taken), l .inv .2, l .inv .3)
 
-rest-requires : tie.Need-rest-requires Inv-loop μ-loop
-rest-requires c κs = search needs
-
 scan-requires : tie.Need-scan-requires Inv-loop μ-loop
-scan-requires c κs = search needs
+scan-requires c κs = (c .before .before .before .before .loop .inv .0, omega arith)
 
 enum-known-kind : tie.Need-enum-known-kind Inv-loop μ-loop
 enum-known-kind c = c .match .keys1
 
 slice-write-kinds : tie.Need-slice-write-kinds Inv-loop μ-loop
 slice-write-kinds c =
-    let l = c .before .before .before .before .before .before .before .before .before .loop in
-    omega (arith, l .inv .1 .count, l .inv .2, c .before .before .before .before .before .before .before .before .before .before .before .before .before .before .pre .0 (l .inv .0))
+    let l = c .before .before .before .before .before .before .before .before .loop in
+    omega (arith, l .inv .1 .count, l .inv .2, c .before .before .before .before .before .before .before .before .before .before .before .before .before .pre .0 (l .inv .0))
 
 cast-starts : tie.Need-cast-starts Inv-loop μ-loop
-cast-starts c = let g = c .before .before .before .before .before .before .before .before .before .loop .inv .1 in omega arith
+cast-starts c = let g = c .before .before .before .before .before .before .before .before .loop .inv .1 in omega arith
 
 mul-starts : tie.Need-mul-starts Inv-loop μ-loop
 mul-starts c =
-    let l = c .before .before .before .before .before .before .before .before .before .loop in
-    omega (arith, l .inv .1 .count, l .inv .3, l .inv .0, c .before .before .before .before .before .before .before .before .before .before .before .before .before .before .pre .1 (l .inv .0))
+    let l = c .before .before .before .before .before .before .before .before .loop in
+    omega (arith, l .inv .1 .count, l .inv .3, l .inv .0, c .before .before .before .before .before .before .before .before .before .before .before .before .before .pre .1 (l .inv .0))
 
 slice-write-starts : tie.Need-slice-write-starts Inv-loop μ-loop
 slice-write-starts c =
-    let l = c .before .before .before .before .before .before .before .before .before .loop in
-    omega (arith, l .inv .1 .count, l .inv .3, c .before .before .before .before .before .before .before .before .before .before .before .before .before .before .pre .1 (l .inv .0))
+    let l = c .before .before .before .before .before .before .before .before .loop in
+    omega (arith, l .inv .1 .count, l .inv .3, c .before .before .before .before .before .before .before .before .before .before .before .before .before .pre .1 (l .inv .0))
 
 add-n : tie.Need-add-n Inv-loop μ-loop
-add-n c = let g = c .before .before .before .before .before .before .before .before .before .loop .inv .1 in omega arith
+add-n c = let g = c .before .before .before .before .before .before .before .before .loop .inv .1 in omega arith
 
 add-at-2 : tie.Need-add-at-2 Inv-loop μ-loop
-add-at-2 c = let w = next (c .before) in omega (arith, w .2, c .before .before .before .before .before .before .before .before .before .loop .inv .0)
+add-at-2 c = let w = next (c .before) in omega (arith, w .2, c .before .before .before .before .before .before .before .before .loop .inv .0)
 
 loop-less-2 : tie.Need-loop-less-2 Inv-loop μ-loop
-loop-less-2 c = let g = c .before .before .before .before .before .before .before .before .before .loop .inv .1 in let w = next (c .before) in omega (arith, w .1, w .2)
+loop-less-2 c = let g = c .before .before .before .before .before .before .before .before .loop .inv .1 in let w = next (c .before) in omega (arith, w .1, w .2)
 
 loop-again-2 : tie.Need-loop-again-2 Inv-loop μ-loop
 loop-again-2 c =
-    let l = c .before .before .before .before .before .before .before .before .before .loop in
+    let l = c .before .before .before .before .before .before .before .before .loop in
     (l .inv .0, next (c .before) .0, simp length-set (l .inv .2), simp length-set (l .inv .3))
 
 enum-known-number : tie.Need-enum-known-number Inv-loop μ-loop
@@ -110,10 +106,10 @@ same-length-2 c = search needs
 
 returns-2 : tie.Need-returns-2 Inv-loop μ-loop
 returns-2 c =
-    let l = c .before .before .before .before .before .before .before .before .before .loop in
-    let a = c .before .before .before .before .before .before .before .before .before .before .before .before .before .before .args in
-    let f = sym (c .before .before .before .before .before .before .is-space .ensures) ∙ c .before .before .before .before .before .if2 .left in
-    let q = rw (c .before .before .before .before .rest .ensures) at (sym (c .before .before .before .scan .ensures) ∙ c .before .number .given .1) in
+    let l = c .before .before .before .before .before .before .before .before .loop in
+    let a = c .before .before .before .before .before .before .before .before .before .before .before .before .before .args in
+    let f = sym (c .before .before .before .before .before .is-space .ensures) ∙ c .before .before .before .before .if2 .left in
+    let q = sym (c .before .before .before .scan .ensures) ∙ c .before .number .given .1 in
     let w = lexes-bad (a .text .now) (a .kinds .now) (a .starts .now) (l .kinds) (l .starts) (l .n) (l .at) (l .inv .0) (l .inv .1) (omega arith) f (c .before .number .given .0 .0) q in
     (w .answer, (w .kinds, w .starts))
 
@@ -143,7 +139,6 @@ lex-spec =
     add-at
     loop-less
     loop-again
-    rest-requires
     scan-requires
     enum-known-kind
     slice-write-kinds

@@ -1,5 +1,13 @@
-use mathlib.Core.Path.{_∙_, sym, ap}
+use Prim.Native.Nat.{ℕ}
+use mathlib.Core.List.{List}
+use mathlib.Core.Path.{_≡_, _∙_, sym, ap}
+use mathlib.Core.Bool.{false}
+use native.Mathlib.Omega.{arith}
+use lib.ListN.{getD, drop}
+use lib.Seq.{getD-drop}
+use Rattle.lexer.specs.Byte.{startsName, startsNumber, isQuote}
 use Rattle.lexer.specs.Answer.{scannedOf}
+use Rattle.lexer.proofs.Runs.{byte-here}
 use Rattle.lexer.proofs.Scans.{is-name, is-number, is-string, is-symbol}
 use borrow.Author.Needs.{needs}
 use Rattle.lexer.proofs.scan.Statement.{statement}
@@ -15,8 +23,8 @@ use Rattle.lexer.proofs.scan_number.Reads as scan-number-reads
 use Rattle.lexer.proofs.scan_string.Reads as scan-string-reads
 use Rattle.lexer.proofs.scan_symbol.Reads as scan-symbol-reads
 
-byte-at-requires : tie.Need-byte-at-requires
-byte-at-requires c κs = search needs
+shared-slice-read-a : tie.Need-shared-slice-read-a
+shared-slice-read-a c = search needs
 
 starts-name-requires : tie.Need-starts-name-requires
 starts-name-requires c κs = search needs
@@ -26,11 +34,15 @@ scan-name-requires c κs = search needs
 
 returns : tie.Need-returns
 returns c =
-    let e = rw (c .before .before .before .byte-at .ensures) at (c .before .before .starts-name .ensures) in
-    c .scan-name .ensures ∙ ap scannedOf (sym (is-name (c .before .before .before .before .before .args .s .now) (sym e ∙ c .before .if1 .taken)))
+    let t = c .before .before .before .before .before .args in
+    let e = ap startsName (byte-here (t .text .now) (t .at)) ∙ sym (c .before .before .starts-name .ensures) ∙ c .before .if1 .taken in
+    c .scan-name .ensures ∙ ap scannedOf (sym (is-name (drop (t .at) (t .text .now)) e))
 
-byte-at-requires-2 : tie.Need-byte-at-requires-2
-byte-at-requires-2 c κs = search needs
+add-byte-at : tie.Need-add-byte-at
+add-byte-at c = search needs
+
+byte-at-requires : tie.Need-byte-at-requires
+byte-at-requires c κs = search needs
 
 starts-number-requires : tie.Need-starts-number-requires
 starts-number-requires c κs = search needs
@@ -38,44 +50,60 @@ starts-number-requires c κs = search needs
 scan-number-requires : tie.Need-scan-number-requires
 scan-number-requires c κs = search needs
 
+-- what stands first, and what the tests tell of it
+abbrev from : (c : tie.After-starts-number) → List ℕ
+from c = let t = c .before .before .before .before .before .before .args in drop (t .at) (t .text .now)
+
+no-name : (c : tie.After-starts-number) → let t = c .before .before .before .before .before .before .args in startsName (getD (drop (t .at) (t .text .now)) 0 0) ≡ false
+no-name c =
+    let t = c .before .before .before .before .before .before .args in
+    ap startsName (byte-here (t .text .now) (t .at)) ∙ sym (c .before .before .before .starts-name .ensures) ∙ c .before .before .if1 .left
+
+number : (c : tie.After-starts-number) → let t = c .before .before .before .before .before .before .args in
+    startsNumber (getD (drop (t .at) (t .text .now)) 0 0) (getD (drop (t .at) (t .text .now)) 1 0) ≡ c .starts-number .result
+number c =
+    let t = c .before .before .before .before .before .before .args in
+    rw (byte-here (t .text .now) (t .at), getD-drop (t .at) (t .text .now) 1 0, ← c .before .byte-at .ensures) (sym (c .starts-number .ensures))
+
+quote : (c : tie.After-is-quote) → let t = c .before .before .before .before .before .before .before .before .args in
+    isQuote (getD (drop (t .at) (t .text .now)) 0 0) ≡ c .is-quote .result
+quote c =
+    let t = c .before .before .before .before .before .before .before .before .args in
+    ap isQuote (byte-here (t .text .now) (t .at)) ∙ sym (c .is-quote .ensures)
+
 returns-2 : tie.Need-returns-2
 returns-2 c =
-    let e = rw (c .before .before .before .before .before .before .byte-at .ensures) at (c .before .before .before .before .before .starts-name .ensures) in
-    let f = rw (c .before .before .before .before .before .before .byte-at .ensures, c .before .before .before .byte-at2 .ensures) at (c .before .before .starts-number .ensures) in
-    c .scan-number .ensures ∙ ap scannedOf (sym (is-number (c .before .before .before .before .before .before .before .before .args .s .now) (sym e ∙ c .before .before .before .before .if1 .left) (sym f ∙ c .before .if2 .taken)))
+    c .scan-number .ensures ∙ ap scannedOf (sym (is-number (from (c .before .before)) (no-name (c .before .before)) (number (c .before .before) ∙ c .before .if2 .taken)))
 
 is-quote-requires : tie.Need-is-quote-requires
 is-quote-requires c κs = search needs
 
 scan-string-requires : tie.Need-scan-string-requires
-scan-string-requires c κs = search needs
+scan-string-requires c κs = (omega arith, sym (c .before .is-quote .ensures) ∙ c .if3 .taken)
 
 returns-3 : tie.Need-returns-3
 returns-3 c =
-    let e = rw (c .before .before .before .before .before .before .before .before .byte-at .ensures) at (c .before .before .before .before .before .before .before .starts-name .ensures) in
-    let f = rw (c .before .before .before .before .before .before .before .before .byte-at .ensures, c .before .before .before .before .before .byte-at2 .ensures) at (c .before .before .before .before .starts-number .ensures) in
-    let g = rw (c .before .before .before .before .before .before .before .before .byte-at .ensures) at (c .before .before .is-quote .ensures) in
-    c .scan-string .ensures ∙ ap scannedOf (sym (is-string (c .before .before .before .before .before .before .before .before .before .before .args .s .now) (sym e ∙ c .before .before .before .before .before .before .if1 .left) (sym f ∙ c .before .before .before .if2 .left) (sym g ∙ c .before .if3 .taken)))
+    let d = c .before .before .before .before in
+    c .scan-string .ensures ∙ ap scannedOf (sym (is-string (from d) (no-name d) (number d ∙ c .before .before .before .if2 .left) (quote (c .before .before) ∙ c .before .if3 .taken)))
 
 scan-symbol-requires : tie.Need-scan-symbol-requires
 scan-symbol-requires c κs = search needs
 
 returns-4 : tie.Need-returns-4
 returns-4 c =
-    let e = rw (c .before .before .before .before .before .before .before .before .byte-at .ensures) at (c .before .before .before .before .before .before .before .starts-name .ensures) in
-    let f = rw (c .before .before .before .before .before .before .before .before .byte-at .ensures, c .before .before .before .before .before .byte-at2 .ensures) at (c .before .before .before .before .starts-number .ensures) in
-    let g = rw (c .before .before .before .before .before .before .before .before .byte-at .ensures) at (c .before .before .is-quote .ensures) in
-    c .scan-symbol .ensures ∙ ap scannedOf (sym (is-symbol (c .before .before .before .before .before .before .before .before .before .before .args .s .now) (sym e ∙ c .before .before .before .before .before .before .if1 .left) (sym f ∙ c .before .before .before .if2 .left) (sym g ∙ c .before .if3 .left)))
+    let d = c .before .before .before .before in
+    c .scan-symbol .ensures ∙ ap scannedOf (sym (is-symbol (from d) (no-name d) (number d ∙ c .before .before .before .if2 .left) (quote (c .before .before) ∙ c .before .if3 .left)))
 
 pub scan-spec : {M : Type 1} → statement M
 scan-spec =
     tie.close
     (tie.spec
-    byte-at-requires
+    shared-slice-read-a
     starts-name-requires
     scan-name-requires
     returns
-    byte-at-requires-2
+    add-byte-at
+    byte-at-requires
     starts-number-requires
     scan-number-requires
     returns-2

@@ -1,66 +1,56 @@
-use mathlib.Core.Path.{_∙_, sym, ap}
-use borrow.Author.Tests.{not-true, not-false}
-use Rattle.lexer.specs.Token.{scanRun}
-use Rattle.lexer.specs.Answer.{scannedOf}
-use Rattle.lexer.proofs.Scans.{real-over, real-legal, scan-integer}
+use mathlib.Core.Path.{_∙_, sym}
+use mathlib.Core.Bool.{_&&_}
+use native.Mathlib.Omega.{arith}
+use lib.Dec.{ltb}
+use lib.ListN.{getD}
+use borrow.Author.Tests.{ltb-true}
+use Rattle.octets.proofs.Theorems.{and-parts}
+use Rattle.lexer.specs.Byte.{within}
+use Rattle.lexer.proofs.Scans.{plain-number}
 use borrow.Author.Needs.{needs}
 use Rattle.lexer.proofs.scan_number.Statement.{statement}
 use Rattle.lexer.proofs.scan_number.Tie as tie
 use Rattle.lexer.proofs.scan_number.Reads as reads
 use Rattle.lexer.proofs.scan_number.Lts as lts
-use Rattle.lexer.proofs.real.fraction_digits.Reads as fraction-digits-reads
-use Rattle.lexer.proofs.real.is_real.Reads as is-real-reads
-use Rattle.lexer.proofs.real.real_fits.Reads as real-fits-reads
-use Rattle.lexer.proofs.real.whole_digits.Reads as whole-digits-reads
-use Rattle.lexer.proofs.run.run.Reads as run-reads
-use Rattle.lexer.proofs.scan_integer.Reads as scan-integer-reads
+use Rattle.lexer.proofs.digits.digits.Reads as digits-reads
+use Rattle.lexer.proofs.run.ended.Reads as ended-reads
+use Rattle.lexer.proofs.scan_odd_number.Reads as scan-odd-number-reads
 
-run-requires : tie.Need-run-requires
-run-requires c κs = search needs
+digits-requires : tie.Need-digits-requires
+digits-requires c κs = search needs
 
-whole-digits-requires : tie.Need-whole-digits-requires
-whole-digits-requires c κs = search needs
+shared-slice-read-a : tie.Need-shared-slice-read-a
+shared-slice-read-a c = search needs
 
-fraction-digits-requires : tie.Need-fraction-digits-requires
-fraction-digits-requires c κs = search needs
+ended-requires : tie.Need-ended-requires
+ended-requires c κs = search needs
 
-is-real-requires : tie.Need-is-real-requires
-is-real-requires c κs = search needs
-
-scan-integer-requires : tie.Need-scan-integer-requires
-scan-integer-requires c κs = search needs
+sub-t15 : tie.Need-sub-t15
+sub-t15 c = search needs
 
 returns : tie.Need-returns
 returns c =
-    let r = c .before .before .before .before .before .run .result .now in
-    let e = scan-integer r (sym (c .before .before .is-real .ensures) ∙ not-true _ (c .before .if1 .taken)) in
-    c .scan-integer .ensures ∙ ap scannedOf (sym e) ∙ ap (λ l. scannedOf (scanRun l)) (c .before .before .before .before .before .run .ensures)
+    let t = c .before .before .before .before .before .before .args in
+    let d = c .before .before .before .before .digits in
+    let a = getD (t .text .now) (t .at) 0 in
+    let p = and-parts (within 49 57 a && ltb (d .result .value) 2147483648) (c .before .ended .result) (c .if1 .taken) in
+    let q = and-parts (within 49 57 a) (ltb (d .result .value) 2147483648) (p .0) in
+    plain-number (t .text .now) (t .at) (d .result .end) (d .result .value) (omega arith) (d .ensures .0) (d .ensures .1) (q .0) (ltb-true (d .result .value) 2147483648 (q .1)) (sym (c .before .ended .ensures) ∙ p .1)
 
-real-fits-requires : tie.Need-real-fits-requires
-real-fits-requires c κs = search needs
+scan-odd-number-requires : tie.Need-scan-odd-number-requires
+scan-odd-number-requires c κs = search needs
 
 returns-2 : tie.Need-returns-2
-returns-2 c =
-    let r = c .before .before .before .before .before .before .run .result .now in
-    real-legal r (sym (c .before .before .before .is-real .ensures) ∙ not-false _ (c .before .before .if1 .left)) (sym (c .before .real-fits .ensures) ∙ c .if2 .taken)
-    ∙ ap (λ l. scannedOf (scanRun l)) (c .before .before .before .before .before .before .run .ensures)
-
-returns-3 : tie.Need-returns-3
-returns-3 c =
-    let r = c .before .before .before .before .before .before .run .result .now in
-    real-over r (sym (c .before .before .before .is-real .ensures) ∙ not-false _ (c .before .before .if1 .left)) (sym (c .before .real-fits .ensures) ∙ c .if2 .left)
-    ∙ ap (λ l. scannedOf (scanRun l)) (c .before .before .before .before .before .before .run .ensures)
+returns-2 c = search needs
 
 pub scan-number-spec : {M : Type 1} → statement M
 scan-number-spec =
     tie.close
     (tie.spec
-    run-requires
-    whole-digits-requires
-    fraction-digits-requires
-    is-real-requires
-    scan-integer-requires
+    digits-requires
+    shared-slice-read-a
+    ended-requires
+    sub-t15
     returns
-    real-fits-requires
-    returns-2
-    returns-3)
+    scan-odd-number-requires
+    returns-2)

@@ -1,43 +1,42 @@
 use native.Mathlib.Omega.{arith}
-use mathlib.Core.Path.{_≡_, sym, ap, _∙_, subst}
-use Prim.Native.Nat.{ℕ, _≤_, _+_, _*_}
+use mathlib.Core.Path.{_≡_, refl, sym, ap, _∙_, subst}
 use lib.ListN.{length}
-use lib.Seq.{length-sets}
-use Rattle.grammar.specs.declared.found.Found.{Found}
-use Rattle.translator.proofs.Filling.{answers-refused, answers-table, judged}
+use Rattle.translator.proofs.Answering.{first-refused, count-few, entries-few, coded, front-as}
 use borrow.Author.Needs.{needs}
 use Rattle.translator.proofs.expression.Statement.{statement}
 use Rattle.translator.proofs.expression.Tie as tie
 use Rattle.translator.proofs.expression.Reads as reads
 use Rattle.translator.proofs.expression.Lts as lts
-use Rattle.translator.proofs.first_refusal.Reads as first-refusal-reads
-use Rattle.translator.proofs.accepted.Reads as accepted-reads
-use Rattle.translator.proofs.refused.Reads as refused-reads
 
 first-refusal-requires : tie.Need-first-refusal-requires
-first-refusal-requires c κs =
-    omega (arith, c .before .before .before .before .pre .2 .small, ap (λ (f : Found). f .pool) (c .before .before .before .before .pre .2 .has))
+first-refusal-requires c κs = search needs
 
 refused-requires : tie.Need-refused-requires
 refused-requires c κs = search needs
 
 returns : tie.Need-returns
-returns c =
-    let a = c .before .before .before .before .before .before .before .args in
-    answers-refused (c .before .before .before .before .before .before .before .pre .2) (length (a .buffer .now)) (c .before .before .first-refusal .ensures) (a .edition) (length (a .text .now)) (a .starts .now) (c .before .if1 .taken) (c .refused .ensures)
+returns c = first-refused (λ i. omega (arith, c .before .before .before .before .before .before .before .shared-slice-known .given i)) (c .before .before .before .before .before .before .before .before .pre .3) (c .before .before .before .before .before .before .before .before .args .edition) (length (c .before .before .before .before .before .before .before .before .args .buffer .now)) (c .before .before .first-refusal .ensures) (c .before .if1 .taken) (c .refused .ensures)
 
-accepted-requires : tie.Need-accepted-requires
-accepted-requires c κs =
-    let a = c .before .before .before .before .before .before .before .args in
-    (c .before .before .before .before .before .before .before .pre .0, c .before .before .before .before .before .before .before .pre .1, judged (c .before .before .before .before .before .before .before .pre .2) (length (a .buffer .now)) (c .before .before .first-refusal .ensures) (c .before .if1 .left))
+pool-length-requires : tie.Need-pool-length-requires
+pool-length-requires c κs = count-few (λ i. omega (arith, c .before .before .before .before .before .before .shared-slice-known .given i)) (c .before .before .before .before .before .before .before .pre .3) (sym (c .before .first-refusal .ensures) ∙ c .if1 .left)
+
+sub-coded : tie.Need-sub-coded
+sub-coded c = search needs
+
+part-coded-start : tie.Need-part-coded-start
+part-coded-start c = search needs
+
+part-coded-end : tie.Need-part-coded-end
+part-coded-end c = omega (arith, entries-few (λ i. omega (arith, c .before .before .before .before .before .before .before .shared-slice-known .given i)) (c .before .before .before .before .before .before .before .before .pre .3) (sym (c .before .before .first-refusal .ensures) ∙ c .before .if1 .left) (c .before .before .before .before .before .before .before .before .pre .2))
+
+coded-requires : tie.Need-coded-requires
+coded-requires c κs = coded (λ i. omega (arith, c .before .before .before .before .before .before .before .before .before .shared-slice-known .given i)) (c .before .before .before .before .before .before .before .before .before .before .pre .3) (sym (c .before .before .before .before .first-refusal .ensures) ∙ c .before .before .before .if1 .left) (c .before .before .before .before .before .before .before .before .before .before .pre .0) (c .before .before .before .before .before .before .before .before .before .before .pre .1) (c .before .before .before .before .before .before .before .before .before .before .pre .2) (c .before .before .pool-length .ensures) (front-as (c .before .before .before .before .before .before .before .before .before .before .args .j .entries) (c .before .before .before .before .before .before .before .before .before .before .args .codes .now))
 
 same-length : tie.Need-same-length
 same-length c = search needs
 
 returns-2 : tie.Need-returns-2
-returns-2 c =
-    let a = c .before .before .before .before .before .before .before .before .before .before .args in
-    answers-table (c .before .before .before .before .before .before .before .before .before .before .pre .2) (length (a .buffer .now)) (c .before .before .before .before .before .first-refusal .ensures) (a .edition) (length (a .text .now)) (a .starts .now) (c .before .before .before .before .if1 .left) (c .before .before .accepted .ensures .0) (c .before .before .accepted .ensures .1)
+returns-2 c = c .before .before .coded .ensures
 
 pub expression-spec : {M : Type 1} → statement M
 expression-spec =
@@ -46,6 +45,10 @@ expression-spec =
     first-refusal-requires
     refused-requires
     returns
-    accepted-requires
+    pool-length-requires
+    sub-coded
+    part-coded-start
+    part-coded-end
+    coded-requires
     same-length
     returns-2)

@@ -1,21 +1,16 @@
 use native.Mathlib.Omega.{arith}
-use mathlib.Core.Path.{_≡_, sym, ap, _∙_}
+use mathlib.Core.Path.{_≡_, refl, sym, ap, _∙_, subst}
 use lib.ListN.{length}
-use lib.Seq.{length-sets}
-use Rattle.lexer.specs.Token.{tokensOf, kindsOf, startsOf}
-use Rattle.translator.proofs.Stores.{kept-by}
-use Rattle.translator.proofs.Answering.{tokened, few, kinds-front, starts-front, asked, translated, refused-first}
+use Rattle.translator.specs.Emit.{Reads}
+use Rattle.translator.proofs.Answering.{front-as, answers-read}
 use borrow.Author.Needs.{needs}
 use Rattle.translator.proofs.translate_in.Statement.{statement}
 use Rattle.translator.proofs.translate_in.Tie as tie
 use Rattle.translator.proofs.translate_in.Reads as reads
 use Rattle.translator.proofs.translate_in.Lts as lts
-use Rattle.lexer.proofs.lex.Reads as lex-reads
-use Rattle.translator.proofs.refused.Reads as refused-reads
-use Rattle.translator.proofs.tokens.Reads as tokens-reads
 
-lex-requires : tie.Need-lex-requires
-lex-requires c κs = c .before .before .before .before .before .before .pre
+read-requires : tie.Need-read-requires
+read-requires c κs = c .before .before .before .before .before .before .before .before .before .pre .0
 
 enum-known-n : tie.Need-enum-known-n
 enum-known-n c = search needs
@@ -28,29 +23,13 @@ part-tokens-start c = search needs
 
 part-tokens-end : tie.Need-part-tokens-end
 part-tokens-end c =
-    let a = c .before .before .before .before .before .before .before .before .before .before .before .before .before .before .before .args in
-    let t = tokened (a .text .now) (λ i. omega (arith, c .before .before .before .before .before .before .before .before .before .before .before .before .before .before .shared-slice-known .given i)) (c .before .before .before .before .before .before .before .before .lex .ensures .0) (c .before .before .n .given .1) in
-    let k = kept-by (a .kinds .now) _ 0 (kindsOf (tokensOf (a .text .now))) (c .before .before .before .before .before .before .before .before .lex .ensures .1 .0) in
-    omega (arith, few t (a .kinds .now) (c .before .before .before .before .before .before .before .before .before .before .before .before .before .before .before .pre .0), k)
-
-sub-tokens-2 : tie.Need-sub-tokens-2
-sub-tokens-2 c = search needs
-
-part-tokens-start-2 : tie.Need-part-tokens-start-2
-part-tokens-start-2 c = search needs
-
-part-tokens-end-2 : tie.Need-part-tokens-end-2
-part-tokens-end-2 c =
-    let a = c .before .before .before .before .before .before .before .before .before .before .before .before .before .before .before .before .before .args in
-    let t = tokened (a .text .now) (λ i. omega (arith, c .before .before .before .before .before .before .before .before .before .before .before .before .before .before .before .before .shared-slice-known .given i)) (c .before .before .before .before .before .before .before .before .before .before .lex .ensures .0) (c .before .before .before .before .n .given .1) in
-    let k = kept-by (a .starts .now) _ 0 (startsOf (tokensOf (a .text .now))) (c .before .before .before .before .before .before .before .before .before .before .lex .ensures .1 .1) in
-    omega (arith, few t (a .starts .now) (c .before .before .before .before .before .before .before .before .before .before .before .before .before .before .before .before .before .pre .1), k)
+    let rd = subst (Reads (c .before .before .before .before .before .before .before .before .before .before .before .before .before .before .before .before .before .before .before .before .args .text .now) _ _ _) (c .before .before .n .given .1) (c .before .before .before .before .before .before .before .before .before .before .read .ensures .0) in
+    omega (arith, rd .0)
 
 tokens-requires : tie.Need-tokens-requires
 tokens-requires c κs =
-    let a = c .before .before .before .before .before .before .before .before .before .before .before .before .before .before .before .before .before .before .before .args in
-    let t = tokened (a .text .now) (λ i. omega (arith, c .before .before .before .before .before .before .before .before .before .before .before .before .before .before .before .before .before .before .shared-slice-known .given i)) (c .before .before .before .before .before .before .before .before .before .before .before .before .lex .ensures .0) (c .before .before .before .before .before .before .n .given .1) in
-    asked t (kinds-front t (a .kinds .now) _ (c .before .before .before .before .before .before .before .before .before .before .before .before .before .before .before .before .before .before .before .pre .0) (c .before .before .before .before .before .before .before .before .before .before .before .before .lex .ensures .1 .0)) (starts-front t (a .starts .now) _ (c .before .before .before .before .before .before .before .before .before .before .before .before .before .before .before .before .before .before .before .pre .1) (c .before .before .before .before .before .before .before .before .before .before .before .before .lex .ensures .1 .1))
+    let rd = subst (Reads (c .before .before .before .before .before .before .before .before .before .before .before .before .before .before .before .before .before .before .before .before .before .before .before .before .before .args .text .now) _ _ _) (c .before .before .before .before .before .before .before .n .given .1) (c .before .before .before .before .before .before .before .before .before .before .before .before .before .before .before .read .ensures .0) in
+    ((λ m x y. omega (arith, c .before .before .before .before .before .before .before .before .before .before .before .before .before .before .before .before .before .before .before .before .before .before .before .before .before .pre .1 m x y, c .before .before .before .before .before .before .before .before .before .before .before .before .before .before .before .read .ensures .1 .1)), (λ m x y. omega (arith, c .before .before .before .before .before .before .before .before .before .before .before .before .before .before .before .before .before .before .before .before .before .before .before .before .before .pre .2 m x y, c .before .before .before .before .before .before .before .before .before .before .before .before .before .before .before .read .ensures .1 .2)), c .before .before .before .before .before .before .before .before .before .before .before .before .before .before .before .before .before .before .before .before .before .before .before .before .before .pre .3, rw front-as (rd .1))
 
 enum-known-number : tie.Need-enum-known-number
 enum-known-number c = search needs
@@ -67,42 +46,46 @@ same-length-2 c = search needs
 same-length-3 : tie.Need-same-length-3
 same-length-3 c = search needs
 
-returns : tie.Need-returns
-returns c =
-    let a = c .before .before .before .before .before .before .before .before .before .before .before .before .before .before .before .before .before .before .before .before .before .before .args in
-    let t = tokened (a .text .now) (λ i. omega (arith, c .before .before .before .before .before .before .before .before .before .before .before .before .before .before .before .before .before .before .before .before .before .shared-slice-known .given i)) (c .before .before .before .before .before .before .before .before .before .before .before .before .before .before .before .lex .ensures .0) (c .before .before .before .before .before .before .before .before .before .n .given .1) in
-    translated t (kinds-front t (a .kinds .now) _ (c .before .before .before .before .before .before .before .before .before .before .before .before .before .before .before .before .before .before .before .before .before .before .pre .0) (c .before .before .before .before .before .before .before .before .before .before .before .before .before .before .before .lex .ensures .1 .0)) (starts-front t (a .starts .now) _ (c .before .before .before .before .before .before .before .before .before .before .before .before .before .before .before .before .before .before .before .before .before .before .pre .1) (c .before .before .before .before .before .before .before .before .before .before .before .before .before .before .before .lex .ensures .1 .1)) (a .edition) (length (a .buffer .now)) (c .before .before .tokens .ensures)
-
 same-length-4 : tie.Need-same-length-4
 same-length-4 c = search needs
 
 same-length-5 : tie.Need-same-length-5
 same-length-5 c = search needs
 
+returns : tie.Need-returns
+returns c = c .before .before .before .before .tokens .ensures
+
+same-length-6 : tie.Need-same-length-6
+same-length-6 c = search needs
+
+same-length-7 : tie.Need-same-length-7
+same-length-7 c = search needs
+
+same-length-8 : tie.Need-same-length-8
+same-length-8 c = search needs
+
 returns-2 : tie.Need-returns-2
-returns-2 c =
-    let a = c .before .before .before .before .before .before .before .before .before .before .before .before .before .before .before .args in
-    refused-first (a .edition) (a .text .now) (length (a .buffer .now)) (c .before .before .before .before .before .before .before .before .lex .ensures .0) (c .before .before .number .given .1) (c .refused .ensures)
+returns-2 c = answers-read (c .before .before .before .before .before .before .before .before .before .before .before .before .before .before .before .before .before .before .before .before .args .text .now) (c .before .before .before .before .before .before .before .before .before .before .before .before .before .before .before .before .before .before .before .before .args .edition) (length (c .before .before .before .before .before .before .before .before .before .before .before .before .before .before .before .before .before .before .before .before .args .buffer .now)) (subst (Reads (c .before .before .before .before .before .before .before .before .before .before .before .before .before .before .before .before .before .before .before .before .args .text .now) _ _ _) (c .before .before .number .given .1) (c .before .before .before .before .before .before .before .before .before .before .read .ensures .0)) (c .refused .ensures)
 
 pub translate-in-spec : {M : Type 1} → statement M
 translate-in-spec =
     tie.close
     (tie.spec
-    lex-requires
+    read-requires
     enum-known-n
     sub-tokens
     part-tokens-start
     part-tokens-end
-    sub-tokens-2
-    part-tokens-start-2
-    part-tokens-end-2
     tokens-requires
     enum-known-number
     refused-requires
     same-length
     same-length-2
     same-length-3
-    returns
     same-length-4
     same-length-5
+    returns
+    same-length-6
+    same-length-7
+    same-length-8
     returns-2)

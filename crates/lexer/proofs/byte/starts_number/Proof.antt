@@ -1,3 +1,7 @@
+use mathlib.Core.Path.{sym}
+use mathlib.Core.Bool.{or-false}
+use borrow.Author.Tests.{ne-eqb}
+use Rattle.lexer.specs.Byte.{isDigitIn}
 use borrow.Author.Needs.{needs}
 use Rattle.lexer.proofs.byte.starts_number.Statement.{statement}
 use Rattle.lexer.proofs.byte.starts_number.Tie as tie
@@ -8,11 +12,17 @@ use Rattle.lexer.proofs.byte.is_decimal.Reads as is-decimal-reads
 is-decimal-requires : tie.Need-is-decimal-requires
 is-decimal-requires c κs = search needs
 
+returns : tie.Need-returns
+returns c = rw (c .is-decimal .ensures, c .before .if1 .taken)
+
 is-decimal-requires-2 : tie.Need-is-decimal-requires-2
 is-decimal-requires-2 c κs = search needs
 
-returns : tie.Need-returns
-returns c = rw (c .before .is-decimal .ensures, c .is-decimal2 .ensures)
+returns-2 : tie.Need-returns-2
+returns-2 c =
+    let a = c .before .before .args .a in
+    rw (c .is-decimal2 .ensures, ne-eqb a 45 (c .before .if1 .left)) (sym (or-false (isDigitIn 10 a)))
 
 pub starts-number-spec : {M : Type 1} → statement M
-starts-number-spec = tie.close (tie.spec is-decimal-requires is-decimal-requires-2 returns)
+starts-number-spec =
+    tie.close (tie.spec is-decimal-requires returns is-decimal-requires-2 returns-2)

@@ -4,13 +4,12 @@ use mathlib.Core.Bool.{true, false, _&&_}
 use native.Mathlib.Omega.{arith}
 use lib.ListN.{length, drop}
 use Rattle.lexer.specs.Run.{runFrom, runOf, unescaped, legalName}
-use Rattle.lexer.proofs.Runs.{run-stop, run-more, run-end, dropped, kept, plain-stop, plain-end, legal-so-far, legal-stop, legal-end}
+use Rattle.lexer.proofs.Runs.{passes-length, run-stop, run-more, run-end, dropped, kept, plain-stop, plain-end, legal-so-far, legal-stop, legal-end}
 use borrow.Author.Needs.{needs}
 use Rattle.lexer.proofs.run.measure_name.Statement.{statement}
 use Rattle.lexer.proofs.run.measure_name.Tie as tie
 use Rattle.lexer.proofs.run.measure_name.Reads as reads
 use Rattle.lexer.proofs.run.measure_name.Lts as lts
-use Rattle.lexer.proofs.run.common_length.Reads as common-length-reads
 use Rattle.lexer.proofs.run.ends.Reads as ends-reads
 use Rattle.lexer.proofs.run.legal_byte.Reads as legal-byte-reads
 use Rattle.lexer.proofs.run.takes.Reads as takes-reads
@@ -26,13 +25,10 @@ Inv-loop s first legal₀ n₀ taken₀ i₀ legal n taken i =
 abbrev μ-loop : tie.MeasureT-loop
 μ-loop s first legal₀ n₀ taken₀ i₀ legal n taken i = length s - i
 
-common-length-requires : tie.Need-common-length-requires Inv-loop μ-loop
-common-length-requires c κs = search needs
-
 loop-holds : tie.Need-loop-holds Inv-loop μ-loop
 loop-holds c =
-    let g = c .common-length .ensures in
-    (g .0, omega arith, g .1, g .2, g .3)
+    let g = c .before .pre in
+    (g .0 .0, omega arith, g .0 .1, passes-length 0 (c .before .args .s .now) (c .before .args .first) (g .0), g .1)
 
 shared-slice-read-b : tie.Need-shared-slice-read-b Inv-loop μ-loop
 shared-slice-read-b c = search needs
@@ -42,7 +38,7 @@ ends-requires c κs = search needs
 
 returns : tie.Need-returns Inv-loop μ-loop
 returns c =
-    let s = c .before .before .before .before .before .before .before .args .s .now in
+    let s = c .before .before .before .before .before .before .args .s .now in
     let l = c .before .before .before .before .loop in
     let e = rw (c .before .ends .ensures) at (c .if1 .taken) in
     let z = run-stop s (l .i) (omega arith) 0 (l .taken) e in
@@ -66,7 +62,7 @@ loop-again : tie.Need-loop-again Inv-loop μ-loop
 loop-again c =
     let l = c .before .before .before .before .before .before .before .loop in
     let e = rw (c .before .before .before .before .ends .ensures) at (c .before .before .before .if1 .left) in
-    let s = c .before .before .before .before .before .before .before .before .before .before .args .s .now in
+    let s = c .before .before .before .before .before .before .before .before .before .args .s .now in
     let g = sym (c .before .takes .ensures) ∙ c .if2 .taken in
     let m = run-more s (l .i) (omega arith) 0 (l .taken) e in
     let d = dropped s (l .i) (omega arith) 0 (l .taken) e g in
@@ -83,7 +79,7 @@ loop-again-2 : tie.Need-loop-again-2 Inv-loop μ-loop
 loop-again-2 c =
     let l = c .before .before .before .before .before .before .before .loop in
     let e = rw (c .before .before .before .before .ends .ensures) at (c .before .before .before .if1 .left) in
-    let s = c .before .before .before .before .before .before .before .before .before .before .args .s .now in
+    let s = c .before .before .before .before .before .before .before .before .before .args .s .now in
     let g = sym (c .before .takes .ensures) ∙ c .if2 .left in
     let m = run-more s (l .i) (omega arith) 0 (l .taken) e in
     let d = kept s (l .i) (omega arith) 0 (l .taken) e g in
@@ -92,7 +88,7 @@ loop-again-2 c =
 
 returns-2 : tie.Need-returns-2 Inv-loop μ-loop
 returns-2 c =
-    let s = c .before .before .before .before .args .s .now in
+    let s = c .before .before .before .args .s .now in
     let l = c .before .loop in
     let z = run-end s (l .i) (omega arith) 0 (l .taken) in
     let p = plain-end s (l .i) (omega arith) 0 (l .taken) in
@@ -105,7 +101,6 @@ measure-name-spec =
     (tie.spec
     Inv-loop
     μ-loop
-    common-length-requires
     loop-holds
     shared-slice-read-b
     ends-requires

@@ -1,56 +1,32 @@
-use native.Mathlib.Omega.{arith}
-use mathlib.Core.Path.{sym, ap, _∙_}
+use mathlib.Core.Path.{_≡_, refl, sym, ap, _∙_, subst}
 use lib.Ieee.{binary64, toBits}
 use mir.Syntax.{w64}
 use mir.Val.{ofZ}
 use mir.ValLaws.{toZ-ofZ}
-use Rattle.grammar.proofs.Streams.{name-small, string-small}
 use Rattle.translator.proofs.Making.{name-made, string-made, real-made, int-made}
 use borrow.Author.Needs.{needs}
 use Rattle.translator.proofs.entry.leaf_entry.Statement.{statement}
 use Rattle.translator.proofs.entry.leaf_entry.Tie as tie
 use Rattle.translator.proofs.entry.leaf_entry.Reads as reads
 use Rattle.translator.proofs.entry.leaf_entry.Lts as lts
-use Rattle.grammar.proofs.stream.kind.Reads as kind-reads
-use Rattle.grammar.proofs.stream.start.Reads as start-reads
 use Rattle.lexer.proofs.int_value.Reads as int-value-reads
-use Rattle.lexer.proofs.name_length.Reads as name-length-reads
 use Rattle.lexer.proofs.real_value.Reads as real-value-reads
-use Rattle.lexer.proofs.string_length.Reads as string-length-reads
 use Rattle.number.proofs.bits_of_real.Reads as bits-of-real-reads
 use Rattle.translator.proofs.entry.literal_entry.Reads as literal-entry-reads
 use Rattle.translator.proofs.entry.part_entry.Reads as part-entry-reads
 use Rattle.word.proofs.bits_of_i64.Reads as bits-of-i64-reads
 
-kind-requires : tie.Need-kind-requires
-kind-requires c κs = search needs
-
-start-requires : tie.Need-start-requires
-start-requires c κs = search needs
-
-name-length-requires : tie.Need-name-length-requires
-name-length-requires c κs = search needs
-
 part-entry-requires : tie.Need-part-entry-requires
-part-entry-requires c κs =
-    omega (arith, c .name-length .ensures, name-small (c .before .before .before .before .before .before .before .args .text .now) (c .before .before .start .result), c .before .before .before .before .before .before .before .pre .0)
+part-entry-requires c κs = search needs
 
 returns : tie.Need-returns
-returns c =
-    let a = c .before .before .before .before .before .before .before .before .args in
-    name-made (a .text .now) (a .kinds .now) (a .starts .now) (a .at) (a .pool) (c .before .before .before .before .kind .ensures) (c .before .before .before .start .ensures) (c .before .before .if1 .taken) (c .before .name-length .ensures) (c .part-entry .ensures)
-
-string-length-requires : tie.Need-string-length-requires
-string-length-requires c κs = search needs
+returns c = name-made (c .before .before .before .args .text .now) (c .before .before .before .args .op) (c .before .before .before .args .place) (c .before .before .before .args .n) (c .before .before .before .args .pool) (c .before .before .before .pre .1) (c .before .if1 .taken) (c .part-entry .ensures)
 
 part-entry-requires-2 : tie.Need-part-entry-requires-2
-part-entry-requires-2 c κs =
-    omega (arith, c .string-length .ensures, string-small (c .before .before .before .before .before .before .before .before .args .text .now) (c .before .before .before .start .result), c .before .before .before .before .before .before .before .before .pre .0)
+part-entry-requires-2 c κs = search needs
 
 returns-2 : tie.Need-returns-2
-returns-2 c =
-    let a = c .before .before .before .before .before .before .before .before .before .args in
-    string-made (a .text .now) (a .kinds .now) (a .starts .now) (a .at) (a .pool) (c .before .before .before .before .before .kind .ensures) (c .before .before .before .before .start .ensures) (c .before .before .if2 .taken) (c .before .string-length .ensures) (c .part-entry2 .ensures)
+returns-2 c = string-made (c .before .before .before .before .args .text .now) (c .before .before .before .before .args .op) (c .before .before .before .before .args .place) (c .before .before .before .before .args .n) (c .before .before .before .before .args .pool) (c .before .before .before .before .pre .1) (c .before .if2 .taken) (c .part-entry2 .ensures)
 
 real-value-requires : tie.Need-real-value-requires
 real-value-requires c κs = search needs
@@ -62,12 +38,7 @@ literal-entry-requires : tie.Need-literal-entry-requires
 literal-entry-requires c κs = search needs
 
 returns-3 : tie.Need-returns-3
-returns-3 c =
-    let a = c .before .before .before .before .before .before .before .before .before .before .before .args in
-    real-made (a .text .now) (a .kinds .now) (a .starts .now) (a .at) (a .pool) (c .before .before .before .before .before .before .before .kind .ensures) (c .before .before .before .before .before .before .start .ensures) (c .before .before .before .if3 .taken) (c .before .bits-of-real .ensures ∙ ap (toBits binary64) (c .before .before .real-value .ensures)) (c .literal-entry .ensures)
-
-cast-literal-entry : tie.Need-cast-literal-entry
-cast-literal-entry c = search needs
+returns-3 c = real-made (c .before .before .before .before .before .before .before .args .text .now) (c .before .before .before .before .before .before .before .args .op) (c .before .before .before .before .before .before .before .args .place) (c .before .before .before .before .before .before .before .args .pool) (c .before .before .before .if3 .taken) (c .before .bits-of-real .ensures ∙ ap (toBits binary64) (c .before .before .real-value .ensures)) (c .literal-entry .ensures)
 
 int-value-requires : tie.Need-int-value-requires
 int-value-requires c κs = search needs
@@ -79,27 +50,20 @@ literal-entry-requires-2 : tie.Need-literal-entry-requires-2
 literal-entry-requires-2 c κs = search needs
 
 returns-4 : tie.Need-returns-4
-returns-4 c =
-    let a = c .before .before .before .before .before .before .before .before .before .before .before .args in
-    int-made (a .text .now) (a .kinds .now) (a .starts .now) (a .at) (a .pool) (c .before .before .before .before .before .before .before .kind .ensures) (c .before .before .before .before .before .before .start .ensures) (c .before .before .before .before .before .before .before .before .before .before .before .pre .1) (c .before .before .before .before .before .before .before .before .before .before .before .pre .2) (c .before .before .before .before .before .if1 .left) (c .before .before .before .before .if2 .left) (c .before .before .before .if3 .left) ((rw (toZ-ofZ w64 (c .before .before .int-value .result) (record { sfits = c .before .before .int-value .ok })) at (c .before .bits-of-i64 .ensures)) ∙ ap (ofZ w64) (c .before .before .int-value .ensures)) (c .literal-entry2 .ensures)
+returns-4 c = int-made (c .before .before .before .before .before .before .before .args .text .now) (c .before .before .before .before .before .before .before .args .op) (c .before .before .before .before .before .before .before .args .place) (c .before .before .before .before .before .before .before .args .pool) (c .before .before .before .before .before .before .before .pre .0) (c .before .before .before .before .before .if1 .left) (c .before .before .before .before .if2 .left) (c .before .before .before .if3 .left) ((rw (toZ-ofZ w64 (c .before .before .int-value .result) (record { sfits = c .before .before .int-value .ok })) at (c .before .bits-of-i64 .ensures)) ∙ ap (ofZ w64) (c .before .before .int-value .ensures)) (c .literal-entry2 .ensures)
 
 pub leaf-entry-spec : {M : Type 1} → statement M
 leaf-entry-spec =
     tie.close
     (tie.spec
-    kind-requires
-    start-requires
-    name-length-requires
     part-entry-requires
     returns
-    string-length-requires
     part-entry-requires-2
     returns-2
     real-value-requires
     bits-of-real-requires
     literal-entry-requires
     returns-3
-    cast-literal-entry
     int-value-requires
     bits-of-i64-requires
     literal-entry-requires-2

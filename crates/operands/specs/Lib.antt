@@ -1,0 +1,3 @@
+pub mod Gather
+pub mod Patterns
+pub mod Theorems

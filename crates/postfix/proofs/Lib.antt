@@ -1,0 +1,10 @@
+pub mod Ranks
+pub mod Forms
+pub mod Marks
+pub mod Bounds
+pub mod Codes
+pub mod Reading
+pub mod Steps
+pub mod Prefixes
+pub mod Climbing
+pub mod Whole

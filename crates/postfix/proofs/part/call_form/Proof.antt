@@ -1,0 +1,14 @@
+use mathlib.Core.Path.{refl}
+use borrow.Author.Tests.{eq-eqb, ne-eqb}
+use native.Mathlib.Omega.{arith}
+use Rattle.postfix.proofs.part.call_form.Statement.{statement}
+use Rattle.postfix.proofs.part.call_form.Tie as tie
+
+returns : tie.Need-returns
+returns c = rw (eq-eqb _ _ (c .if1 .taken)) (refl, omega arith)
+
+returns-2 : tie.Need-returns-2
+returns-2 c = rw (ne-eqb _ _ (c .if1 .left)) (refl, omega arith)
+
+pub call-form-spec : {M : Type 1} → statement M
+call-form-spec = tie.close (tie.spec returns returns-2)
