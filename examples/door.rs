@@ -2,39 +2,36 @@
 //! in the one fixed form; and so is a notice for the door.
 mod notice;
 use notice::{notice, show, translate};
-use virentolex::{Verdict, NOTICE_MAX, UBF_TEXT_MAX};
+use virentolex::{Notice, Refusal, Subscription};
 
 /// The notice as a UBF(A) text.
-fn write_back(notice: &[u8]) {
-    let mut text = vec![0; UBF_TEXT_MAX];
-    let w = virentolex::ubf_write(notice, &mut text);
-    text.truncate(w.length);
-    println!("  number {}: {}", w.number, String::from_utf8_lossy(&text));
+fn write_back(notice: &Notice) -> Result<(), Refusal> {
+    let text = notice.to_ubf()?;
+    println!("  number 0: {}", String::from_utf8_lossy(&text));
+    Ok(())
 }
 
 /// Reads a door's text and, if it is a notice, matches it and writes it back.
-fn receive(text: &str, table: &[u8]) {
-    let mut notice = vec![0; NOTICE_MAX];
-    let r = virentolex::ubf_read(text.as_bytes(), &mut notice);
-    if r.number != 0 {
-        println!("{text}: number {}", r.number);
-        return;
-    }
-    notice.truncate(r.length);
-    let delivered = match virentolex::run(table, &notice).verdict {
-        Verdict::True => "delivered",
-        Verdict::Bottom | Verdict::False => "not delivered",
+fn receive(text: &str, subscription: &Subscription) -> Result<(), Refusal> {
+    let notice = match Notice::from_ubf(text) {
+        Ok(notice) => notice,
+        Err(refusal) => {
+            println!("{text}: number {}", refusal.number());
+            return Ok(());
+        }
     };
-    println!(
-        "{text}: number 0, a notice of {} bytes, {delivered}",
-        r.length
-    );
-    write_back(&notice);
+    let delivered = match subscription.run(&notice)?.is_delivered() {
+        true => "delivered",
+        false => "not delivered",
+    };
+    let length = notice.as_bytes().len();
+    println!("{text}: number 0, a notice of {length} bytes, {delivered}");
+    write_back(&notice)
 }
 
-fn main() {
-    let Some(table) = translate("Cab == \"T-41\" && Open == 1") else {
-        return;
+fn main() -> Result<(), Refusal> {
+    let Some(subscription) = translate("Cab == \"T-41\" && Open == 1") else {
+        return Ok(());
     };
     let texts = [
         "{ \"Open\" 1 %door 2% \"Cab\" \"T-41\" \"Since\" 1760000000000`int64` }$",
@@ -42,8 +39,10 @@ fn main() {
         "{\"Cab\"\"T-41\"\"Open\"'yes'}$",
         "{\"Cab\"\"T-41\"",
     ];
-    texts.iter().for_each(|text| receive(text, &table));
+    for text in texts {
+        receive(text, &subscription)?;
+    }
     let reply = notice(&[("Say", "wait for \"T-42\""), ("Door", "2")]);
     println!("{}", show(&reply));
-    write_back(&reply);
+    write_back(&reply)
 }

@@ -1,7 +1,7 @@
 //! The editions of a table: a subscription that shifts by the number of a door, run by each edition on
 //! notices, which are UBF(A) texts. By the first a number outside the width of 32 bits is bottom; by the
 //! second it is taken by its remainder. There is no third.
-use virentolex::{Edition, NOTICE_MAX, TABLE_MAX};
+use virentolex::{Edition, Notice, Refusal, Subscription};
 
 const TEXT: &str = "1 << Door & Open != 0";
 const NOTICES: [&str; 3] = [
@@ -10,25 +10,22 @@ const NOTICES: [&str; 3] = [
     "{\"Door\"-1\"Open\"2}$",
 ];
 
-fn run(table: &[u8], ubf: &str) {
-    let mut notice = [0; NOTICE_MAX];
-    let c = virentolex::ubf_read(ubf.as_bytes(), &mut notice);
-    let r = virentolex::run(table, &notice[..c.length]);
-    println!("  {ubf}: {}", r.verdict);
+fn run(number: usize) -> Result<(), Refusal> {
+    let subscription = Subscription::translate(TEXT, Edition::from_number(number)?)?;
+    let table = subscription.as_table();
+    let (kind, length) = (table[4], table.len());
+    println!("{TEXT}, edition {number}: a table of kind {kind}, {length} bytes");
+    for text in NOTICES {
+        let outcome = subscription.run(Notice::from_ubf(text)?)?;
+        println!("  {text}: {}", outcome.verdict);
+    }
+    Ok(())
 }
 
 fn main() {
-    for edition in [Edition::First.number(), Edition::Second.number(), 3] {
-        let mut table = [0; TABLE_MAX];
-        let t = virentolex::translate_numbered(edition, TEXT.as_bytes(), &mut table);
-        if t.number != 0 {
-            println!("{TEXT}, edition {edition}: refused {}", t.number);
-            continue;
+    for number in [1, 2, 3] {
+        if let Err(refusal) = run(number) {
+            println!("{TEXT}, edition {number}: refused {}", refusal.number());
         }
-        let (kind, length) = (table[4], t.length);
-        println!("{TEXT}, edition {edition}: a table of kind {kind}, {length} bytes");
-        NOTICES
-            .iter()
-            .for_each(|notice| run(&table[..length], notice));
     }
 }

@@ -2,7 +2,7 @@
 //! on a notice. A table that is spoiled is refused alone; the others are answered as before.
 mod notice;
 use notice::{notice, show, translate};
-use virentolex::{run_many, Verdict, TABLES_MAX};
+use virentolex::{Notice, Refusal, Verdict, run_many};
 
 const TEXTS: [&str; 3] = [
     "Console == \"counting room\"",
@@ -10,30 +10,28 @@ const TEXTS: [&str; 3] = [
     "Staff != \"417\"",
 ];
 
-fn deliver(tables: &[u8], notice: &[u8]) {
-    let mut verdicts = [0; TABLES_MAX];
-    let d = run_many(tables, notice, &mut verdicts);
-    match d.number {
-        0 => println!("{}: {} verdicts", show(notice), d.count),
-        number => println!("{}: refused {number} at {}", show(notice), d.place),
-    }
-    for (text, byte) in TEXTS.iter().zip(&verdicts[..d.count]) {
-        match Verdict::of_byte(*byte) {
-            Some(Verdict::True) => println!("  {text}: true, delivered"),
-            Some(verdict) => println!("  {text}: {verdict}, not delivered"),
-            None => println!("  {text}: table refused, not delivered"),
+fn deliver(tables: &[u8], notice: &Notice) -> Result<(), Refusal> {
+    let verdicts = run_many(tables, notice)?;
+    println!("{}: {} verdicts", show(notice), verdicts.iter().count());
+    for (k, verdict) in verdicts.iter() {
+        match verdict {
+            Ok(Verdict::True) => println!("  {}: true, delivered", TEXTS[k]),
+            Ok(verdict) => println!("  {}: {verdict}, not delivered", TEXTS[k]),
+            Err(_) => println!("  {}: table refused, not delivered", TEXTS[k]),
         }
     }
+    Ok(())
 }
 
-fn main() {
-    let tables: Option<Vec<Vec<u8>>> = TEXTS.iter().map(|text| translate(text)).collect();
-    let Some(mut tables) = tables else {
-        return;
+fn main() -> Result<(), Refusal> {
+    let subscriptions: Option<Vec<_>> = TEXTS.iter().map(|text| translate(text)).collect();
+    let Some(subscriptions) = subscriptions else {
+        return Ok(());
     };
+    let mut tables: Vec<Vec<u8>> = subscriptions.into_iter().map(|s| s.into_table()).collect();
     let notice = notice(&[("Cab", "T-41"), ("Console", "yard")]);
-    deliver(&tables.concat(), &notice);
+    deliver(&tables.concat(), &notice)?;
     // the second table's kind, which is 2
     tables[1][4] = 7;
-    deliver(&tables.concat(), &notice);
+    deliver(&tables.concat(), &notice)
 }

@@ -3,11 +3,11 @@
 //! Which field Staff is, if any, is asked beside it.
 mod notice;
 use notice::{notice, show, translate};
-use virentolex::Verdict;
+use virentolex::{Notice, raw};
 
 /// Which field has the name, and how many names were looked at to tell.
-fn find(notice: &[u8], name: &str) -> String {
-    let f = virentolex::find(notice, name.as_bytes());
+fn find(notice: &Notice, name: &str) -> String {
+    let f = raw::find(notice.as_bytes(), name.as_bytes());
     match f.index {
         None => format!("no field {name}, {} looked at", f.looked),
         Some(k) => format!("{name} is field {k}, {} looked at", f.looked),
@@ -15,7 +15,7 @@ fn find(notice: &[u8], name: &str) -> String {
 }
 
 fn main() {
-    let Some(table) = translate("Staff != \"417\"") else {
+    let Some(subscription) = translate("Staff != \"417\"") else {
         return;
     };
     let notices = [
@@ -24,16 +24,17 @@ fn main() {
         notice(&[("Console", "yard")]),
     ];
     for n in &notices {
-        let r = virentolex::run(&table, n);
         let staff = find(n, "Staff");
-        if r.number != 0 {
-            println!("{}: refused {} at {}; {staff}", show(n), r.number, r.place);
-            continue;
+        match subscription.run(n) {
+            Err(refusal) => println!("{}: {refusal}; {staff}", show(n)),
+            Ok(outcome) => {
+                let delivered = if outcome.is_delivered() {
+                    "delivered"
+                } else {
+                    "not delivered"
+                };
+                println!("{}: {}, {delivered}; {staff}", show(n), outcome.verdict);
+            }
         }
-        let delivered = match r.verdict {
-            Verdict::True => "delivered",
-            Verdict::Bottom | Verdict::False => "not delivered",
-        };
-        println!("{}: {}, {delivered}; {staff}", show(n), r.verdict);
     }
 }

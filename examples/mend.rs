@@ -3,7 +3,7 @@
 //! same.
 mod notice;
 use notice::{notice, show, translate};
-use virentolex::{Fate, MendedNotice, Verdict};
+use virentolex::{Mended, Notice, Subscription};
 
 /// The bytes as they came, their header first, which is not believed.
 const CAME: [&[u8]; 6] = [
@@ -15,21 +15,24 @@ const CAME: [&[u8]; 6] = [
     b"\x0a\0\x04\0\x03CabT-",
 ];
 
-/// Runs the table on bytes that may be no notice.
-fn matched(table: &[u8], bytes: &[u8]) -> String {
-    let ran = virentolex::run(table, bytes);
-    match (ran.number, ran.verdict) {
-        (0, Verdict::True) => "delivered".to_string(),
-        (0, _) => "not delivered".to_string(),
-        (number, _) => format!("refused {number} at {}", ran.place),
+/// Runs the subscription on bytes that may be no notice.
+fn matched(subscription: &Subscription, bytes: &[u8]) -> String {
+    match subscription.run(bytes) {
+        Ok(outcome) if outcome.is_delivered() => "delivered".to_string(),
+        Ok(_) => "not delivered".to_string(),
+        Err(refusal) => {
+            let place = refusal.place().unwrap_or(0);
+            format!("refused {} at {place}", refusal.number())
+        }
     }
 }
 
 /// Mends bytes, and shows the list; the notice, if they are not refused.
-fn mend(bytes: &[u8]) -> Option<Vec<u8>> {
-    let mended = match MendedNotice::mend(bytes) {
+fn mend(bytes: &[u8]) -> Option<Notice> {
+    let mended = match Mended::mend(bytes) {
         Ok(mended) => mended,
-        Err(number) => {
+        Err(refusal) => {
+            let number = refusal.number();
             println!("{} bytes mended: refused {number}", bytes.len());
             return None;
         }
@@ -37,34 +40,28 @@ fn mend(bytes: &[u8]) -> Option<Vec<u8>> {
     println!(
         "{} bytes mended: a notice of {} bytes, {} fields listed",
         bytes.len(),
-        mended.notice().len(),
-        mended.fields().count()
+        mended.notice().as_bytes().len(),
+        mended.fates().count()
     );
-    for field in mended.fields() {
-        let fate = match field.fate {
-            Fate::Kept => "kept",
-            Fate::Moved => "moved",
-            Fate::Repeated => "repeated",
-            Fate::Bad => "bad",
-            Fate::Cut => "cut",
-        };
-        println!("  at {}: {fate}", field.offset);
+    for listed in mended.fates() {
+        println!("  at {}: {}", listed.offset, listed.fate);
     }
-    Some(mended.notice().to_vec())
+    Some(mended.into_notice())
 }
 
 fn main() {
-    let Some(table) = translate("Console == \"yard\" && Staff != \"417\"") else {
+    let Some(subscription) = translate("Console == \"yard\" && Staff != \"417\"") else {
         return;
     };
     let came = CAME.concat();
-    println!("as it came: {}", matched(&table, &came));
+    println!("as it came: {}", matched(&subscription, &came));
     let Some(mended) = mend(&came) else {
         return;
     };
-    println!("{}: {}", show(&mended), matched(&table, &mended));
+    let told = matched(&subscription, mended.as_bytes());
+    println!("{}: {told}", show(&mended));
     let right = notice(&[("Console", "yard"), ("Staff", "502")]);
-    let Some(mended) = mend(&right) else {
+    let Some(mended) = mend(right.as_bytes()) else {
         return;
     };
     let same = ["other bytes", "the same bytes"][usize::from(mended == right)];

@@ -1,53 +1,40 @@
 //! Notices of string fields, for the examples.
-use virentolex::{kind, Edition, EMPTY_NOTICE, NOTICE_MAX, TABLE_MAX};
+use virentolex::{Edition, Notice, Subscription};
 
 /// A notice of string fields.
-pub fn notice(fields: &[(&str, &str)]) -> Vec<u8> {
-    let mut buffer = vec![0; NOTICE_MAX];
-    let mut length = EMPTY_NOTICE.len();
-    buffer[..length].copy_from_slice(&EMPTY_NOTICE);
-    for (name, value) in fields {
-        let w = virentolex::write(
-            &mut buffer,
-            length,
-            name.as_bytes(),
-            kind::STRING,
-            value.as_bytes(),
-        );
-        assert_eq!(w.number, 0, "the field {name} is refused");
-        length = w.length;
-    }
-    buffer.truncate(length);
-    buffer
+pub fn notice(fields: &[(&str, &str)]) -> Notice {
+    let begun = Notice::builder();
+    let built = fields
+        .iter()
+        .fold(begun, |n, (name, value)| n.field(name, *value));
+    built.build().expect("the fields are right")
 }
 
 /// The fields of a notice, in its order, which is that of their names.
-pub fn show(notice: &[u8]) -> String {
-    let mut shown = Vec::new();
-    for k in 0.. {
-        let f = virentolex::read(notice, k);
-        if f.number != 0 {
-            break;
-        }
-        shown.push(format!(
-            "{}={}",
-            String::from_utf8_lossy(f.name),
-            String::from_utf8_lossy(f.value)
-        ));
-    }
-    shown.join(" ")
+pub fn show(notice: &Notice) -> String {
+    let text = |bytes| String::from_utf8_lossy(bytes).into_owned();
+    let shown = notice.fields().map(|field| {
+        let value = field
+            .value
+            .as_bytes()
+            .map_or_else(|| field.value.to_string(), text);
+        format!("{}={value}", field.name_str())
+    });
+    shown.collect::<Vec<String>>().join(" ")
 }
 
-/// A subscription's table by the first edition, since none of the examples that use this shifts, and how long
-/// it is said; none if it is refused.
-pub fn translate(text: &str) -> Option<Vec<u8>> {
-    let mut table = vec![0; TABLE_MAX];
-    let t = virentolex::translate(Edition::First, text.as_bytes(), &mut table);
-    if t.number != 0 {
-        println!("{text}: refused {} at {}", t.number, t.place);
-        return None;
+/// A subscription by the first edition, since none of the examples that use this shifts, and how long its table is
+/// said; none if it is refused.
+pub fn translate(text: &str) -> Option<Subscription> {
+    match Subscription::translate(text, Edition::First) {
+        Ok(subscription) => {
+            println!("{text}: a table of {} bytes", subscription.as_table().len());
+            Some(subscription)
+        }
+        Err(refusal) => {
+            let place = refusal.place().unwrap_or(0);
+            println!("{text}: refused {} at {place}", refusal.number());
+            None
+        }
     }
-    println!("{text}: a table of {} bytes", t.length);
-    table.truncate(t.length);
-    Some(table)
 }

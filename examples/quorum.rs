@@ -2,22 +2,19 @@
 //! which sends no Staff field, and again there with it: she counts once. A second person makes two.
 mod notice;
 use notice::{notice, show, translate};
-use virentolex::Decision;
+use virentolex::{Decision, Refusal};
 
 fn main() {
-    let Some(table) = translate("Approve == \"payout\"") else {
+    let Some(subscription) = translate("Approve == \"payout\"") else {
         return;
     };
-    let mut decision = match Decision::open(&table, 2) {
-        Ok(d) => d,
-        Err(number) => {
-            println!("a decision for 2 people: number {number}");
-            return;
-        }
+    let mut decision = match Decision::open(&subscription, 2) {
+        Ok(decision) => decision,
+        Err(refusal) => return println!("a decision for 2 people: {refusal}"),
     };
     println!(
         "a decision of {} bytes for 2 people: number 0",
-        decision.bytes().len()
+        decision.as_bytes().len()
     );
     let notices = [
         notice(&[
@@ -30,13 +27,18 @@ fn main() {
         notice(&[("Approve", "payout"), ("Console", "yard"), ("Staff", "502")]),
     ];
     for n in &notices {
-        let a = decision.show(n);
-        let reached = if a.reached { "reached" } else { "not reached" };
+        let number = decision.show(n).map_or_else(Refusal::number, |_| 0);
+        // a refusal leaves the count as it stood
+        let tally = decision.tally();
+        let reached = if tally.reached {
+            "reached"
+        } else {
+            "not reached"
+        };
         println!(
-            "{}: number {}, count {}, {reached}",
+            "{}: number {number}, count {}, {reached}",
             show(n),
-            a.number,
-            a.count
+            tally.count
         );
     }
 }

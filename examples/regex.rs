@@ -3,9 +3,9 @@
 //! anchors and `fold-case`; the third has a group that is not closed and is refused.
 mod notice;
 use notice::{notice, show, translate};
-use virentolex::Verdict;
+use virentolex::Refusal;
 
-fn main() {
+fn main() -> Result<(), Refusal> {
     let notices = [
         notice(&[("User", "Segall")]),
         notice(&[("User", "Bill segal")]),
@@ -18,13 +18,14 @@ fn main() {
         "regex (fold-case (User), \"^segall?$\")",
         "regex (User, \"[Ss]egal(l\")",
     ];
-    for table in texts.iter().filter_map(|text| translate(text)) {
+    for subscription in texts.iter().filter_map(|text| translate(text)) {
         for n in &notices {
-            let delivered = match virentolex::run(&table, n).verdict {
-                Verdict::True => "delivered",
-                Verdict::Bottom | Verdict::False => "not delivered",
+            let delivered = match subscription.run(n)?.is_delivered() {
+                true => "delivered",
+                false => "not delivered",
             };
             println!("  {}: {delivered}", show(n));
         }
     }
+    Ok(())
 }

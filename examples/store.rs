@@ -2,7 +2,7 @@
 //! of them is removed, and the third takes its number and its room.
 mod notice;
 use notice::{notice, show, translate};
-use virentolex::{Store, Verdict, FREE, STORE_PLACES};
+use virentolex::{Notice, Refusal, Store, Subscription, Verdict};
 
 const TEXTS: [&str; 3] = [
     "Console == \"counting room\"",
@@ -10,67 +10,54 @@ const TEXTS: [&str; 3] = [
     "Staff != \"417\"",
 ];
 
-fn add(store: &mut Store<&mut [u8]>, text: &str, table: &[u8]) {
-    match store.add(table) {
+fn add(store: &mut Store<&mut [u8]>, text: &str, subscription: &Subscription) {
+    match store.add(subscription) {
         Ok(id) => println!("added {text}: number {id}"),
-        Err(number) => println!("added {text}: refused {number}"),
+        Err(refusal) => println!("added {text}: refused {}", refusal.number()),
     }
 }
 
 fn remove(store: &mut Store<&mut [u8]>, id: usize) {
     match store.remove(id) {
         Ok(()) => println!("removed number {id}"),
-        Err(number) => println!("removed number {id}: refused {number}"),
+        Err(refusal) => println!("removed number {id}: refused {}", refusal.number()),
     }
 }
 
-fn deliver(store: &Store<&mut [u8]>, notice: &[u8]) {
-    let mut verdicts = [FREE; STORE_PLACES];
-    let m = store.match_notice(notice, &mut verdicts);
-    if m.number != 0 {
-        println!("{}: refused {} at {}", show(notice), m.number, m.place);
-        return;
+fn deliver(store: &Store<&mut [u8]>, notice: &Notice) -> Result<(), Refusal> {
+    let verdicts = store.run(notice)?;
+    println!("{}: {} held", show(notice), verdicts.iter().count());
+    for (id, verdict) in verdicts.iter() {
+        let length = store.fetch(id)?.as_table().len();
+        let told = match verdict {
+            Ok(Verdict::True) => "true, delivered".to_string(),
+            Ok(verdict) => format!("{verdict}, not delivered"),
+            Err(_) => "refused, not delivered".to_string(),
+        };
+        println!("  {id}, a table of {length} bytes: {told}");
     }
-    let held = verdicts.iter().filter(|byte| **byte != FREE).count();
-    println!("{}: {held} held", show(notice));
-    for (id, byte) in verdicts.iter().enumerate() {
-        let length = store.fetch(id).map_or(0, <[u8]>::len);
-        match Verdict::of_byte(*byte) {
-            Some(Verdict::True) => println!("  {id}, a table of {length} bytes: true, delivered"),
-            Some(verdict) => {
-                println!("  {id}, a table of {length} bytes: {verdict}, not delivered")
-            }
-            None if *byte == FREE => (),
-            None => println!("  {id}, a table of {length} bytes: refused, not delivered"),
-        }
-    }
+    Ok(())
 }
 
-fn main() {
-    let tables: Option<Vec<Vec<u8>>> = TEXTS.iter().map(|text| translate(text)).collect();
-    let Some(tables) = tables else {
-        return;
+fn main() -> Result<(), Refusal> {
+    let subscriptions: Option<Vec<_>> = TEXTS.iter().map(|text| translate(text)).collect();
+    let Some(subscriptions) = subscriptions else {
+        return Ok(());
     };
     let mut buffer = [0; 160];
-    let mut store = match Store::make(&mut buffer[..]) {
-        Ok(store) => store,
-        Err(number) => {
-            println!("a store of 160 bytes: number {number}");
-            return;
-        }
-    };
+    let mut store = Store::make(&mut buffer[..])?;
     println!("a store of 160 bytes: number 0");
     let at_counter = notice(&[("Cab", "T-41"), ("Console", "counting room")]);
     let in_yard = notice(&[("Cab", "T-41"), ("Console", "yard"), ("Staff", "502")]);
-    deliver(&store, &at_counter);
-    for (text, table) in TEXTS.iter().zip(&tables) {
-        add(&mut store, text, table);
+    deliver(&store, &at_counter)?;
+    for (text, subscription) in TEXTS.iter().zip(&subscriptions) {
+        add(&mut store, text, subscription);
     }
-    deliver(&store, &at_counter);
-    deliver(&store, &in_yard);
+    deliver(&store, &at_counter)?;
+    deliver(&store, &in_yard)?;
     remove(&mut store, 0);
     remove(&mut store, 0);
-    deliver(&store, &in_yard);
-    add(&mut store, TEXTS[2], &tables[2]);
-    deliver(&store, &in_yard);
+    deliver(&store, &in_yard)?;
+    add(&mut store, TEXTS[2], &subscriptions[2]);
+    deliver(&store, &in_yard)
 }

@@ -9,116 +9,85 @@
 //! outside the width.
 use std::borrow::Cow;
 use std::os::unix::ffi::OsStringExt;
-use virentolex::{entry, Edition, Entry, Verdict, NOTICE_MAX, TABLE_MAX};
-
-/// The operators that can be undecided though all their operands are there.
-fn spelled(op: u16) -> &'static str {
-    let (first, words): (u16, &[&str]) = match op {
-        6..=8 => (6, &["fold-case", "size", "~"]),
-        16..=26 => (
-            16,
-            &["<<", ">>", ">>>", "&", "^", "|", "*", "/", "%", "+", "-"],
-        ),
-        32..=37 => (32, &["==", "!=", "<", "<=", ">", ">="]),
-        _ => (
-            56,
-            &[
-                "begins-with",
-                "contains",
-                "ends-with",
-                "equals",
-                "wildcard",
-                "regex",
-            ],
-        ),
-    };
-    words[usize::from(op - first)]
-}
+use virentolex::{Edition, Entry, Notice, Operand, Refusal, Subscription, Verdict};
 
 fn shown(bytes: &[u8]) -> Cow<'_, str> {
     String::from_utf8_lossy(bytes)
 }
 
-/// How many operands an entry takes that gives a value, or that is an operator on values.
-fn operands(e: Entry) -> usize {
-    match e.op {
-        0..=5 => 0,
-        6..=8 => 1,
-        9..=37 => 2,
-        _ => usize::from(e.a) + 1,
-    }
-}
-
-/// The first of the entries, directly before entry k, that give its operands.
-fn first_of(table: &[u8], mut k: usize) -> usize {
-    let mut wanted = operands(entry(table, k));
+/// The entries directly before entry k that give its operands.
+fn operands_of(subscription: &Subscription, k: u16) -> Vec<Entry<'_>> {
+    let mut before = subscription.entries().take(k.into()).rev();
+    let mut wanted = subscription.entry(k).map_or(0, |entry| entry.takes());
+    let mut operands = Vec::new();
     while wanted > 0 {
-        k -= 1;
-        wanted = wanted - 1 + operands(entry(table, k));
+        let Some(entry) = before.next() else {
+            break;
+        };
+        wanted = wanted - 1 + entry.takes();
+        operands.insert(0, entry);
     }
-    k
-}
-
-/// The kind of the field of that name, which is in the notice.
-fn kind_of(notice: &[u8], name: &[u8]) -> &'static str {
-    let index = virentolex::find(notice, name).index;
-    let kind = index.map_or(0, |k| virentolex::read(notice, k).kind);
-    ["", "int32", "int64", "real64", "string", "opaque"][usize::from(kind)]
+    operands
 }
 
 /// What was lacking at entry k, the first undecided one.
-fn explain(table: &[u8], notice: &[u8], k: usize) -> String {
-    let e = entry(table, k);
-    if e.op == 5 {
-        return format!("no field {}", shown(e.bytes));
+fn explain(subscription: &Subscription, notice: &Notice, k: u16) -> Result<String, Refusal> {
+    let entry = subscription.entry(k)?;
+    if let Operand::Name(name) = entry.operand() {
+        return Ok(format!("no field {}", shown(name)));
     }
-    let fields: Vec<String> = (first_of(table, k)..k)
-        .map(|i| entry(table, i))
-        .filter(|e| e.op == 5)
-        .map(|e| format!("{} ({})", shown(e.bytes), kind_of(notice, e.bytes)))
+    let operands = operands_of(subscription, k);
+    let fields: Vec<String> = operands
+        .iter()
+        .filter(|entry| matches!(entry.operand(), Operand::Name(_)))
+        .filter_map(|entry| notice.find(entry.bytes))
+        .map(|field| format!("{} ({})", shown(field.name), field.value.kind()))
         .collect();
     let got = match fields.is_empty() {
         true => "its literals".to_string(),
         false => format!("what it got from {}", fields.join(", ")),
     };
-    format!("{} does not take {got}", spelled(e.op))
+    Ok(format!("{} does not take {got}", entry.word()))
 }
 
 /// Tells of one notice.
-fn tell(table: &[u8], text: &[u8]) {
-    let mut notice = vec![0; NOTICE_MAX];
-    let r = virentolex::ubf_read(text, &mut notice);
+fn tell(subscription: &Subscription, text: &[u8]) -> Result<(), Refusal> {
+    let notice = Notice::from_ubf(text);
     let text = shown(text);
-    if r.number != 0 {
-        println!("  {text}: no notice, number {}", r.number);
-        return;
-    }
-    notice.truncate(r.length);
-    let r = virentolex::run(table, &notice);
-    match (r.verdict, r.undecided) {
+    let notice = match notice {
+        Ok(notice) => notice,
+        Err(refusal) => {
+            println!("  {text}: no notice, number {}", refusal.number());
+            return Ok(());
+        }
+    };
+    let outcome = subscription.run(&notice)?;
+    match (outcome.verdict, outcome.undecided) {
         (Verdict::Bottom, Some(k)) => {
-            let lacking = explain(table, &notice, k);
+            let lacking = explain(subscription, &notice, k)?;
             println!("  {text}: bottom, entry {k}: {lacking}");
         }
         (verdict, _) => println!("  {text}: {verdict}"),
     }
+    Ok(())
 }
 
 /// Tells of a subscription on notices.
-fn why(text: &[u8], notices: &[&[u8]]) {
-    let mut table = vec![0; TABLE_MAX];
-    let t = virentolex::translate(Edition::First, text, &mut table);
-    let text = shown(text);
-    if t.number != 0 {
-        println!("{text}: refused {} at {}", t.number, t.place);
-        return;
-    }
-    table.truncate(t.length);
-    println!("{text}");
-    notices.iter().for_each(|notice| tell(&table, notice));
+fn why(text: &[u8], notices: &[&[u8]]) -> Result<(), Refusal> {
+    let subscription = match Subscription::translate(text, Edition::First) {
+        Ok(subscription) => subscription,
+        Err(refusal) => {
+            println!("{}: {refusal}", shown(text));
+            return Ok(());
+        }
+    };
+    println!("{}", shown(text));
+    notices
+        .iter()
+        .try_for_each(|notice| tell(&subscription, notice))
 }
 
-fn main() {
+fn main() -> Result<(), Refusal> {
     let words = std::env::args_os().skip(1);
     let words: Vec<Vec<u8>> = words.map(OsStringExt::into_vec).collect();
     let words: Vec<&[u8]> = words.iter().map(Vec::as_slice).collect();
@@ -132,7 +101,7 @@ fn main() {
             b"{\"Staff\"417}$",
             b"{\"Staff\"\"502\"}$",
         ],
-    );
+    )?;
     why(
         b"Load > 3 && Fare / Trips < 100",
         &[
@@ -141,12 +110,12 @@ fn main() {
             b"{\"Fare\"900\"Load\"4}$",
             b"{\"Load\"2}$",
         ],
-    );
+    )?;
     why(
         b"size (Note) > Limit || Note == \"late\"",
         &[
             b"{\"Load\"\"full\"\"Note\"\"late\"}$",
             b"{\"Limit\"\"9\"\"Note\"\"too long\"}$",
         ],
-    );
+    )
 }

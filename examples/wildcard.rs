@@ -2,11 +2,11 @@
 //! field is bottom and is not delivered; a pattern whose set is not closed is refused.
 mod notice;
 use notice::{notice, show, translate};
-use virentolex::Verdict;
+use virentolex::Refusal;
 
-fn main() {
-    let Some(table) = translate("wildcard (Cab, \"T-4?\", \"V*\")") else {
-        return;
+fn main() -> Result<(), Refusal> {
+    let Some(subscription) = translate("wildcard (Cab, \"T-4?\", \"V*\")") else {
+        return Ok(());
     };
     let notices = [
         notice(&[("Cab", "T-41")]),
@@ -15,11 +15,12 @@ fn main() {
         notice(&[("Driver", "417")]),
     ];
     for n in &notices {
-        let delivered = match virentolex::run(&table, n).verdict {
-            Verdict::True => "delivered",
-            Verdict::Bottom | Verdict::False => "not delivered",
+        let delivered = match subscription.run(n)?.is_delivered() {
+            true => "delivered",
+            false => "not delivered",
         };
         println!("{}: {delivered}", show(n));
     }
     translate("wildcard (Cab, \"T-[4\")");
+    Ok(())
 }

@@ -69,11 +69,11 @@ pub fn patterned(length: usize, salt: usize) -> Vec<u8> {
         .collect()
 }
 
-pub fn truth(verdict: virentolex::Verdict) -> Truth {
+pub fn truth(verdict: virentolex::raw::Verdict) -> Truth {
     match verdict {
-        virentolex::Verdict::False => Truth::False,
-        virentolex::Verdict::Bottom => Truth::Bottom,
-        virentolex::Verdict::True => Truth::True,
+        virentolex::raw::Verdict::False => Truth::False,
+        virentolex::raw::Verdict::Bottom => Truth::Bottom,
+        virentolex::raw::Verdict::True => Truth::True,
     }
 }
 
@@ -205,7 +205,8 @@ impl Case<'_> {
     pub fn translation(&mut self, edition: usize, text: &[u8], room: usize) -> Outcome {
         let mut lent = patterned(room, self.random.below(256));
         let mut meant = lent.clone();
-        let library = virentolex::translate_numbered(edition, text, &mut lent[GUARD..GUARD + room]);
+        let library =
+            virentolex::raw::translate_numbered(edition, text, &mut lent[GUARD..GUARD + room]);
         let reference = reference::translate(edition, text, &mut meant[GUARD..GUARD + room]);
         self.tally.count("translate", reference.number);
         if reference.number == 25 {
@@ -232,10 +233,10 @@ impl Case<'_> {
         same(
             "check of the text's table",
             &inputs,
-            virentolex::check(table),
+            virentolex::raw::check(table),
             0,
         )?;
-        let library = virentolex::run(table, notice);
+        let library = virentolex::raw::run(table, notice);
         let meaning = reference::meaning(edition.number(), text, notice);
         same(
             &format!("demand 3, {edition:?} edition: number, place, verdict; the reference is the meaning with nothing skipped"),
@@ -262,7 +263,7 @@ impl Case<'_> {
             trace.see(at, entry, stack);
             shifts.see(entry, stack);
         };
-        let library = virentolex::run(table, notice);
+        let library = virentolex::raw::run(table, notice);
         let reference = reference::run::run_shown(table, notice, &mut show);
         self.tally.count("run", reference.number);
         same(
@@ -323,7 +324,7 @@ impl Case<'_> {
         same(
             "check",
             &[("table", table)],
-            virentolex::check(table),
+            virentolex::raw::check(table),
             reference,
         )?;
         Ok(reference)
@@ -353,7 +354,8 @@ impl Case<'_> {
             _ => operations::on_numbers(&mut self.random, edition),
         };
         self.count("edge", edges::of_entries(&table));
-        self.running(&table, &virentolex::EMPTY_NOTICE).map(|_| ())
+        self.running(&table, &virentolex::raw::EMPTY_NOTICE)
+            .map(|_| ())
     }
 
     /// A notice, its check, all its fields and two more, and a run on it.
@@ -362,7 +364,7 @@ impl Case<'_> {
         let (number, place) = reference::check_notice(&notice);
         self.count("edge", edges::of_notice(&notice, number, place));
         self.tally.count("check_notice", number);
-        let library = virentolex::check_notice(&notice);
+        let library = virentolex::raw::check_notice(&notice);
         let answers = ((library.number, library.place), (number, place));
         same(
             "check_notice: number, place",
@@ -380,7 +382,7 @@ impl Case<'_> {
     }
 
     fn reading(&mut self, notice: &[u8], k: usize) -> Outcome {
-        let library = virentolex::read(notice, k);
+        let library = virentolex::raw::read(notice, k);
         let reference = reference::read(notice, k);
         self.tally.count("read", reference.number);
         let part = |part: &[u8]| {
@@ -472,7 +474,7 @@ impl Case<'_> {
         let before = lent.to_vec();
         let mut meant = before.clone();
         let (name, kind, value) = (&field.name[..], field.kind, &field.value[..]);
-        let library = virentolex::write(&mut lent[GUARD..end], length, name, kind, value);
+        let library = virentolex::raw::write(&mut lent[GUARD..end], length, name, kind, value);
         let reference = reference::write(&mut meant[GUARD..end], length, name, kind, value);
         self.tally.count("write", reference.number);
         let notice = before[GUARD..end].get(..length).unwrap_or_default();
@@ -490,17 +492,17 @@ impl Case<'_> {
     /// "one that is read and written again has the same bytes": the fields of a well-formed notice, read
     /// by the library and written in any order.
     fn written_again(&mut self, notice: &[u8]) -> Outcome {
-        let count = match virentolex::check_notice(notice).number {
+        let count = match virentolex::raw::check_notice(notice).number {
             0 => usize::from(notice[6]),
             _ => 0,
         };
         let mut order: Vec<usize> = (0..count).collect();
         self.random.shuffle(&mut order);
         let mut lent = patterned(notice.len().max(8), 0);
-        lent[GUARD..GUARD + 8].copy_from_slice(&virentolex::EMPTY_NOTICE);
+        lent[GUARD..GUARD + 8].copy_from_slice(&virentolex::raw::EMPTY_NOTICE);
         let mut length = 8;
         for k in &order {
-            let read = virentolex::read(notice, *k);
+            let read = virentolex::raw::read(notice, *k);
             let field = notices::Field {
                 name: read.name.into(),
                 kind: read.kind,
@@ -512,7 +514,7 @@ impl Case<'_> {
         let meant = if count > 0 {
             notice
         } else {
-            &virentolex::EMPTY_NOTICE
+            &virentolex::raw::EMPTY_NOTICE
         };
         same(
             "read and written again",

@@ -100,7 +100,7 @@ fn sent(random: &mut Random, people: &[Vec<u8>]) -> Vec<u8> {
         0 | 1 => notices::wide(random),
         2 => notices::rich(random),
         3 => notices::valid(random),
-        _ => virentolex::EMPTY_NOTICE.to_vec(),
+        _ => virentolex::raw::EMPTY_NOTICE.to_vec(),
     };
     let mut fields: Vec<Field> = staff(random, people).into_iter().collect();
     if !random.once_in(10) {
@@ -280,7 +280,7 @@ mod tests {
 
     #[test]
     fn a_field_is_added_where_there_is_room() {
-        let mut notice = virentolex::EMPTY_NOTICE.to_vec();
+        let mut notice = virentolex::raw::EMPTY_NOTICE.to_vec();
         add(&mut notice, &named(b"b", 4, vec![1]));
         add(&mut notice, &named(b"b", 4, vec![2]));
         add(&mut notice, &named(b"a", 4, vec![3]));

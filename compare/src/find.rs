@@ -62,7 +62,7 @@ fn notice_with_names(random: &mut Random) -> (Vec<u8>, Vec<Vec<u8>>) {
         0 | 1 => notices::well_formed(random),
         2 => notices::full(random),
         3 => notices::notice(random),
-        4 => virentolex::EMPTY_NOTICE.to_vec(),
+        4 => virentolex::raw::EMPTY_NOTICE.to_vec(),
         _ => alike(random),
     };
     let Ok(fields) = fields(&notice) else {
@@ -175,7 +175,7 @@ impl Case<'_> {
 
     /// One search; the number, the place, the index and the names looked at.
     fn finding(&mut self, notice: &[u8], name: &[u8]) -> Outcome {
-        let library = virentolex::find(notice, name);
+        let library = virentolex::raw::find(notice, name);
         let reference = reference::find(notice, name);
         self.tally.count("find", reference.number);
         self.count("search", find_edges::of(notice, name));

@@ -26,7 +26,7 @@ const PAST: [u32; 8] = [
 /// A well-formed notice, with any number of fields.
 fn notice(random: &mut Random) -> Vec<u8> {
     match random.below(8) {
-        0 => virentolex::EMPTY_NOTICE.to_vec(),
+        0 => virentolex::raw::EMPTY_NOTICE.to_vec(),
         1 => notices::valid(random),
         2 => notices::wide(random),
         _ => notices::well_formed(random),
@@ -66,7 +66,7 @@ fn piece(random: &mut Random, stock: &[Vec<u8>]) -> Vec<u8> {
             let size = random.between(1, 8);
             return with_word([vec![0; 4], random.bytes(size)].concat(), size as u32);
         }
-        4 if random.once_in(4) => return virentolex::EMPTY_NOTICE.to_vec(),
+        4 if random.once_in(4) => return virentolex::raw::EMPTY_NOTICE.to_vec(),
         _ => (),
     }
     table
@@ -121,12 +121,12 @@ fn laid(random: &mut Random, notice: &[u8]) -> Vec<u8> {
 
 /// The byte for what a run alone answers: "0 false, 1 true, 2 bottom, 3 table refused"; 255 for what no run
 /// on a right notice does.
-pub fn byte_of(alone: virentolex::Ran) -> u8 {
+pub fn byte_of(alone: virentolex::raw::Ran) -> u8 {
     match (alone.number, alone.verdict) {
-        (0, virentolex::Verdict::False) => 0,
-        (0, virentolex::Verdict::True) => 1,
-        (0, virentolex::Verdict::Bottom) => 2,
-        (12, virentolex::Verdict::Bottom) => 3,
+        (0, virentolex::raw::Verdict::False) => 0,
+        (0, virentolex::raw::Verdict::True) => 1,
+        (0, virentolex::raw::Verdict::Bottom) => 2,
+        (12, virentolex::raw::Verdict::Bottom) => 3,
         _ => 255,
     }
 }
@@ -155,7 +155,7 @@ impl Case<'_> {
     fn delivering(&mut self, tables: &[u8], notice: &[u8], room: usize) -> Result<Vec<u8>, String> {
         let mut lent = patterned(room, self.random.below(256));
         let mut meant = lent.clone();
-        let library = virentolex::run_many(tables, notice, &mut lent[GUARD..GUARD + room]);
+        let library = virentolex::raw::run_many(tables, notice, &mut lent[GUARD..GUARD + room]);
         let reference = reference::run_many(tables, notice, &mut meant[GUARD..GUARD + room]);
         self.tally.count("run_many", reference.number);
         self.count("many", many_edges::of_call(tables, notice, room));
@@ -186,7 +186,7 @@ impl Case<'_> {
         self.count("edition", editions::of_many(&parts(tables)));
         let alone: Vec<u8> = parts(tables)
             .into_iter()
-            .map(|part| byte_of(virentolex::run(part.bytes(), notice)))
+            .map(|part| byte_of(virentolex::raw::run(part.bytes(), notice)))
             .collect();
         same(
             "run_many: verdict bytes; the reference is the library's own run, table by table",

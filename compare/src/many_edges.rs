@@ -219,7 +219,7 @@ fn of_rest(rest: &[u8], before: Option<u8>) -> Vec<String> {
 mod tests {
     use super::*;
     use reference::compile::table_of;
-    use virentolex::EMPTY_NOTICE;
+    use virentolex::raw::EMPTY_NOTICE;
 
     fn met_by(tables: &[&[u8]], verdicts: &[u8]) -> Vec<String> {
         let all = of_tables(&tables.concat(), &EMPTY_NOTICE, verdicts);

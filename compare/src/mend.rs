@@ -7,7 +7,7 @@ use crate::cases::{patterned, same, Case, Hex, Outcome, GUARD};
 use crate::mend_bytes;
 use crate::mend_edges::{self, Needs};
 use reference::Mending;
-use virentolex::{Fate, MendedNotice};
+use virentolex::{Fate, Mended};
 
 /// So many bytes are mended in one case.
 const INPUTS: usize = 8;
@@ -63,7 +63,7 @@ impl Case<'_> {
         let mut lent = [patterned(list, salt), patterned(notice, salt + 1)];
         let mut meant = lent.clone();
         let [lists, notices] = &mut lent;
-        let library = virentolex::mend(
+        let library = virentolex::raw::mend(
             bytes,
             &mut lists[GUARD..GUARD + list],
             &mut notices[GUARD..GUARD + notice],
@@ -91,23 +91,24 @@ impl Case<'_> {
 
     /// What holds of the library's answers, by the library alone.
     fn laws_of_mending(&mut self, bytes: &[u8]) -> Outcome {
-        let mended = match MendedNotice::mend(bytes) {
+        let mended = match Mended::mend(bytes) {
             Ok(mended) => mended,
-            Err(number) => return refused_with_room(bytes, number),
+            Err(refusal) => return refused_with_room(bytes, refusal.number()),
         };
-        let inputs = [("bytes", bytes), ("mended", mended.notice())];
-        let checked = virentolex::check_notice(mended.notice()).number;
+        let notice = mended.notice().as_bytes();
+        let inputs = [("bytes", bytes), ("mended", notice)];
+        let checked = virentolex::raw::check_notice(notice).number;
         same("check of what was mended", &inputs, checked, 0)?;
         same(
             "mended: the fields of the notice; the reference is those that the list calls kept or moved",
             &inputs,
-            Hex(mended.notice()[8..].to_vec()),
+            Hex(notice[8..].to_vec()),
             Hex(staying(bytes, &mended)),
         )?;
-        let again = stays_as_it_is(mended.notice());
+        let again = stays_as_it_is(notice);
         same("mended twice: notice, fates", &inputs, again, Ok(()))?;
         self.tally.count("mend law", "mended twice");
-        if virentolex::check_notice(bytes).number == 0 {
+        if virentolex::raw::check_notice(bytes).number == 0 {
             let same_one = stays_as_it_is(bytes);
             same("a well-formed notice mended", &inputs, same_one, Ok(()))?;
             self.tally.count("mend law", "well-formed");
@@ -119,8 +120,8 @@ impl Case<'_> {
 /// The refusal of bytes for which there was room.
 fn refused_with_room(bytes: &[u8], number: u8) -> Outcome {
     let (mut list, mut notice) = (
-        vec![0; virentolex::LIST_MAX],
-        vec![0; virentolex::NOTICE_MAX],
+        vec![0; virentolex::raw::LIST_MAX],
+        vec![0; virentolex::raw::NOTICE_MAX],
     );
     let reference = reference::mend(bytes, &mut list, &mut notice).number;
     let inputs = [("bytes", bytes)];
@@ -133,8 +134,8 @@ fn refused_with_room(bytes: &[u8], number: u8) -> Outcome {
 }
 
 /// The bytes of the fields that the library's list calls kept or moved, by their names.
-fn staying(bytes: &[u8], mended: &MendedNotice<Vec<u8>>) -> Vec<u8> {
-    let stay = mended.fields().filter(|field| field.fate.stays());
+fn staying(bytes: &[u8], mended: &Mended<Vec<u8>>) -> Vec<u8> {
+    let stay = mended.fates().filter(|field| field.fate.stays());
     let mut parts: Vec<&[u8]> = stay
         .map(|field| {
             let length = u16::from_le_bytes([bytes[field.offset], bytes[field.offset + 1]]);
@@ -147,12 +148,13 @@ fn staying(bytes: &[u8], mended: &MendedNotice<Vec<u8>>) -> Vec<u8> {
 
 /// "comes out the same, with every field kept", by the library; what differs if it does not.
 fn stays_as_it_is(notice: &[u8]) -> Result<(), String> {
-    let mended = MendedNotice::mend(notice).map_err(|number| format!("refused {number}"))?;
-    let fates: Vec<Fate> = mended.fields().map(|field| field.fate).collect();
+    let mended = Mended::mend(notice).map_err(|refusal| refusal.to_string())?;
+    let fates: Vec<Fate> = mended.fates().map(|field| field.fate).collect();
     let all = vec![Fate::Kept; usize::from(notice[6])];
-    match (mended.notice() == notice, fates == all) {
+    let bytes = mended.notice().as_bytes();
+    match (bytes == notice, fates == all) {
         (true, true) => Ok(()),
-        _ => Err(format!("{:?}, {fates:?}", Hex(mended.notice().to_vec()))),
+        _ => Err(format!("{:?}, {fates:?}", Hex(bytes.to_vec()))),
     }
 }
 

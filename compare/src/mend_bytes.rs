@@ -28,7 +28,7 @@ pub fn bytes(random: &mut Random) -> Vec<u8> {
 /// A notice, most often well-formed.
 fn whole(random: &mut Random) -> Vec<u8> {
     match random.below(6) {
-        0 => virentolex::EMPTY_NOTICE.to_vec(),
+        0 => virentolex::raw::EMPTY_NOTICE.to_vec(),
         1 => notices::full(random),
         2 => notices::heavy(random),
         3 => notices::notice(random),

@@ -44,7 +44,8 @@ impl Case<'_> {
             Op::Equals => equals(&mut self.random, edition, &left, &right),
             _ => told(&mut self.random, edition, op, left, right),
         };
-        self.running(&table, &virentolex::EMPTY_NOTICE).map(|_| ())
+        self.running(&table, &virentolex::raw::EMPTY_NOTICE)
+            .map(|_| ())
     }
 
     /// A text of one operator on the fields `m` and `n`, its result beside the field `r`.

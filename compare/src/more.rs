@@ -30,7 +30,7 @@ impl Grown {
     fn empty() -> Grown {
         Grown {
             fields: Vec::new(),
-            bytes: virentolex::EMPTY_NOTICE.to_vec(),
+            bytes: virentolex::raw::EMPTY_NOTICE.to_vec(),
         }
     }
 
@@ -42,7 +42,7 @@ impl Grown {
             let length = bytes.len();
             bytes.resize(length + 5 + field.name.len() + field.value.len(), 0);
             let (name, kind, value) = (&field.name, field.kind, &field.value);
-            let written = virentolex::write(&mut bytes, length, name, kind, value);
+            let written = virentolex::raw::write(&mut bytes, length, name, kind, value);
             let at = fields.partition_point(|other: &Field| other.name < field.name);
             fields.insert(at, field.clone());
             same(
@@ -139,8 +139,8 @@ impl Case<'_> {
             grown.push(larger);
         }
         for edition in EDITIONS {
-            let mut table = vec![0; virentolex::TABLE_MAX];
-            let answer = virentolex::translate_numbered(edition.number(), &text, &mut table);
+            let mut table = vec![0; virentolex::raw::TABLE_MAX];
+            let answer = virentolex::raw::translate_numbered(edition.number(), &text, &mut table);
             same(
                 "translate: number, length",
                 &[("text", &text)],
@@ -175,8 +175,8 @@ impl Case<'_> {
         larger: &Grown,
     ) -> Result<(Truth, Truth), String> {
         let (first, second) = (
-            virentolex::run(table, &smaller.bytes),
-            virentolex::run(table, &larger.bytes),
+            virentolex::raw::run(table, &smaller.bytes),
+            virentolex::raw::run(table, &larger.bytes),
         );
         let verdicts = (truth(first.verdict), truth(second.verdict));
         let inputs = [

@@ -81,7 +81,7 @@ impl Case<'_> {
         self.count_table(of, &value, (in_notice, folded), &operands, number);
         let notice = match in_notice {
             true => self.notice_with(&value),
-            false => virentolex::EMPTY_NOTICE.to_vec(),
+            false => virentolex::raw::EMPTY_NOTICE.to_vec(),
         };
         self.running(&table, &notice).map(|_| ())
     }
@@ -121,7 +121,7 @@ impl Case<'_> {
             value: value.to_vec(),
         };
         match self.random.below(8) {
-            0 => virentolex::EMPTY_NOTICE.to_vec(),
+            0 => virentolex::raw::EMPTY_NOTICE.to_vec(),
             _ => rendered(&[field]),
         }
     }

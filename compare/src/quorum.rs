@@ -41,7 +41,7 @@ impl Lent {
 }
 
 /// The library's answer in the second implementation's form.
-fn shown(library: virentolex::Shown) -> Shown {
+fn shown(library: virentolex::raw::Shown) -> Shown {
     Shown {
         number: library.number,
         place: library.place,
@@ -119,7 +119,7 @@ impl Case<'_> {
         let end = lent.bytes.len() - GUARD;
         let room = end - GUARD;
         let mut meant = lent.bytes.clone();
-        let library = virentolex::quorum_open(&mut lent.bytes[GUARD..end], table, needed);
+        let library = virentolex::raw::quorum_open(&mut lent.bytes[GUARD..end], table, needed);
         let reference = quorum::open(&mut meant[GUARD..end], table, needed);
         self.tally.count("quorum open", reference.number);
         let met = quorum_edges::of_opening(room, table, needed, lent.kept.is_some());
@@ -139,7 +139,7 @@ impl Case<'_> {
 
     /// The wrapper's own buffer is just as long as the decision.
     fn opened_apart(&mut self, table: &[u8], needed: usize) -> Outcome {
-        let library = virentolex::Decision::open(table, needed);
+        let library = virentolex::Decision::open(table, needed).map_err(|refusal| refusal.number());
         let mut meant = vec![0; quorum::HEAD + table.len()];
         let reference = match quorum::open(&mut meant, table, needed).number {
             0 => Ok(Hex(meant)),
@@ -167,7 +167,7 @@ impl Case<'_> {
             }
             None => quorum::show(&mut meant[GUARD..end], notice),
         };
-        let library = virentolex::quorum_show(&mut lent.bytes[GUARD..end], notice);
+        let library = virentolex::raw::quorum_show(&mut lent.bytes[GUARD..end], notice);
         self.tally.count("quorum show", reference.number);
         same(
             "quorum_show: answer, bytes after with guards",

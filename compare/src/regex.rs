@@ -68,7 +68,8 @@ impl Case<'_> {
         let edition = editions::any(&mut self.random);
         let table = laid_out(edition, &draft);
         self.checking(&table)?;
-        self.running(&table, &virentolex::EMPTY_NOTICE).map(|_| ())
+        self.running(&table, &virentolex::raw::EMPTY_NOTICE)
+            .map(|_| ())
     }
 
     /// A table whose pool is one pattern of a length at which a matcher may turn, on a part of it.
@@ -89,6 +90,7 @@ impl Case<'_> {
         let table = laid_out(edition, &Draft { entries, pool });
         self.count("edge", edges::of_entries(&table));
         self.checking(&table)?;
-        self.running(&table, &virentolex::EMPTY_NOTICE).map(|_| ())
+        self.running(&table, &virentolex::raw::EMPTY_NOTICE)
+            .map(|_| ())
     }
 }

@@ -121,7 +121,7 @@ mod tests {
     fn met(edition: usize, text: &str) -> Vec<String> {
         let table = table_of(edition, text.as_bytes()).unwrap();
         let mut shifts = Shifts::of(&table);
-        let notice = virentolex::EMPTY_NOTICE;
+        let notice = virentolex::raw::EMPTY_NOTICE;
         let answer = run_shown(&table, &notice, &mut |_, entry, stack| {
             shifts.see(entry, stack)
         });

@@ -106,7 +106,8 @@ impl Case<'_> {
         let (op, left, right) = shift(&mut self.random);
         let table = told(&mut self.random, edition, op, left, right);
         self.checking(&table)?;
-        self.running(&table, &virentolex::EMPTY_NOTICE).map(|_| ())
+        self.running(&table, &virentolex::raw::EMPTY_NOTICE)
+            .map(|_| ())
     }
 
     /// A text of one shift of the field `m` by the field `n` or by a literal, its result beside the field

@@ -82,7 +82,7 @@ struct Hand {
 
 fn hand(random: &mut Random) -> Hand {
     let notice = match random.below(8) {
-        0 => virentolex::EMPTY_NOTICE.to_vec(),
+        0 => virentolex::raw::EMPTY_NOTICE.to_vec(),
         1 => notices::valid(random),
         _ => notices::well_formed(random),
     };
@@ -198,7 +198,7 @@ impl Case<'_> {
         let end = lent.end();
         let before = lent.store().to_vec();
         let mut meant = lent.bytes.clone();
-        let library = virentolex::store_make(lent.store_mut());
+        let library = virentolex::raw::store_make(lent.store_mut());
         let reference = store::make(&mut meant[GUARD..end]);
         self.tally.count("store make", reference);
         self.count("store", store_edges::of_make(&before));
@@ -218,7 +218,7 @@ impl Case<'_> {
     fn adding(&mut self, lent: &mut Lent, table: &[u8]) -> Outcome {
         let (end, before) = (lent.end(), lent.store().to_vec());
         let mut meant = lent.bytes.clone();
-        let library = virentolex::store_add(lent.store_mut(), table);
+        let library = virentolex::raw::store_add(lent.store_mut(), table);
         let library = (library.number, library.id);
         let reference = store::add(&mut meant[GUARD..end], table);
         self.tally.count("store add", reference.number);
@@ -240,7 +240,7 @@ impl Case<'_> {
     fn removing(&mut self, lent: &mut Lent, number: usize) -> Outcome {
         let (end, before) = (lent.end(), lent.store().to_vec());
         let mut meant = lent.bytes.clone();
-        let library = virentolex::store_remove(lent.store_mut(), number);
+        let library = virentolex::raw::store_remove(lent.store_mut(), number);
         let reference = store::remove(&mut meant[GUARD..end], number);
         self.tally.count("store remove", reference);
         let freed = lent.freed.contains(&number);
@@ -260,7 +260,7 @@ impl Case<'_> {
     /// "fetch by number as a part of the buffer": where the part lies.
     fn fetching(&mut self, lent: &Lent, number: usize) -> Outcome {
         let buffer = lent.store();
-        let library = virentolex::store_fetch(buffer, number);
+        let library = virentolex::raw::store_fetch(buffer, number);
         let start = library.table.as_ptr() as usize - buffer.as_ptr() as usize;
         let reference = store::fetch(buffer, number);
         self.tally.count("store fetch", reference.0);
@@ -289,7 +289,8 @@ impl Case<'_> {
         let buffer = lent.store();
         let mut verdicts = patterned(room, self.random.below(256));
         let mut meant = verdicts.clone();
-        let library = virentolex::store_match(buffer, notice, &mut verdicts[GUARD..GUARD + room]);
+        let library =
+            virentolex::raw::store_match(buffer, notice, &mut verdicts[GUARD..GUARD + room]);
         let reference = store::match_store(buffer, notice, &mut meant[GUARD..GUARD + room]);
         self.tally.count("store match", reference.0);
         let written = &meant[GUARD..GUARD + room];
@@ -311,9 +312,9 @@ impl Case<'_> {
 /// A match equals fetching and running one by one, of the library.
 fn one_by_one(buffer: &[u8], notice: &[u8], verdicts: &[u8]) -> Outcome {
     let alone = (0..PLACES).map(|number| {
-        let fetched = virentolex::store_fetch(buffer, number);
+        let fetched = virentolex::raw::store_fetch(buffer, number);
         match fetched.number {
-            0 => many::byte_of(virentolex::run(fetched.table, notice)),
+            0 => many::byte_of(virentolex::raw::run(fetched.table, notice)),
             _ => FREE,
         }
     });
@@ -348,7 +349,7 @@ mod tests {
                 assert_eq!(case.removing(&mut fresh(), number), Ok(()));
             }
             assert_eq!(case.adding(&mut fresh(), &table), Ok(()));
-            let notice = &virentolex::EMPTY_NOTICE;
+            let notice = &virentolex::raw::EMPTY_NOTICE;
             assert_eq!(case.matching(&fresh(), notice, PLACES), Ok(()));
         }
     }

@@ -15,10 +15,10 @@ const NOTICES: usize = 4;
 /// More than any notice takes, and than most texts do.
 const MUCH: usize = 20_000;
 
-type Call = fn(&[u8], &mut [u8]) -> virentolex::Converted;
+type Call = fn(&[u8], &mut [u8]) -> virentolex::raw::Converted;
 
 /// The library's answer in the second implementation's form.
-fn answered(library: virentolex::Converted) -> Writing {
+fn answered(library: virentolex::raw::Converted) -> Writing {
     Writing {
         number: library.number,
         place: library.place,
@@ -61,7 +61,8 @@ impl Case<'_> {
     }
 
     fn door_reading(&mut self, text: &[u8], room: usize) -> Outcome {
-        let reference = self.converted("ubf_read", virentolex::ubf_read, ubf::read, text, room)?;
+        let reference =
+            self.converted("ubf_read", virentolex::raw::ubf_read, ubf::read, text, room)?;
         self.tally.count("ubf read", reference.number);
         Ok(())
     }
@@ -98,7 +99,7 @@ impl Case<'_> {
         for room in self.rooms(size) {
             let reference = self.converted(
                 "ubf_write",
-                virentolex::ubf_write,
+                virentolex::raw::ubf_write,
                 ubf::write,
                 &notice,
                 room,
@@ -134,11 +135,11 @@ impl Case<'_> {
 
     /// "Writing and then reading gives the same notice", by the library alone.
     fn there_and_back(&mut self, notice: &[u8]) -> Outcome {
-        let mut text = vec![0; virentolex::UBF_TEXT_MAX];
-        let written = virentolex::ubf_write(notice, &mut text);
+        let mut text = vec![0; virentolex::raw::UBF_TEXT_MAX];
+        let written = virentolex::raw::ubf_write(notice, &mut text);
         text.truncate(written.length);
         let mut again = vec![0; notice.len()];
-        let read = virentolex::ubf_read(&text, &mut again);
+        let read = virentolex::raw::ubf_read(&text, &mut again);
         same(
             "written and then read: both numbers, length, notice",
             &[("notice", notice), ("text", &text)],
@@ -232,7 +233,7 @@ mod tests {
         let notice = notices::rendered(&fields);
         assert_eq!(notice.len(), reference::MOST_NOTICE);
         let text = ubf::text_of(&notice, usize::MAX).unwrap();
-        assert_eq!(text.len(), virentolex::UBF_TEXT_MAX);
+        assert_eq!(text.len(), virentolex::raw::UBF_TEXT_MAX);
         with_case(|case| case.there_and_back(&notice));
     }
 }

@@ -186,7 +186,7 @@ impl Case<'_> {
 
     /// One entry; every answer, and where its bytes lie.
     fn telling(&mut self, table: &[u8], k: usize) -> Outcome {
-        let library = virentolex::entry(table, k);
+        let library = virentolex::raw::entry(table, k);
         let reference = reference::describe(table, k);
         self.tally.count("entry", reference.number);
         self.count("entry told", undecided_edges::of_told(table, k, &reference));

@@ -1,30 +1,22 @@
 //! Mending the notices of the first consoles (document 02, request 14).
 
-use crate::NOTICE_MAX;
+use crate::raw::{self, LISTED};
+use crate::{NoticeRef, Refusal};
+use core::fmt;
 
-/// The function of librouter.a, as `include/virentolex.h` declares it.
-mod library {
-    extern "C" {
-        pub fn virentolex_mend(
-            bytes: *const u8,
-            bytes_len: usize,
-            list: *mut u8,
-            list_len: usize,
-            notice: *mut u8,
-            notice_len: usize,
-            place: *mut usize,
-            length: *mut usize,
-            fields: *mut usize,
-        ) -> u8;
-    }
-}
-
-/// The bytes of the list for each field.
-pub const LISTED: usize = 3;
-/// The most bytes of a list: 8,188 fields of length 0.
-pub const LIST_MAX: usize = 24_564;
+#[cfg(feature = "alloc")]
+use crate::{NOTICE_MAX, Notice};
+#[cfg(feature = "alloc")]
+use alloc::{vec, vec::Vec};
 
 /// What became of a field.
+///
+/// ```
+/// use virentolex::Fate;
+///
+/// assert_eq!(Fate::Repeated.to_string(), "repeated");
+/// assert!(Fate::Moved.stays() && !Fate::Repeated.stays());
+/// ```
 #[derive(Debug, Clone, Copy, PartialEq, Eq, Hash)]
 pub enum Fate {
     /// It is in the notice, in its order.
@@ -41,6 +33,12 @@ pub enum Fate {
 
 impl Fate {
     /// The fate that a byte of the list is; none for what is no such byte.
+    ///
+    /// ```
+    /// use virentolex::Fate;
+    ///
+    /// assert_eq!((Fate::of_byte(4), Fate::of_byte(5)), (Some(Fate::Cut), None));
+    /// ```
     pub fn of_byte(byte: u8) -> Option<Fate> {
         match byte {
             0 => Some(Fate::Kept),
@@ -53,33 +51,78 @@ impl Fate {
     }
 
     /// Whether the field is one of the mended notice.
+    ///
+    /// ```
+    /// use virentolex::Fate;
+    ///
+    /// assert!(Fate::Kept.stays() && !Fate::Cut.stays());
+    /// ```
     pub fn stays(self) -> bool {
         matches!(self, Fate::Kept | Fate::Moved)
     }
 }
 
+/// Document 02's word for it.
+impl fmt::Display for Fate {
+    fn fmt(&self, f: &mut fmt::Formatter<'_>) -> fmt::Result {
+        f.pad(match self {
+            Fate::Kept => "kept",
+            Fate::Moved => "moved",
+            Fate::Repeated => "repeated",
+            Fate::Bad => "bad",
+            Fate::Cut => "cut",
+        })
+    }
+}
+
 /// A field listed: where it starts in the bytes that were mended, and what became of it.
+///
+/// ```
+/// use virentolex::{Fate, Fates, Listed};
+///
+/// let mut fates = Fates::of(&[8, 0, 3]);
+/// assert_eq!(fates.next(), Some(Listed { offset: 8, fate: Fate::Bad }));
+/// ```
 #[derive(Debug, Clone, Copy, PartialEq, Eq, Hash)]
 pub struct Listed {
+    /// The field's start.
     pub offset: usize,
+    /// What became of it.
     pub fate: Fate,
 }
 
 /// The fields of a list, in the order in which they lie in the bytes that were mended.
-#[derive(Debug, Clone)]
-pub struct Fields<'a> {
+///
+/// ```
+/// use virentolex::{Fate, Fates};
+///
+/// let fates = Fates::of(&[8, 0, 0, 22, 0, 4]).map(|listed| listed.fate);
+/// assert!(fates.eq([Fate::Kept, Fate::Cut]));
+/// ```
+#[derive(Clone)]
+pub struct Fates<'a> {
     list: &'a [u8],
 }
 
-impl<'a> Fields<'a> {
-    /// The fields that the bytes of a list tell of. Nothing is asked of the bytes: they end where there is no
-    /// whole field, or one whose byte is no fate.
+impl<'a> Fates<'a> {
+    /// The fields that the bytes of a list tell of. Nothing is asked of the bytes: the fields end where there is no
+    /// whole one, or one whose byte is no fate.
+    ///
+    /// ```
+    /// assert_eq!(virentolex::Fates::of(&[8, 0]).count(), 0);
+    /// ```
     pub fn of(list: &'a [u8]) -> Self {
-        Fields { list }
+        Fates { list }
     }
 }
 
-impl Iterator for Fields<'_> {
+impl fmt::Debug for Fates<'_> {
+    fn fmt(&self, f: &mut fmt::Formatter<'_>) -> fmt::Result {
+        f.debug_list().entries(self.clone()).finish()
+    }
+}
+
+impl Iterator for Fates<'_> {
     type Item = Listed;
 
     fn next(&mut self) -> Option<Listed> {
@@ -93,96 +136,149 @@ impl Iterator for Fields<'_> {
     }
 }
 
-/// What mending answers: the notice's length and the count of fields listed, both 0 if refused; the place is 0.
-#[derive(Debug, Clone, Copy, PartialEq, Eq)]
-pub struct Mended {
-    pub number: u8,
-    pub place: usize,
-    pub length: usize,
-    pub fields: usize,
-}
-
-/// A mended notice and its list, in buffers that it owns (`Vec<u8>`) or borrows (`&mut [u8]`).
-#[derive(Debug, Clone, PartialEq, Eq)]
-pub struct MendedNotice<B> {
+/// A mended notice and the list of what became of each field, in buffers that it owns (`Vec<u8>`) or borrows
+/// (`&mut [u8]`).
+///
+/// ```
+/// use virentolex::{Fate, Mended, LIST_MAX};
+///
+/// // a header that is not believed; b, then a, which is out of order; and a byte that is left
+/// let bytes = b"\xFF\xFF\0\0\0\0\0\0\x06\0\x04\0\x01bxx\x05\0\x04\0\x01ay\x05";
+/// let (mut list, mut room) = ([0; LIST_MAX], [0; 100]);
+/// let mended = Mended::mend_in(bytes, &mut list[..], &mut room[..])?;
+/// assert_eq!(mended.notice().to_string(), "a: \"y\"\nb: \"xx\"\n");
+/// assert!(mended.fates().map(|listed| listed.fate).eq([Fate::Kept, Fate::Moved, Fate::Cut]));
+/// # Ok::<(), virentolex::Refusal>(())
+/// ```
+#[derive(Clone, PartialEq, Eq, Hash)]
+pub struct Mended<B> {
     list: B,
     notice: B,
-    answer: Mended,
+    listed: usize,
+    length: usize,
 }
 
-impl MendedNotice<Vec<u8>> {
-    /// Mends into buffers of its own, just as long as the results are: 30, 10, then 15.
-    pub fn mend(bytes: &[u8]) -> Result<Self, u8> {
+#[cfg(feature = "alloc")]
+impl Mended<Vec<u8>> {
+    /// Mends bytes into buffers of its own, just as long as the results are.
+    ///
+    /// # Errors
+    ///
+    /// [`Refusal::Short`] for under 8 bytes, [`Refusal::Length`] for over 16,384, then [`Refusal::Room`] if over 64
+    /// fields would be kept.
+    ///
+    /// ```
+    /// use virentolex::{Mended, Notice, Refusal};
+    ///
+    /// let notice = Notice::builder().field("Op", 42).field("Staff", "417").build()?;
+    /// // the last byte is lost, and with it the field Staff
+    /// let bytes = notice.as_bytes();
+    /// let mended = Mended::mend(&bytes[..bytes.len() - 1])?;
+    /// assert_eq!(mended.notice().to_string(), "Op: 42\n");
+    /// assert_eq!(Mended::mend("short"), Err(Refusal::Short));
+    /// # Ok::<(), Refusal>(())
+    /// ```
+    pub fn mend(bytes: impl AsRef<[u8]>) -> Result<Self, Refusal> {
         // over this length nothing is written; a field takes 2 bytes at least, but for a last one of a single byte
-        let length = bytes.len().min(NOTICE_MAX);
+        let length = bytes.as_ref().len().min(NOTICE_MAX);
         let list = LISTED * length.saturating_sub(8).div_ceil(2);
-        let mut mended = MendedNotice::mend_in(bytes, vec![0; list], vec![0; length])?;
-        mended.list.truncate(LISTED * mended.answer.fields);
-        mended.notice.truncate(mended.answer.length);
+        let mut mended = Mended::mend_in(bytes, vec![0; list], vec![0; length])?;
+        mended.list.truncate(mended.listed);
+        mended.notice.truncate(mended.length);
         Ok(mended)
     }
+
+    /// The mended notice, by itself.
+    ///
+    /// ```
+    /// use virentolex::{Mended, Notice};
+    ///
+    /// let notice = Notice::builder().field("Op", 42).build()?;
+    /// assert_eq!(Mended::mend(&notice)?.into_notice(), notice);
+    /// # Ok::<(), virentolex::Refusal>(())
+    /// ```
+    pub fn into_notice(self) -> Notice {
+        Notice::trusted(self.notice)
+    }
 }
 
-impl<B: AsRef<[u8]> + AsMut<[u8]>> MendedNotice<B> {
-    /// Mends into the starts of two buffers, the list's and the notice's: 30 for under 8 bytes, 10 for over
-    /// 16,384, 15 if over 64 fields would be kept, then 9 for a buffer too short. The bytes after both results
-    /// stay, and a refusal changes no byte.
-    pub fn mend_in(bytes: &[u8], mut list: B, mut notice: B) -> Result<Self, u8> {
-        let answer = mend(bytes, list.as_mut(), notice.as_mut());
-        match answer.number {
-            0 => Ok(MendedNotice {
-                list,
-                notice,
-                answer,
-            }),
-            number => Err(number),
-        }
+impl<B: AsRef<[u8]> + AsMut<[u8]>> Mended<B> {
+    /// Mends bytes into the starts of two buffers, the list's and the notice's, whose later bytes stay. `LIST_MAX`
+    /// bytes and as many as are mended always suffice.
+    ///
+    /// # Errors
+    ///
+    /// [`Refusal::Short`] for under 8 bytes, [`Refusal::Length`] for over 16,384, [`Refusal::Room`] if over 64 fields
+    /// would be kept, then [`Refusal::Buffer`] for a buffer too short. Both stay as they were.
+    ///
+    /// ```
+    /// use virentolex::{Mended, Refusal, EMPTY_NOTICE};
+    ///
+    /// assert!(Mended::mend_in(EMPTY_NOTICE, [0; 8], [0; 8]).is_ok());
+    /// assert_eq!(Mended::mend_in(EMPTY_NOTICE, [0; 7], [0; 7]), Err(Refusal::Buffer));
+    /// ```
+    pub fn mend_in(bytes: impl AsRef<[u8]>, mut list: B, mut notice: B) -> Result<Self, Refusal> {
+        let mended = raw::mend(bytes.as_ref(), list.as_mut(), notice.as_mut());
+        Refusal::or(mended.number, mended.place, ())?;
+        Ok(Mended {
+            list,
+            notice,
+            listed: LISTED * mended.fields,
+            length: mended.length,
+        })
     }
 
-    /// The mended notice, which is well-formed.
-    pub fn notice(&self) -> &[u8] {
-        &self.notice.as_ref()[..self.answer.length]
+    /// The mended notice.
+    ///
+    /// ```
+    /// use virentolex::{Mended, EMPTY_NOTICE};
+    ///
+    /// assert!(Mended::mend_in([0; 8], [0; 8], [0; 8])?.notice().is_empty());
+    /// # Ok::<(), virentolex::Refusal>(())
+    /// ```
+    pub fn notice(&self) -> NoticeRef<'_> {
+        let notice = self.notice.as_ref().get(..self.length);
+        notice.map_or(NoticeRef::EMPTY, NoticeRef::trusted)
     }
 
     /// What became of each field.
-    pub fn fields(&self) -> Fields<'_> {
-        Fields::of(&self.list.as_ref()[..LISTED * self.answer.fields])
+    ///
+    /// ```
+    /// use virentolex::{Fate, Mended};
+    ///
+    /// // the fields of length 0 are bad
+    /// let mended = Mended::mend_in([0; 12], [0; 12], [0; 12])?;
+    /// assert!(mended.fates().map(|listed| listed.fate).eq([Fate::Bad, Fate::Bad]));
+    /// # Ok::<(), virentolex::Refusal>(())
+    /// ```
+    pub fn fates(&self) -> Fates<'_> {
+        Fates::of(self.list.as_ref().get(..self.listed).unwrap_or_default())
     }
+}
 
+impl<B> Mended<B> {
     /// Both buffers, the list's first, with their results at the start.
+    ///
+    /// ```
+    /// use virentolex::{Mended, EMPTY_NOTICE};
+    ///
+    /// let (_, notice) = Mended::mend_in([7; 8], [0; 8], [0; 8])?.into_buffers();
+    /// assert_eq!(notice, EMPTY_NOTICE);
+    /// # Ok::<(), virentolex::Refusal>(())
+    /// ```
     pub fn into_buffers(self) -> (B, B) {
         (self.list, self.notice)
     }
 }
 
-/// Mends a notice from the first consoles into the starts of two buffers, as `MendedNotice::mend_in` does: goes
-/// field by field by the length words from offset 8, whatever the header says, keeps each field that is right by
-/// itself and whose name was not kept before, and lists what became of each (`Fields::of`). A well-formed notice
-/// comes out the same, with every field kept.
-pub fn mend(bytes: &[u8], list: &mut [u8], notice: &mut [u8]) -> Mended {
-    let (mut place, mut length, mut fields) = (0, 0, 0);
-    // SAFETY: each pointer and length come from one slice, an empty one's pointer is not null; the two buffers
-    // and the three results are borrowed here alone, so that they overlap nothing.
-    let number = unsafe {
-        library::virentolex_mend(
-            bytes.as_ptr(),
-            bytes.len(),
-            list.as_mut_ptr(),
-            list.len(),
-            notice.as_mut_ptr(),
-            notice.len(),
-            &mut place,
-            &mut length,
-            &mut fields,
-        )
-    };
-    Mended {
-        number,
-        place,
-        length,
-        fields,
+/// The notice, and what became of each field.
+impl<B: AsRef<[u8]> + AsMut<[u8]>> fmt::Debug for Mended<B> {
+    fn fmt(&self, f: &mut fmt::Formatter<'_>) -> fmt::Result {
+        let mut mended = f.debug_struct("Mended");
+        mended.field("notice", &self.notice());
+        mended.field("fates", &self.fates()).finish()
     }
 }
 
-#[cfg(test)]
+#[cfg(all(test, feature = "alloc"))]
 mod tests;

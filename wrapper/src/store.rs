@@ -1,202 +1,208 @@
-//! A store of tables that come and go, in one buffer (document 02, request 12).
+//! A store of subscriptions that come and go, in one buffer (document 02, request 12).
 
-/// The functions of librouter.a, as `include/virentolex.h` declares them.
-mod library {
-    extern "C" {
-        pub fn virentolex_store_make(store: *mut u8, store_len: usize) -> u8;
-        pub fn virentolex_store_add(
-            store: *mut u8,
-            store_len: usize,
-            table: *const u8,
-            table_len: usize,
-            number: *mut usize,
-        ) -> u8;
-        pub fn virentolex_store_remove(store: *mut u8, store_len: usize, number: usize) -> u8;
-        pub fn virentolex_store_fetch(
-            store: *const u8,
-            store_len: usize,
-            number: usize,
-            start: *mut usize,
-            end: *mut usize,
-        ) -> u8;
-        pub fn virentolex_store_match(
-            store: *const u8,
-            store_len: usize,
-            notice: *const u8,
-            notice_len: usize,
-            verdicts: *mut u8,
-            verdicts_len: usize,
-            place: *mut usize,
-        ) -> u8;
-    }
-}
+use crate::raw::{self, FREE, STORE_PLACES};
+use crate::{Refusal, SubscriptionRef, Verdicts};
+use core::fmt;
 
-/// The most bytes of a store's buffer, and the least.
-pub const STORE_MAX: usize = 65_536;
-pub const STORE_MIN: usize = 8;
-/// The places of a store, their numbers being 0 to 63, and so the verdict bytes that a match writes.
-pub const STORE_PLACES: usize = 64;
-/// The bytes that a table takes in a store beside its own.
-pub const STORE_RECORD: usize = 4;
-/// The byte of a match for a place that is free.
-pub const FREE: u8 = 4;
-
-/// What adding a table answers: the number under which the store holds it, `STORE_PLACES` if refused.
-#[derive(Debug, Clone, Copy, PartialEq, Eq)]
-pub struct Added {
-    pub number: u8,
-    pub id: usize,
-}
-
-/// What fetching a table answers: the table as a part of the store, an empty part if refused.
-#[derive(Debug, Clone, Copy, PartialEq, Eq)]
-pub struct Fetched<'a> {
-    pub number: u8,
-    pub table: &'a [u8],
-}
-
-/// What matching a notice answers: the place is that of 11, and else 0.
-#[derive(Debug, Clone, Copy, PartialEq, Eq)]
-pub struct Matched {
-    pub number: u8,
-    pub place: usize,
-}
-
-/// A store of up to 64 tables, in a buffer that it owns (`Vec<u8>`) or borrows (`&mut [u8]`; `&[u8]` for one
-/// that is only read). Each table has a number, 0 to 63, which it keeps until it is removed.
-#[derive(Debug, Clone, PartialEq, Eq)]
+/// A store of up to 64 subscriptions, in a buffer of 8 to 65,536 bytes that it owns (`Vec<u8>`, `[u8; N]`) or borrows
+/// (`&mut [u8]`; `&[u8]` for one that is only read). Each has a number, 0 to 63, which it keeps until it is removed.
+///
+/// ```
+/// use virentolex::{Edition, NoticeRef, Refusal, Store, SubscriptionRef, Verdict};
+///
+/// let mut store = Store::make([0; 1000])?;
+/// let mut room = [0; 100];
+/// store.add(SubscriptionRef::translate_in("Op == 42", Edition::First, &mut room)?)?;
+/// let second = store.add(SubscriptionRef::translate_in("Op == 41", Edition::First, &mut room)?)?;
+/// let notice = NoticeRef::builder_in(&mut room).field("Op", 42).build()?;
+/// assert!(store.run(notice)?.iter().eq([(0, Ok(Verdict::True)), (1, Ok(Verdict::False))]));
+/// store.remove(second)?;
+/// assert_eq!(store.fetch(second), Err(Refusal::NotHeld));
+/// # Ok::<(), Refusal>(())
+/// ```
+#[derive(Clone, PartialEq, Eq, Hash)]
 pub struct Store<B> {
     buffer: B,
 }
 
 impl<B: AsMut<[u8]>> Store<B> {
-    /// Makes an empty store in a buffer, whatever is in it: 26 for over 65,536 or under 8 bytes.
-    pub fn make(mut buffer: B) -> Result<Self, u8> {
-        match store_make(buffer.as_mut()) {
-            0 => Ok(Store { buffer }),
-            number => Err(number),
-        }
+    /// Makes an empty store in a buffer, whatever is in it.
+    ///
+    /// # Errors
+    ///
+    /// [`Refusal::Store`] for a buffer over 65,536 or under 8 bytes.
+    ///
+    /// ```
+    /// use virentolex::{Refusal, Store};
+    ///
+    /// assert!(Store::make([0; 8]).is_ok());
+    /// assert_eq!(Store::make([0; 7]), Err(Refusal::Store));
+    /// ```
+    pub fn make(mut buffer: B) -> Result<Self, Refusal> {
+        let number = raw::store_make(buffer.as_mut());
+        Refusal::or(number, 0, Store { buffer })
     }
 
-    /// Adds a table under the lowest free number: 26, 12 for a table that fails its check, 27 for 64 held,
-    /// then 28 for room. A refusal changes no byte.
-    pub fn add(&mut self, table: &[u8]) -> Result<usize, u8> {
-        let added = store_add(self.buffer.as_mut(), table);
-        match added.number {
-            0 => Ok(added.id),
-            number => Err(number),
-        }
+    /// Adds a table under the lowest free number, which it gives.
+    ///
+    /// # Errors
+    ///
+    /// [`Refusal::Table`] if it fails its check, as no subscription's does; then [`Refusal::Held`] for 64 held; then
+    /// [`Refusal::StoreRoom`]. The store stays as it was.
+    ///
+    /// ```
+    /// use virentolex::{Edition, Refusal, Store, SubscriptionRef};
+    ///
+    /// let mut room = [0; 48];
+    /// let subscription = SubscriptionRef::translate_in("Op == 42", Edition::First, &mut room)?;
+    /// // 8 bytes for the store, and 4 beside the table's 48
+    /// let mut store = Store::make([0; 60])?;
+    /// assert_eq!(store.add(subscription), Ok(0));
+    /// assert_eq!(store.add(subscription), Err(Refusal::StoreRoom));
+    /// # Ok::<(), Refusal>(())
+    /// ```
+    pub fn add(&mut self, table: impl AsRef<[u8]>) -> Result<usize, Refusal> {
+        let added = raw::store_add(self.buffer.as_mut(), table.as_ref());
+        Refusal::or(added.number, 0, added.id)
     }
 
-    /// Removes the table of a number, whose room is used again: 26, then 29 for a number not held. A refusal
-    /// changes no byte.
-    pub fn remove(&mut self, id: usize) -> Result<(), u8> {
-        match store_remove(self.buffer.as_mut(), id) {
-            0 => Ok(()),
-            number => Err(number),
-        }
+    /// Removes the table of a number, whose room is used again.
+    ///
+    /// # Errors
+    ///
+    /// [`Refusal::NotHeld`] for a number not held.
+    ///
+    /// ```
+    /// use virentolex::{Refusal, Store};
+    ///
+    /// assert_eq!(Store::make([0; 100])?.remove(0), Err(Refusal::NotHeld));
+    /// # Ok::<(), Refusal>(())
+    /// ```
+    pub fn remove(&mut self, id: usize) -> Result<(), Refusal> {
+        Refusal::or(raw::store_remove(self.buffer.as_mut(), id), 0, ())
     }
 }
 
 impl<B: AsRef<[u8]>> Store<B> {
-    /// The table of a number, as a part of the buffer: 26, then 29 for a number not held.
-    pub fn fetch(&self, id: usize) -> Result<&[u8], u8> {
-        let fetched = store_fetch(self.buffer.as_ref(), id);
-        match fetched.number {
-            0 => Ok(fetched.table),
-            number => Err(number),
+    /// The store in a buffer in which one was kept. A buffer that is only read gives a store that is only read.
+    ///
+    /// # Errors
+    ///
+    /// [`Refusal::Store`] if none is there.
+    ///
+    /// ```
+    /// use virentolex::{Refusal, Store};
+    ///
+    /// let buffer = Store::make([0; 100])?.into_buffer();
+    /// assert_eq!(Store::kept(&buffer[..])?.fetch(0), Err(Refusal::NotHeld));
+    /// assert_eq!(Store::kept(&buffer[1..]), Err(Refusal::Store));
+    /// # Ok::<(), Refusal>(())
+    /// ```
+    pub fn kept(buffer: B) -> Result<Self, Refusal> {
+        // no table is held under the number of no place, so that 29 tells of a store
+        let fetched = raw::store_fetch(buffer.as_ref(), STORE_PLACES);
+        match Refusal::from_number(fetched.number, 0) {
+            Some(Refusal::NotHeld) | None => Ok(Store { buffer }),
+            Some(refusal) => Err(refusal),
         }
     }
 
-    /// Runs every held table on a notice, as `store_match` does.
-    pub fn match_notice(&self, notice: &[u8], verdicts: &mut [u8]) -> Matched {
-        store_match(self.buffer.as_ref(), notice, verdicts)
+    /// The subscription of a number, its table a part of the buffer.
+    ///
+    /// # Errors
+    ///
+    /// [`Refusal::NotHeld`] for a number not held; [`Refusal::Table`] for a table that fails its check, as none does
+    /// that was added.
+    ///
+    /// ```
+    /// use virentolex::{Edition, Store, SubscriptionRef};
+    ///
+    /// let mut room = [0; 48];
+    /// let subscription = SubscriptionRef::translate_in("Op == 42", Edition::First, &mut room)?;
+    /// let mut store = Store::make([0; 100])?;
+    /// let id = store.add(subscription)?;
+    /// assert_eq!(store.fetch(id), Ok(subscription));
+    /// # Ok::<(), virentolex::Refusal>(())
+    /// ```
+    pub fn fetch(&self, id: usize) -> Result<SubscriptionRef<'_>, Refusal> {
+        let fetched = raw::store_fetch(self.buffer.as_ref(), id);
+        Refusal::or(fetched.number, 0, ())?;
+        SubscriptionRef::from_table(fetched.table)
+    }
+
+    /// The subscriptions held, by their numbers.
+    ///
+    /// ```
+    /// use virentolex::{Edition, Store, SubscriptionRef};
+    ///
+    /// let mut store = Store::make([0; 200])?;
+    /// let mut room = [0; 48];
+    /// for text in ["Op == 41", "Op == 42", "Op == 43"] {
+    ///     store.add(SubscriptionRef::translate_in(text, Edition::First, &mut room)?)?;
+    /// }
+    /// store.remove(1)?;
+    /// assert!(store.iter().map(|(id, _)| id).eq([0, 2]));
+    /// # Ok::<(), virentolex::Refusal>(())
+    /// ```
+    pub fn iter(&self) -> impl Iterator<Item = (usize, SubscriptionRef<'_>)> {
+        (0..STORE_PLACES).filter_map(|id| Some((id, self.fetch(id).ok()?)))
+    }
+
+    /// Runs every held subscription on a notice, or on bytes that may be none. It equals fetching and running them one
+    /// by one.
+    ///
+    /// # Errors
+    ///
+    /// [`Refusal::Notice`] for bytes that are none.
+    ///
+    /// ```
+    /// use virentolex::{Edition, NoticeRef, Store, SubscriptionRef};
+    ///
+    /// let mut store = Store::make([0; 1000])?;
+    /// let mut room = [0; 100];
+    /// for text in ["Op == 41", "Op == 42", "Op != 41"] {
+    ///     store.add(SubscriptionRef::translate_in(text, Edition::First, &mut room)?)?;
+    /// }
+    /// let notice = NoticeRef::builder_in(&mut room).field("Op", 42).build()?;
+    /// assert!(store.run(notice)?.delivered().eq([1, 2]));
+    /// # Ok::<(), virentolex::Refusal>(())
+    /// ```
+    pub fn run(&self, notice: impl AsRef<[u8]>) -> Result<Verdicts, Refusal> {
+        let mut bytes = [FREE; STORE_PLACES];
+        let matched = raw::store_match(self.buffer.as_ref(), notice.as_ref(), &mut bytes);
+        Refusal::or(matched.number, matched.place, Verdicts::of(bytes))
     }
 
     /// The buffer's bytes, the store first.
-    pub fn bytes(&self) -> &[u8] {
+    ///
+    /// ```
+    /// use virentolex::Store;
+    ///
+    /// assert_eq!(Store::make([9; 10])?.as_bytes(), [4, 0, 0, 0, 6, 0, 0, 0, 9, 9]);
+    /// # Ok::<(), virentolex::Refusal>(())
+    /// ```
+    pub fn as_bytes(&self) -> &[u8] {
         self.buffer.as_ref()
     }
 }
 
 impl<B> Store<B> {
-    /// A buffer in which a store was kept. Nothing is asked of it: every call checks it, and refuses what
-    /// holds no store by 26.
-    pub fn kept(buffer: B) -> Self {
-        Store { buffer }
-    }
-
     /// The buffer, to be kept.
+    ///
+    /// ```
+    /// assert_eq!(virentolex::Store::make([0; 9])?.into_buffer().len(), 9);
+    /// # Ok::<(), virentolex::Refusal>(())
+    /// ```
     pub fn into_buffer(self) -> B {
         self.buffer
     }
 }
 
-/// Makes an empty store at the start of the buffer, as `Store::make` does. The bytes after it stay, and a
-/// refusal changes no byte.
-pub fn store_make(store: &mut [u8]) -> u8 {
-    // SAFETY: the pointer and the length come from one slice, which is borrowed here alone.
-    unsafe { library::virentolex_store_make(store.as_mut_ptr(), store.len()) }
-}
-
-/// Adds a table to the store at the start of the buffer, as `Store::add` does. The bytes after the store stay.
-pub fn store_add(store: &mut [u8], table: &[u8]) -> Added {
-    let mut id = 0;
-    // SAFETY: each pointer and length come from one slice, an empty one's pointer is not null; the store and
-    // the result are borrowed here alone, so that they overlap nothing.
-    let number = unsafe {
-        library::virentolex_store_add(
-            store.as_mut_ptr(),
-            store.len(),
-            table.as_ptr(),
-            table.len(),
-            &mut id,
-        )
-    };
-    Added { number, id }
-}
-
-/// Removes a table from the store at the start of the buffer, as `Store::remove` does. The bytes after the
-/// store as it then is stay.
-pub fn store_remove(store: &mut [u8], id: usize) -> u8 {
-    // SAFETY: the pointer and the length come from one slice, which is borrowed here alone.
-    unsafe { library::virentolex_store_remove(store.as_mut_ptr(), store.len(), id) }
-}
-
-/// The table of a number in the store at the start of the buffer, as `Store::fetch` does.
-pub fn store_fetch(store: &[u8], id: usize) -> Fetched<'_> {
-    let (mut start, mut end) = (0, 0);
-    // SAFETY: the pointer and the length come from one slice, which is only read; the two results are
-    // borrowed here alone.
-    let number = unsafe {
-        library::virentolex_store_fetch(store.as_ptr(), store.len(), id, &mut start, &mut end)
-    };
-    Fetched {
-        number,
-        table: &store[start..end],
+/// The numbers and the subscriptions held under them.
+impl<B: AsRef<[u8]>> fmt::Debug for Store<B> {
+    fn fmt(&self, f: &mut fmt::Formatter<'_>) -> fmt::Result {
+        f.debug_map().entries(self.iter()).finish()
     }
-}
-
-/// Runs every table that the store at the start of the buffer holds on one notice, which is checked once: 26,
-/// 11, then 9 for under `STORE_PLACES` bytes of verdicts. The byte of each number is what `run` would answer
-/// for the table that is fetched by it: its verdict (`Verdict::of_byte`), or `REFUSED`; `FREE` if no table has
-/// the number. The bytes after them stay, and a refusal changes no byte.
-pub fn store_match(store: &[u8], notice: &[u8], verdicts: &mut [u8]) -> Matched {
-    let mut place = 0;
-    // SAFETY: each pointer and length come from one slice, an empty one's pointer is not null; the verdicts
-    // and the result are borrowed here alone, so that they overlap nothing.
-    let number = unsafe {
-        library::virentolex_store_match(
-            store.as_ptr(),
-            store.len(),
-            notice.as_ptr(),
-            notice.len(),
-            verdicts.as_mut_ptr(),
-            verdicts.len(),
-            &mut place,
-        )
-    };
-    Matched { number, place }
 }
 
 #[cfg(test)]

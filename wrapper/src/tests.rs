@@ -1,13 +1,14 @@
 //! Document 01's examples and document 02's cases through the library. Every expected number is the papers'.
-use super::*;
+use crate::Store;
+use crate::raw::*;
 
-const OP42: [u8; 19] = [
+pub const OP42: [u8; 19] = [
     0x0F, 0x00, 0x00, 0x00, 0x01, 0x00, 0x01, 0x00, 0x09, 0x00, 0x01, 0x00, 0x02, 0x4F, 0x70, 0x2A,
     0x00, 0x00, 0x00,
 ];
 
 /// `2C 00 00 00 02 00 03 00 02 00`, entries (5,2,0) (1,0,42) (32,0,0), `4F 70`.
-const OP_IS_42: [u8; 48] = [
+pub const OP_IS_42: [u8; 48] = [
     0x2C, 0, 0, 0, 2, 0, 3, 0, 2, 0, //
     5, 0, 2, 0, 0, 0, 0, 0, 0, 0, 0, 0, //
     1, 0, 0, 0, 42, 0, 0, 0, 0, 0, 0, 0, //
@@ -652,46 +653,56 @@ fn the_kiosk_counts_characters() {
     assert_eq!(verdict(kind::OPAQUE, &name[..4]), Verdict::True);
 }
 
+/// A decision in a buffer that is just as long as it is.
+fn opened(table: &[u8], needed: usize) -> Vec<u8> {
+    let mut decision = vec![0; DECISION_HEAD + table.len()];
+    let answer = quorum_open(&mut decision, table, needed);
+    assert_eq!(answer, shown(0, 0, 0, false));
+    decision
+}
+
 #[test]
 fn two_people_are_two_staff_numbers() {
-    let mut d = Decision::open(&table("Approve == \"payout\""), 2).unwrap();
+    let mut d = opened(&table("Approve == \"payout\""), 2);
     let first = strings(&[("Approve", "payout"), ("Staff", "417")]);
     let nameless = strings(&[("Approve", "payout")]);
     let second = strings(&[("Approve", "payout"), ("Staff", "502")]);
     let other = strings(&[("Approve", "door"), ("Staff", "600")]);
     let undecided = strings(&[("Staff", "601")]);
     // "counted unless those bytes were counted before in this decision"; "19 if Staff is absent"
-    assert_eq!(d.show(&first), shown(0, 0, 1, false));
-    assert_eq!(d.show(&nameless), shown(19, 0, 1, false));
-    assert_eq!(d.show(&first), shown(0, 0, 1, false));
+    assert_eq!(quorum_show(&mut d, &first), shown(0, 0, 1, false));
+    assert_eq!(quorum_show(&mut d, &nameless), shown(19, 0, 1, false));
+    assert_eq!(quorum_show(&mut d, &first), shown(0, 0, 1, false));
     // "if the verdict is true": false and bottom count nobody
-    assert_eq!(d.show(&other), shown(0, 0, 1, false));
+    assert_eq!(quorum_show(&mut d, &other), shown(0, 0, 1, false));
     let bottom = Shown {
         undecided: Some(0),
         ..shown(0, 0, 1, false)
     };
-    assert_eq!(d.show(&undecided), bottom);
+    assert_eq!(quorum_show(&mut d, &undecided), bottom);
     // "whether it has reached the needed number"
-    assert_eq!(d.show(&second), shown(0, 0, 2, true));
-    assert_eq!(d.show(&nameless), shown(19, 0, 2, true));
+    assert_eq!(quorum_show(&mut d, &second), shown(0, 0, 2, true));
+    assert_eq!(quorum_show(&mut d, &nameless), shown(19, 0, 2, true));
 }
 
 #[test]
 fn a_ninth_person_is_20_and_one_of_the_eight_is_not() {
     let table = table("require (Staff)");
     let mut buffer = vec![0xAA; DECISION_HEAD + table.len() + 3];
-    let mut d = Decision::open_in(&mut buffer[..], &table, 8).unwrap();
+    let answer = quorum_open(&mut buffer, &table, 8);
+    assert_eq!(answer, shown(0, 0, 0, false));
+    let mut d = buffer;
     for i in 1..=8u8 {
         let staff = "x".repeat(i as usize * 8);
         assert_eq!(
-            d.show(&strings(&[("Staff", &staff)])),
+            quorum_show(&mut d, &strings(&[("Staff", &staff)])),
             shown(0, 0, i, i == 8)
         );
     }
-    let full = d.bytes().to_vec();
+    let full = d.clone();
     for (staff, number) in [("y", 20), ("xxxxxxxx", 0), ("", 19), (&"y".repeat(65), 19)] {
         assert_eq!(
-            d.show(&strings(&[("Staff", staff)])),
+            quorum_show(&mut d, &strings(&[("Staff", staff)])),
             shown(number, 0, 8, true),
             "{staff}"
         );
@@ -699,14 +710,14 @@ fn a_ninth_person_is_20_and_one_of_the_eight_is_not() {
     // "the run's place and the rest as it stood"; the value is a byte shorter, so the first spare byte is the last
     let mut cut = strings(&[("Staff", "y")]);
     cut[8] -= 1;
-    assert_eq!(d.show(&cut), shown(11, cut.len() - 1, 8, true));
+    assert_eq!(quorum_show(&mut d, &cut), shown(11, cut.len() - 1, 8, true));
     // "and changes nothing"
-    assert_eq!(d.bytes(), full);
+    assert_eq!(d, full);
     assert_eq!(full[full.len() - 3..], [0xAA; 3]);
     // the decision may be kept elsewhere
-    let mut again = Decision::kept(full);
+    let mut again = full;
     assert_eq!(
-        again.show(&strings(&[("Staff", "y")])),
+        quorum_show(&mut again, &strings(&[("Staff", "y")])),
         shown(20, 0, 8, true)
     );
 }
@@ -714,26 +725,35 @@ fn a_ninth_person_is_20_and_one_of_the_eight_is_not() {
 #[test]
 fn the_counter_passes_the_undecided_entry_on() {
     // the left side is bottom on these notices, and the right side makes them true
-    let mut d = Decision::open(&table("Level > 3 || require (Console)"), 8).unwrap();
+    let mut d = opened(&table("Level > 3 || require (Console)"), 8);
     let answer = |number, count, reached, undecided| Shown {
         undecided,
         ..shown(number, 0, count, reached)
     };
     let nameless = strings(&[("Console", "yard")]);
     // "with 19 and 20 too": absent, and of a kind that `>` does not take
-    assert_eq!(d.show(&nameless), answer(19, 0, false, Some(0)));
+    assert_eq!(
+        quorum_show(&mut d, &nameless),
+        answer(19, 0, false, Some(0))
+    );
     let level = strings(&[("Console", "yard"), ("Level", "4")]);
-    assert_eq!(d.show(&level), answer(19, 0, false, Some(2)));
+    assert_eq!(quorum_show(&mut d, &level), answer(19, 0, false, Some(2)));
     for i in 1..=9u8 {
         let staff = "x".repeat(i.into());
         let notice = strings(&[("Console", "yard"), ("Staff", &staff)]);
         let number = if i == 9 { 20 } else { 0 };
-        assert_eq!(d.show(&notice), answer(number, i.min(8), i >= 8, Some(0)));
+        assert_eq!(
+            quorum_show(&mut d, &notice),
+            answer(number, i.min(8), i >= 8, Some(0))
+        );
     }
     // "A refused run, and a counter's call without a run, give 65535."
-    assert_eq!(d.show(&nameless[..9]), answer(11, 8, true, None));
+    assert_eq!(
+        quorum_show(&mut d, &nameless[..9]),
+        answer(11, 8, true, None)
+    );
     let none = shown(12, 0, 0, false);
-    assert_eq!(Decision::kept([0; 600]).show(&nameless), none);
+    assert_eq!(quorum_show(&mut [0; 600], &nameless), none);
     let opened = quorum_open(&mut [0; DECISION_MAX], &table("a == 1"), 8);
     assert_eq!(opened, shown(0, 0, 0, false));
 }
@@ -759,7 +779,6 @@ fn openings_are_refused_in_their_order() {
         assert_eq!(buffer, vec![0xAA; room]);
         assert_eq!(quorum_show(&mut buffer, &OP42), shown(12, 0, 0, false));
     }
-    assert_eq!(Decision::open(&[0; TABLE_MAX + 1], 2), Err(12));
 }
 
 /// The bytes of an example of docs/FORMATS.md: hex, then two spaces and words; `00 x 8` is eight times 00.
@@ -795,20 +814,21 @@ fn the_examples_of_the_formats() {
         (read(&notice, 1).name, read(&notice, 1).value),
         (&b"Staff"[..], &b"417"[..])
     );
-    let mut d = Decision::open(&OP_IS_42, 2).unwrap();
-    assert_eq!(d.bytes(), example("opened"));
-    assert_eq!(d.show(&notice), shown(0, 0, 1, false));
-    assert_eq!(d.into_buffer(), example("counted"));
+    let mut d = opened(&OP_IS_42, 2);
+    assert_eq!(d, example("opened"));
+    assert_eq!(quorum_show(&mut d, &notice), shown(0, 0, 1, false));
+    assert_eq!(d, example("counted"));
     let mut store = Store::make(vec![0; 64]).unwrap();
-    assert_eq!(store.bytes(), example("empty"));
-    assert_eq!(store.add(&OP_IS_42), Ok(0));
-    assert_eq!(store.bytes(), example("held"));
+    assert_eq!(store.as_bytes(), example("empty"));
+    assert_eq!(store.add(OP_IS_42), Ok(0));
+    assert_eq!(store.as_bytes(), example("held"));
     assert_eq!(store.remove(0), Ok(()));
-    assert_eq!(store.bytes()[..8], example("empty")[..8]);
-    assert_eq!(store.bytes()[8..], example("held")[8..]);
-    let mended = MendedNotice::mend(&example("damaged")).unwrap();
-    assert_eq!(mended.notice(), notice);
-    assert_eq!(mended.into_buffers().0, example("list"));
+    assert_eq!(store.as_bytes()[..8], example("empty")[..8]);
+    assert_eq!(store.as_bytes()[8..], example("held")[8..]);
+    let (mut list, mut mended) = ([0; LIST_MAX], [0; NOTICE_MAX]);
+    let m = mend(&example("damaged"), &mut list, &mut mended);
+    assert_eq!(mended[..m.length], notice);
+    assert_eq!(list[..LISTED * m.fields], example("list"));
 }
 
 fn converted(number: u8, place: usize, length: usize) -> Converted {

@@ -1,7 +1,7 @@
 //! The static library on the calls of tests/vectors/12-store.txt, whose answers are from elsewhere: buffer length,
 //! number of calls, the calls, `:`, the number of making the store empty, then number:answer of each call.
 
-use virentolex::{store_add, store_fetch, store_make, store_remove};
+use virentolex::raw::{store_add, store_fetch, store_make, store_remove};
 
 fn bytes(word: &str) -> Vec<u8> {
     let digits = if word == "-" { "" } else { word };

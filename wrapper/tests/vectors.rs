@@ -33,7 +33,7 @@ fn translations(file: &str, count: usize) {
         };
         let table = bytes(table);
         let mut buffer = vec![0xAA; number(room)];
-        let t = virentolex::translate_numbered(number(edition), &bytes(text), &mut buffer);
+        let t = virentolex::raw::translate_numbered(number(edition), &bytes(text), &mut buffer);
         let meant = (number(refusal), number(place), table.len());
         assert_eq!((t.number, t.place, t.length), meant, "{words:?}");
         assert_eq!(buffer[..t.length], table, "{words:?}");
@@ -47,7 +47,11 @@ fn checks(file: &str, count: usize) {
         let [table, refusal] = words else {
             panic!("{words:?}");
         };
-        assert_eq!(virentolex::check(&bytes(table)), number(refusal), "{table}");
+        assert_eq!(
+            virentolex::raw::check(&bytes(table)),
+            number(refusal),
+            "{table}"
+        );
     });
 }
 
@@ -57,7 +61,7 @@ fn runs(file: &str, count: usize) {
         let [table, notice, answer @ ..] = words else {
             panic!("{words:?}");
         };
-        let r = virentolex::run(&bytes(table), &bytes(notice));
+        let r = virentolex::raw::run(&bytes(table), &bytes(notice));
         let told = format!(
             "{} {} {} {} {}",
             r.number,
@@ -115,21 +119,21 @@ fn patterns() {
                 panic!("{words:?}");
             };
             let table = pattern_table(op, &bytes(value), &bytes(pattern));
-            let r = virentolex::run(&table, &virentolex::EMPTY_NOTICE);
+            let r = virentolex::raw::run(&table, &virentolex::raw::EMPTY_NOTICE);
             let meant = match (*right, *fits) {
-                ("1", "1") => (0, virentolex::Verdict::True),
-                ("1", "0") => (0, virentolex::Verdict::False),
-                _ => (12, virentolex::Verdict::Bottom),
+                ("1", "1") => (0, virentolex::raw::Verdict::True),
+                ("1", "0") => (0, virentolex::raw::Verdict::False),
+                _ => (12, virentolex::raw::Verdict::Bottom),
             };
             assert_eq!((r.number, r.verdict), meant, "{words:?}");
-            assert_eq!(virentolex::check(&table), r.number, "{words:?}");
+            assert_eq!(virentolex::raw::check(&table), r.number, "{words:?}");
         });
     }
 }
 
 /// The fields of a notice: kind, name and value.
 fn fields(notice: &[u8]) -> Vec<(u16, &[u8], &[u8])> {
-    let read = |k| virentolex::read(notice, k);
+    let read = |k| virentolex::raw::read(notice, k);
     let all = (0..).map(read).take_while(|field| field.number == 0);
     all.map(|field| (field.kind, field.name, field.value))
         .collect()
@@ -146,11 +150,11 @@ fn more_fields_never_turn_a_verdict_round() {
         let (notice, larger) = (bytes(notice), bytes(larger));
         let held = fields(&larger);
         assert!(fields(&notice).iter().all(|field| held.contains(field)));
-        let mut table = vec![0; virentolex::TABLE_MAX];
-        let t = virentolex::translate_numbered(number(edition), &bytes(text), &mut table);
+        let mut table = vec![0; virentolex::raw::TABLE_MAX];
+        let t = virentolex::raw::translate_numbered(number(edition), &bytes(text), &mut table);
         assert_eq!(t.number, 0, "{words:?}");
         let run = |notice: &[u8]| {
-            let r = virentolex::run(&table[..t.length], notice);
+            let r = virentolex::raw::run(&table[..t.length], notice);
             assert_eq!(r.number, 0, "{words:?}");
             r.verdict.to_string()
         };
@@ -169,12 +173,22 @@ fn more_fields_never_turn_a_verdict_round() {
 #[test]
 fn mending() {
     cases("14-mend.txt", 450, |words| {
-        let [damaged, list, notice, refusal, place, mended, fields, listed] = words else {
+        let [
+            damaged,
+            list,
+            notice,
+            refusal,
+            place,
+            mended,
+            fields,
+            listed,
+        ] = words
+        else {
             panic!("{words:?}");
         };
         let (mended, listed) = (bytes(mended), bytes(listed));
         let (mut list, mut notice) = (vec![0xAA; number(list)], vec![0xAA; number(notice)]);
-        let m = virentolex::mend(&bytes(damaged), &mut list, &mut notice);
+        let m = virentolex::raw::mend(&bytes(damaged), &mut list, &mut notice);
         let meant = (number(refusal), number(place), mended.len(), number(fields));
         assert_eq!((m.number, m.place, m.length, m.fields), meant, "{words:?}");
         assert_eq!(notice[..mended.len()], mended, "{words:?}");

@@ -1,7 +1,7 @@
 //! Document 02's request 12 through the library. Every expected number is the paper's; the bytes are those of
 //! docs/FORMATS.md.
-use super::*;
-use crate::{kind, run, translate, Edition, Verdict, EMPTY_NOTICE, REFUSED, TABLE_MAX};
+use crate::raw::*;
+use crate::{Refusal, Store};
 
 /// A text's table.
 fn table(text: &str) -> Vec<u8> {
@@ -16,10 +16,15 @@ fn table(text: &str) -> Vec<u8> {
 fn op(value: i32) -> Vec<u8> {
     let mut buffer = vec![0; 40];
     buffer[..8].copy_from_slice(&EMPTY_NOTICE);
-    let w = crate::write(&mut buffer, 8, b"Op", kind::INT32, &value.to_le_bytes());
+    let w = write(&mut buffer, 8, b"Op", kind::INT32, &value.to_le_bytes());
     assert_eq!(w.number, 0);
     buffer.truncate(w.length);
     buffer
+}
+
+/// The bytes of the table of a number.
+fn fetched<B: AsRef<[u8]>>(store: &Store<B>, id: usize) -> Result<&[u8], Refusal> {
+    store.fetch(id).map(|subscription| subscription.as_table())
 }
 
 fn empty(length: usize) -> Store<Vec<u8>> {
@@ -31,28 +36,61 @@ fn a_table_added_is_fetched_until_it_is_removed() {
     let tables = ["Op == 1", "Op == 22 || a == 1", "Op != 'three'"].map(table);
     let mut store = empty(1000);
     for (id, t) in tables.iter().enumerate() {
-        assert_eq!(store.fetch(id), Err(29));
+        assert_eq!(store.fetch(id), Err(Refusal::NotHeld));
         assert_eq!(store.add(t), Ok(id));
     }
     assert_eq!(store.remove(1), Ok(()));
-    assert_eq!((store.remove(1), store.fetch(1)), (Err(29), Err(29)));
-    assert_eq!(store.fetch(0), Ok(&tables[0][..]));
-    assert_eq!(store.fetch(2), Ok(&tables[2][..]));
+    assert_eq!(
+        (store.remove(1), store.fetch(1)),
+        (Err(Refusal::NotHeld), Err(Refusal::NotHeld))
+    );
+    assert_eq!(fetched(&store, 0), Ok(&tables[0][..]));
+    assert_eq!(fetched(&store, 2), Ok(&tables[2][..]));
     // "the lowest free number"
     assert_eq!(store.remove(0), Ok(()));
     assert_eq!(store.add(&tables[1]), Ok(0));
     assert_eq!(store.add(&tables[1]), Ok(1));
     assert_eq!(store.add(&tables[0]), Ok(3));
-    assert_eq!(store.fetch(0), Ok(&tables[1][..]));
+    assert_eq!(fetched(&store, 0), Ok(&tables[1][..]));
     // a number that is no place, one whose low byte is
     for id in [4, 63, 64, 256, 1 << 32, usize::MAX] {
-        assert_eq!((store.remove(id), store.fetch(id)), (Err(29), Err(29)));
+        assert_eq!(
+            (store.remove(id), store.fetch(id)),
+            (Err(Refusal::NotHeld), Err(Refusal::NotHeld))
+        );
     }
     // what was kept is a store, and one that is only lent to be read
     let bytes = store.into_buffer();
-    assert_eq!(Store::kept(&bytes[..]).fetch(3), Ok(&tables[0][..]));
-    let mut again = Store::kept(bytes);
+    assert_eq!(
+        fetched(&Store::kept(&bytes[..]).unwrap(), 3),
+        Ok(&tables[0][..])
+    );
+    let mut again = Store::kept(bytes).unwrap();
     assert_eq!(again.remove(3), Ok(()));
+}
+
+#[test]
+fn the_subscriptions_held() {
+    let tables = ["Op == 1", "Op == 2", "Op == 3"].map(table);
+    let mut store = empty(1000);
+    for t in &tables {
+        store.add(t).unwrap();
+    }
+    store.remove(1).unwrap();
+    let held: Vec<(usize, &[u8])> = store.iter().map(|(id, s)| (id, s.as_table())).collect();
+    assert_eq!(held, [(0, &tables[0][..]), (2, &tables[2])]);
+    assert!(format!("{store:?}").starts_with("{0: [Entry { k: 0, op: 5, "));
+    // what was added and spoiled since is not held as a subscription, and the number is told as refused
+    let mut bytes = store.into_buffer();
+    bytes[12 + 4] = 7;
+    let spoiled = Store::kept(bytes).unwrap();
+    assert_eq!(spoiled.fetch(0), Err(Refusal::Table));
+    assert_eq!(spoiled.iter().map(|(id, _)| id).collect::<Vec<_>>(), [2]);
+    assert_eq!(
+        spoiled.run(op(3)).unwrap().get(0),
+        Some(Err(Refusal::Table))
+    );
+    assert_eq!(spoiled.run(op(3)).unwrap().get(2), Some(Ok(Verdict::True)));
 }
 
 #[test]
@@ -60,8 +98,8 @@ fn the_bytes_of_a_store() {
     let (first, second) = (table("Op == 42"), table("Op < 7 && Op > 3"));
     let size = 8 + 4 + first.len() + 4 + second.len();
     let mut store = empty(size + 3);
-    assert_eq!(store.bytes()[..8], [4, 0, 0, 0, 6, 0, 0, 0]);
-    assert_eq!(store.bytes()[8..], vec![0xAA; size - 5]);
+    assert_eq!(store.as_bytes()[..8], [4, 0, 0, 0, 6, 0, 0, 0]);
+    assert_eq!(store.as_bytes()[8..], vec![0xAA; size - 5]);
     assert_eq!((store.add(&first), store.add(&second)), (Ok(0), Ok(1)));
     let record = |id: u8, table: &[u8]| {
         let length = 2 + table.len() as u8;
@@ -70,15 +108,15 @@ fn the_bytes_of_a_store() {
     let records = [record(0, &first), record(1, &second)].concat();
     let head = [4 + records.len() as u8, 0, 0, 0, 6, 0, 2, 0];
     let spare = [0xAA; 3];
-    assert_eq!(store.bytes(), [&head[..], &records, &spare].concat());
+    assert_eq!(store.as_bytes(), [&head[..], &records, &spare].concat());
     // what was behind the removed one moves down; the bytes past the store stay
-    let before = store.bytes().to_vec();
+    let before = store.as_bytes().to_vec();
     assert_eq!(store.remove(0), Ok(()));
     let left = record(1, &second);
     let head = [4 + left.len() as u8, 0, 0, 0, 6, 0, 1, 0];
     let end = 8 + left.len();
-    assert_eq!(store.bytes()[..end], [&head[..], &left].concat());
-    assert_eq!(store.bytes()[end..], before[end..]);
+    assert_eq!(store.as_bytes()[..end], [&head[..], &left].concat());
+    assert_eq!(store.as_bytes()[end..], before[end..]);
 }
 
 #[test]
@@ -91,13 +129,13 @@ fn an_add_is_refused_for_room_exactly_by_the_sum() {
         for id in 0..count {
             assert_eq!(store.add(&t), Ok(id));
         }
-        let before = store.bytes().to_vec();
-        assert_eq!(store.add(&t), Err(28));
-        assert_eq!(store.bytes(), before);
+        let before = store.as_bytes().to_vec();
+        assert_eq!(store.add(&t), Err(Refusal::StoreRoom));
+        assert_eq!(store.as_bytes(), before);
         // "Room freed is used again"
         for id in (0..count).chain(0..count) {
             assert_eq!((store.remove(id), store.add(&t)), (Ok(()), Ok(id)));
-            assert_eq!(store.add(&t), Err(28));
+            assert_eq!(store.add(&t), Err(Refusal::StoreRoom));
         }
     }
 }
@@ -115,14 +153,20 @@ fn refusals_of_a_store_in_their_order() {
         assert_eq!(store_fetch(&bytes, 0).number, 26);
         assert_eq!(bytes, vec![0xAA; length]);
     }
-    assert_eq!(Store::make([0; STORE_MIN]).unwrap().remove(0), Err(29));
+    assert_eq!(
+        Store::make([0; STORE_MIN]).unwrap().remove(0),
+        Err(Refusal::NotHeld)
+    );
     assert_eq!(empty(STORE_MAX).add(&t), Ok(0));
     // "then for add 12, 27 for 64 held, 28 for room"
     let mut full = empty(8 + 64 * (4 + t.len()));
     for id in 0..64 {
         assert_eq!(full.add(&t), Ok(id));
     }
-    assert_eq!((full.add(&t[1..]), full.add(&t)), (Err(12), Err(27)));
+    assert_eq!(
+        (full.add(&t[1..]), full.add(&t)),
+        (Err(Refusal::Table), Err(Refusal::Held))
+    );
     let mut bytes = full.into_buffer();
     assert_eq!(store_add(&mut bytes, b""), added(12, STORE_PLACES));
     bytes[4] = 5;
@@ -187,7 +231,7 @@ fn every_held_table_on_a_notice() {
     assert_eq!(store.remove(1), Ok(()));
     let notice = op(42);
     let mut verdicts = [0xAA; STORE_PLACES + 2];
-    let matched = store.match_notice(&notice, &mut verdicts);
+    let matched = store_match(store.as_bytes(), &notice, &mut verdicts);
     assert_eq!((matched.number, matched.place), (0, 0));
     assert_eq!(verdicts[..4], [1, FREE, 2, 1]);
     assert_eq!(verdicts[4..64], [FREE; 60]);
@@ -195,7 +239,10 @@ fn every_held_table_on_a_notice() {
     assert_eq!(Verdict::of_byte(FREE), None);
     // "It equals fetching and running one by one."
     for (id, byte) in verdicts[..64].iter().enumerate() {
-        let alone = store.fetch(id).map(|t| run(t, &notice).verdict).ok();
+        let alone = store
+            .fetch(id)
+            .map(|t| run(t.as_table(), &notice).verdict)
+            .ok();
         assert_eq!(Verdict::of_byte(*byte), alone);
     }
     // a table that was spoiled in the buffer is refused alone
@@ -208,15 +255,24 @@ fn every_held_table_on_a_notice() {
 #[test]
 fn a_match_is_refused_in_its_order() {
     let mut store = empty(100);
-    assert_eq!(store.add(&table("Op == 42")), Ok(0));
+    assert_eq!(store.add(table("Op == 42")), Ok(0));
     let (right, mut cut) = (op(42), op(42));
     cut[8] = 8;
-    let broken = Store::kept(&store.bytes()[1..]);
+    let broken = &store.as_bytes()[1..];
     let mut short = [0xAA; STORE_PLACES - 1];
     let matched = |number, place| Matched { number, place };
-    assert_eq!(broken.match_notice(&cut, &mut short), matched(26, 0));
-    assert_eq!(store.match_notice(&cut, &mut short), matched(11, 8));
-    assert_eq!(store.match_notice(&right, &mut short), matched(9, 0));
-    assert_eq!(store.match_notice(&right, &mut []), matched(9, 0));
+    assert_eq!(store_match(broken, &cut, &mut short), matched(26, 0));
+    assert_eq!(
+        store_match(store.as_bytes(), &cut, &mut short),
+        matched(11, 8)
+    );
+    assert_eq!(
+        store_match(store.as_bytes(), &right, &mut short),
+        matched(9, 0)
+    );
+    assert_eq!(
+        store_match(store.as_bytes(), &right, &mut []),
+        matched(9, 0)
+    );
     assert_eq!(short, [0xAA; STORE_PLACES - 1]);
 }
