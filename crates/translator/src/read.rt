@@ -73,7 +73,8 @@ fn read_in(
     }
 }
 
-// A short text has short arrays, since every element of an array is set before it is used.
+// Reads a text: a refusal of 10, 1, 3 or 6 with its place; else how many tokens and operands it has, whether refusal 18 does not apply, and in the lent arrays, as far as they go, the marks of the tokens and the places and sizes of the operands.
+// What the arrays hold after a refusal, and past what is told of, is left free; their lengths stay. A short text has short arrays, since every element of an array is set before it is used.
 pub fn read(text: &[u8], marks: &mut [u8], places: &mut [u16], sizes: &mut [u16]) -> Reading
     requires { ⌜ (length (now text) ≤ 4096 → length (now text) ≤ length (now marks)) ⌝ }
     ensures { λ r. ⌜ Reads (now (text .entry)) (now (marks .exit)) (now (places .exit)) (now (sizes .exit)) r ⌝ }
@@ -107,7 +108,7 @@ fn place_in(text: &[u8], kinds: &mut [u8], starts: &mut [u16], p: usize) -> usiz
     }
 }
 
-// The start of the token p, or the text's length: the text is lexed again, since refusal 2 alone asks for it.
+// The start of the token p, or the text's length: the text is lexed again, since refusal 2 alone asks for it. Of a text whose tokens are not legal the answer is left free: no token of it is asked for.
 pub fn place(text: &[u8], p: usize) -> usize
     ensures { λ r. ⌜ PlaceOf (now (text .entry)) p r ⌝ }
 {
