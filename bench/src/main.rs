@@ -99,10 +99,10 @@ fn inner(pace: Pace) {
             let mut code = expert::no_code();
             let p = expert::decode(&table, &mut code).unwrap();
             // SAFETY: the notice is one of ours, and `agree` has checked it
-            let (verdict, steps, _) = unsafe { expert::run(&p, &notice) };
+            let (verdict, steps, undecided) = unsafe { expert::run(&p, &notice) };
             assert_eq!(
                 ours::repeat(&table, &notice, 1),
-                4 * steps as u64 + verdict as u64
+                4096 * undecided as u64 + 4 * steps as u64 + verdict as u64
             );
             let (a, b, r) = compare(
                 &mut |times| {

@@ -46,10 +46,10 @@ pub fn inner(name: &str, table: &[u8], notice: &[u8], pace: Pace, ops: usize) {
     let p = expert::decode(table, &mut code).unwrap();
     assert_eq!(expert::check_notice(notice), None);
     // SAFETY: the notice is well formed
-    let (verdict, steps, _) = unsafe { expert::run(&p, notice) };
+    let (verdict, steps, undecided) = unsafe { expert::run(&p, notice) };
     assert_eq!(
         ours::repeat(table, notice, 1),
-        4 * steps as u64 + verdict as u64,
+        4096 * undecided as u64 + 4 * steps as u64 + verdict as u64,
         "{name}"
     );
     let (a, b, r) = compare(

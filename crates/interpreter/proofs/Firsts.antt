@@ -1,7 +1,7 @@
 -- The first visited entry that left bottom on the stack: with one more visit, and past the end of the run. Assumes nothing.
 use mathlib.Core.Path.{_≡_, refl, sym, ap, _∙_}
 use mathlib.Core.Bool.{Bool, true, false, cond, _&&_, _||_, and-false, or-false}
-use mathlib.Core.List.{List, [], _∷_}
+use mathlib.Core.List.{List, [], _∷_, map}
 use Prim.Native.Nat.{ℕ, zero, suc, _+_, _-_, _≤_, _<_}
 use native.Mathlib.Decide.{decLt}
 use native.Mathlib.Nat.{not-suc-le-zero}
@@ -11,7 +11,7 @@ use borrow.Author.Tests.{ltb-true, eqb-true, eqb-false, ne-eqb}
 use lib.Dec.{eqb}
 use lib.ListN.{length, drop}
 use Rattle.common.proofs.Choice.{true-false}
-use Rattle.opcode.specs.Opcode.{opOf}
+use Rattle.opcode.specs.Opcode.{opOf, Kind}
 use Rattle.opcode.specs.declared.Edition.{Edition}
 use Rattle.opcode.specs.declared.Op.{Op}
 use Rattle.table.specs.Table.{Program, editionOf, countOf, entryAt, poolOf, decode}
@@ -21,7 +21,7 @@ use Rattle.table.proofs.Tests.{both-true}
 use Rattle.table.proofs.Theorems.{checked-layout}
 use Rattle.table.proofs.Laid.{laid}
 use Rattle.table.proofs.Reading.{length-entries}
-use Rattle.value.specs.Value.{Item, isBottom}
+use Rattle.value.specs.Value.{Item, kindOf, isBottom}
 use Rattle.interpreter.specs.Run.{State, slotAt, stackBy, visit, rule, afterFrom, after}
 use Rattle.interpreter.specs.Undecided.{holdsBottom, entryAfter, visits, leavesBottom, noEntry, firstFrom, undecidedAfter}
 use Rattle.interpreter.proofs.Safe.{rule-more, after-next, after-past}
@@ -36,6 +36,15 @@ drop-clean : (j : ℕ) (st : List Item) → holdsBottom st ≡ false → holdsBo
 drop-clean zero st e = e
 drop-clean (suc j) [] e = refl
 drop-clean (suc j) (x ∷ st) e = drop-clean j st (neither (isBottom x) (holdsBottom st) e .1)
+
+-- the topmost operand, and the one below it, of a stack without bottom: its kind is told by those of the stack, and it is not bottom
+pub top-known : (st : List Item) (k : Kind) (ks : List Kind) → map kindOf st ≡ k ∷ ks → holdsBottom st ≡ false → (kindOf (slotAt st 0) ≡ k) × (isBottom (slotAt st 0) ≡ false)
+top-known [] k ks e c = (cc, cc)
+top-known (x ∷ st) k ks e c = (cc, neither (isBottom x) (holdsBottom st) c .0)
+
+pub second-known : (st : List Item) (j k : Kind) (ks : List Kind) → map kindOf st ≡ j ∷ k ∷ ks → holdsBottom st ≡ false → (kindOf (slotAt st 1) ≡ k) × (isBottom (slotAt st 1) ≡ false)
+second-known [] j k ks e c = (cc, cc)
+second-known (x ∷ st) j k ks e c = top-known st k ks (cc) (neither (isBottom x) (holdsBottom st) c .1)
 
 -- a result on a stack without bottom is all there is to look at
 pub put-bottom : (x : Item) (j : ℕ) (st : List Item) → holdsBottom st ≡ false → holdsBottom (x ∷ drop j st) ≡ isBottom x

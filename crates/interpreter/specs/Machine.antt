@@ -1,6 +1,8 @@
 -- What the machine of the code stands for. Document 01, "Table": "After each visit the runner's own next entry and whole stack are those of this rule, slot by slot, a string by its bytes,
 -- folded where marked."
-use Prim.Native.Nat.{ℕ, zero, suc, _≤_}
+use Prim.Native.Nat.{ℕ, zero, suc, _+_, _-_, _≤_}
+use mathlib.Core.Bool.{cond}
+use lib.Dec.{leb}
 use mathlib.Core.Path.{_≡_}
 use mathlib.Core.List.{List, [], _∷_}
 use lib.ListN.{getD, replicate}
@@ -30,6 +32,10 @@ stateOf pool notice m = record { next = m .next; stack = stackOf (itemOf pool no
 -- "The run starts at entry 0 with an empty stack."
 abbrev pub fresh : Machine
 fresh = record { stack = replicate 32 blank; depth = 0; next = 0; steps = 0; undecided = noEntry }
+
+-- How far a run of so many visits goes where skips have passed over some entries: to entry N, or to as many entries as it visits and those.
+abbrev pub limitOf : ℕ → ℕ → ℕ → ℕ
+limitOf n budget passed = cond (leb (n - passed) budget) n (budget + passed)
 
 -- A machine after so many visits, or after as many as there are: its next entry, whole stack and steps are those of the rule, its first undecided entry is that of these visits, and its slots are slots of the array.
 -- What the slots above the depth hold, and which of the stretches of pool and notice that give a string's bytes its slot names, is no part of the state.

@@ -8,17 +8,15 @@ ghost use Rattle.notice.specs.Layout.{checkOf as noticeCheck, Indexed};
 ghost use Rattle.notice.specs.declared.Layout.the-variants.{WellFormed};
 ghost use Rattle.table.specs.Table.{decode};
 ghost use Rattle.table.specs.Check.{checkOf};
-ghost use Rattle.value.specs.Value.{truthIn, isBottom};
+ghost use Rattle.value.specs.Value.{isBottom};
 ghost use Rattle.value.specs.Held.{itemIn};
 ghost use Rattle.interpreter.specs.Run.{skips};
-ghost use Rattle.interpreter.specs.Machine.{Visited};
+ghost use Rattle.interpreter.specs.Machine.{limitOf, Visited};
 ghost use Rattle.interpreter.specs.Running.{refused as refusedWith, answerOf, runningOf};
 use notice::Layout;
-use opcode::Binary;
-use opcode::Load;
-use opcode::Op;
 use opcode::Skip;
-use opcode::Unary;
+use opcode::groups;
+use opcode::groups::Group;
 use truth::Truth;
 use value::Held;
 use value::Slot;
@@ -42,14 +40,15 @@ fn skips_on(skip: Skip, top: Truth) -> bool
     }
 }
 
-// ".. go a + 1 entries on, all else one"
-fn stride(skip: Skip, a: u16, top: Slot) -> usize
-    ensures { λ r. ⌜ ((p : List ℕ) → (q : List ℕ) → r ≡ cond (skips skip (truthIn (itemIn p q top))) (a + 1) 1) × (r ≤ a + 1) ⌝ }
+// How far the visits go: to entry N, or, if the budget ends first, to as many entries as it has and those that skips have passed over.
+fn limit(n: usize, budget: usize, passed: usize) -> usize
+    requires { ⌜ passed ≤ n ⌝ }
+    ensures { λ r. ⌜ r ≡ limitOf n budget passed ⌝ }
 {
-    if skips_on(skip, value::truth_in(top)) {
-        (a as usize) + 1
+    if n - passed <= budget {
+        n
     } else {
-        1
+        budget + passed
     }
 }
 
@@ -86,102 +85,135 @@ pub fn run_indexed<'a>(
     }; 32];
     let mut next = 0;
     let mut depth = 0;
-    let mut left = budget;
+    let mut passed = 0;
+    let mut end = limit(n, budget, 0);
     let mut first: u16 = 65535;
-    while (next < n) & (0 < left) {
+    while next < end {
         let at = next;
-        left = left - 1;
         next = at + 1;
-        let op = opcode::op_of(table::op_at(table, at));
-        match op {
-            Op::Load(k) => match k {
-                Load::Int32 => {
-                    stack[depth] = value::load_int32(table::b_at(table, at));
-                    depth = depth + 1;
+        let number = table::op_at(table, at);
+        let group = groups::group_of(number);
+        match group {
+            Group::Int32 => {
+                stack[depth] = value::load_int32(table::b_at(table, at));
+                depth = depth + 1;
+            }
+            Group::Int64 => {
+                stack[depth] = value::load_int64(table::b_at(table, at));
+                depth = depth + 1;
+            }
+            Group::Real64 => {
+                stack[depth] = value::load_real64(table::b_at(table, at));
+                depth = depth + 1;
+            }
+            Group::Text => {
+                stack[depth] = value::load_text(table::a_at(table, at), table::b_at(table, at));
+                depth = depth + 1;
+            }
+            Group::Name => {
+                let r = value::load_name(
+                    pool,
+                    notice,
+                    starts,
+                    table::a_at(table, at),
+                    table::b_at(table, at),
+                );
+                stack[depth] = r;
+                first = noted(first, at, r);
+                depth = depth + 1;
+            }
+            Group::Change => {
+                let i = depth - 1;
+                let x = stack[i];
+                let r = value::change(pool, notice, groups::change_of(number), x);
+                stack[i] = r;
+                first = noted(first, at, r);
+            }
+            Group::Combine => {
+                let i = depth - 2;
+                depth = depth - 1;
+                let y = stack[depth];
+                let x = stack[i];
+                let r = value::combine(edition, groups::combine_of(number), x, y);
+                stack[i] = r;
+                first = noted(first, at, r);
+            }
+            Group::Equality => {
+                let i = depth - 2;
+                depth = depth - 1;
+                let y = stack[depth];
+                let x = stack[i];
+                let r = value::equality(pool, notice, groups::is_not_equal(number), x, y);
+                stack[i] = r;
+                first = noted(first, at, r);
+            }
+            Group::Order => {
+                let i = depth - 2;
+                depth = depth - 1;
+                let y = stack[depth];
+                let x = stack[i];
+                let r = value::ordered(groups::order_of(number), x, y);
+                stack[i] = r;
+                first = noted(first, at, r);
+            }
+            Group::Not => {
+                let i = depth - 1;
+                let x = stack[i];
+                stack[i] = value::not(x);
+            }
+            Group::And => {
+                let i = depth - 2;
+                depth = depth - 1;
+                let y = stack[depth];
+                let x = stack[i];
+                stack[i] = value::and(x, y);
+            }
+            Group::Xor => {
+                let i = depth - 2;
+                depth = depth - 1;
+                let y = stack[depth];
+                let x = stack[i];
+                stack[i] = value::xor(x, y);
+            }
+            Group::Or => {
+                let i = depth - 2;
+                depth = depth - 1;
+                let y = stack[depth];
+                let x = stack[i];
+                stack[i] = value::or(x, y);
+            }
+            Group::SkipIfFalse => {
+                let i = depth - 1;
+                let x = stack[i];
+                if skips_on(Skip::IfFalse, value::truth_in(x)) {
+                    let a = table::a_at(table, at) as usize;
+                    next = next + a;
+                    passed = passed + a;
+                    end = limit(n, budget, passed);
                 }
-                Load::Int64 => {
-                    stack[depth] = value::load_int64(table::b_at(table, at));
-                    depth = depth + 1;
+            }
+            Group::SkipIfTrue => {
+                let i = depth - 1;
+                let x = stack[i];
+                if skips_on(Skip::IfTrue, value::truth_in(x)) {
+                    let a = table::a_at(table, at) as usize;
+                    next = next + a;
+                    passed = passed + a;
+                    end = limit(n, budget, passed);
                 }
-                Load::Real64 => {
-                    stack[depth] = value::load_real64(table::b_at(table, at));
-                    depth = depth + 1;
-                }
-                Load::Text => {
-                    stack[depth] = value::load_text(table::a_at(table, at), table::b_at(table, at));
-                    depth = depth + 1;
-                }
-                Load::Name => {
-                    let r = value::load_name(
-                        pool,
-                        notice,
-                        starts,
-                        table::a_at(table, at),
-                        table::b_at(table, at),
-                    );
-                    stack[depth] = r;
-                    first = noted(first, at, r);
-                    depth = depth + 1;
-                }
-            },
-            Op::Unary(k) => match k {
-                Unary::Not => {
-                    let i = depth - 1;
-                    let x = stack[i];
-                    let r = value::not(x);
-                    stack[i] = r;
-                    first = noted(first, at, r);
-                }
-                Unary::Change(o) => {
-                    let i = depth - 1;
-                    let x = stack[i];
-                    let r = value::change(pool, notice, o, x);
-                    stack[i] = r;
-                    first = noted(first, at, r);
-                }
-                Unary::Test(o) => {
-                    let i = depth - 1;
-                    let x = stack[i];
-                    let r = value::test(o, x);
-                    stack[i] = r;
-                    first = noted(first, at, r);
-                }
-            },
-            Op::Binary(k) => match k {
-                Binary::Combine(o) => {
-                    let i = depth - 2;
-                    depth = depth - 1;
-                    let y = stack[depth];
-                    let x = stack[i];
-                    let r = value::combine(edition, o, x, y);
-                    stack[i] = r;
-                    first = noted(first, at, r);
-                }
-                Binary::Compare(o) => {
-                    let i = depth - 2;
-                    depth = depth - 1;
-                    let y = stack[depth];
-                    let x = stack[i];
-                    let r = value::compare(pool, notice, o, x, y);
-                    stack[i] = r;
-                    first = noted(first, at, r);
-                }
-                Binary::Connect(o) => {
-                    let i = depth - 2;
-                    depth = depth - 1;
-                    let y = stack[depth];
-                    let x = stack[i];
-                    let r = value::connect(o, x, y);
-                    stack[i] = r;
-                    first = noted(first, at, r);
-                }
-            },
-            Op::Many(k) => {
+            }
+            Group::Test => {
+                let i = depth - 1;
+                let x = stack[i];
+                stack[i] = value::test(groups::test_of(number), x);
+            }
+            Group::Many => {
+                let k = groups::many_of(number);
                 let i = depth - (table::a_at(table, at) as usize + 1);
                 let x = stack[i];
                 let mut known = value::start(k, x);
                 let mut j = i + 1;
-                while j < depth {
+                while (j < depth) & value::is_open(k, known) {
                     let y = stack[j];
                     known = value::more(pool, notice, k, x, known, y);
                     j = j + 1;
@@ -191,18 +223,13 @@ pub fn run_indexed<'a>(
                 first = noted(first, at, r);
                 depth = i + 1;
             }
-            Op::Skip(k) => {
-                let i = depth - 1;
-                let x = stack[i];
-                next = at + stride(k, table::a_at(table, at), x);
-            }
-            Op::Unknown => {}
+            Group::Unknown => {}
         }
     }
     Machine {
         next,
         depth,
-        steps: budget - left,
+        steps: next - passed,
         undecided: first,
         stack,
     }

@@ -27,8 +27,8 @@ module _ (table notice : List ℕ) (checked : tableCheck table ≡ true) (r : Ra
       let n : countOf table ≤ 512 = laid table (checked-layout table checked) .few in
       omega arith
 
-  pub is-weight : (k : ℕ) → k ≡ rank (r .verdict) → 4 * r .steps + k ≡ weightOf (runOf (decode table) notice)
-  is-weight k e = ap (λ (j : ℕ). 4 * r .steps + j) e ∙ ap (λ (x : Ran). 4 * x .steps + rank (x .verdict)) ran
+  pub is-weight : (k : ℕ) → k ≡ rank (r .verdict) → 4096 * r .undecided + 4 * r .steps + k ≡ weightOf (answerOf (decode table) notice)
+  is-weight k e = ap (λ (j : ℕ). 4096 * r .undecided + 4 * r .steps + j) e ∙ ap weightOf ran
 
 -- one run more
 pub one-more : (i total w v : ℕ) → total ≡ i * v → w ≡ v → total + w ≡ (i + 1) * v
@@ -42,5 +42,5 @@ module _ (table notice : List ℕ) (times : ℕ) where
   pub no-notice : (place : ℕ) → tableCheck table ≡ true → noticeCheck notice ≡ Fault place → 0 ≡ repeatOf table notice times
   no-notice place e f = rw (e, f)
 
-  pub whole : tableCheck table ≡ true → noticeCheck notice ≡ WellFormed → times * weightOf (runOf (decode table) notice) ≡ repeatOf table notice times
+  pub whole : tableCheck table ≡ true → noticeCheck notice ≡ WellFormed → times * weightOf (answerOf (decode table) notice) ≡ repeatOf table notice times
   whole e f = rw (e, f)

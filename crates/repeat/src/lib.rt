@@ -7,7 +7,7 @@ ghost use Rattle.notice.specs.Layout.{checkOf as noticeCheck, Indexed};
 ghost use Rattle.notice.specs.declared.Layout.the-variants.{WellFormed};
 ghost use Rattle.table.specs.Table.{decode};
 ghost use Rattle.table.specs.Check.{checkOf as tableCheck};
-ghost use Rattle.interpreter.specs.Run.{runOf};
+ghost use Rattle.interpreter.specs.Running.{answerOf};
 ghost use Rattle.repeat.specs.Repeat.{weightOf, repeatOf};
 use notice::Layout;
 use truth::Truth;
@@ -26,17 +26,17 @@ fn rank(t: Truth) -> u64
 // What one run adds to the sum. It asks for a table that passes the check, a notice found well-formed and the starts of its fields.
 fn weight<'a>(table: &'a [u8], notice: &'a [u8], starts: &[u16; 64]) -> u64
     requires { ⌜ (tableCheck (now table) ≡ true) × (noticeCheck (now notice) ≡ WellFormed) × Indexed (now notice) (now starts) ⌝ }
-    ensures { λ r. ⌜ (r ≡ weightOf (runOf (decode (now (table .entry))) (now (notice .entry)))) × (r ≤ 2050) ⌝ }
+    ensures { λ r. ⌜ (r ≡ weightOf (answerOf (decode (now (table .entry))) (now (notice .entry)))) × (r ≤ 268433410) ⌝ }
 {
     let a = interpreter::run_whole(table, notice, starts);
     let verdict = a.verdict;
-    4 * (a.steps as u64) + rank(verdict)
+    4096 * (a.undecided as u64) + 4 * (a.steps as u64) + rank(verdict)
 }
 
 // The sum over so many runs. It asks for a table that passes the check, a notice found well-formed and the starts of its fields.
 fn sum<'a>(table: &'a [u8], notice: &'a [u8], starts: &[u16; 64], times: u32) -> u64
     requires { ⌜ (tableCheck (now table) ≡ true) × (noticeCheck (now notice) ≡ WellFormed) × Indexed (now notice) (now starts) ⌝ }
-    ensures { λ r. ⌜ r ≡ times * weightOf (runOf (decode (now (table .entry))) (now (notice .entry))) ⌝ }
+    ensures { λ r. ⌜ r ≡ times * weightOf (answerOf (decode (now (table .entry))) (now (notice .entry))) ⌝ }
 {
     let mut total: u64 = 0;
     let mut i = 0;
@@ -47,7 +47,7 @@ fn sum<'a>(table: &'a [u8], notice: &'a [u8], starts: &[u16; 64], times: u32) ->
     total
 }
 
-// The inner run so many times, table and notice checked once. It answers the sum of the runs' steps, each four times, and of their verdicts' ranks; 0 if the table fails the check or the notice is not well-formed.
+// The inner run so many times, table and notice checked once. It answers the sum of the runs' undecided entries, each 4,096 times, of their steps, each four times, and of their verdicts' ranks; 0 if the table fails the check or the notice is not well-formed.
 #[no_mangle]
 pub extern "C" fn repeat_run<'a>(table: &'a [u8], notice: &'a [u8], times: u32) -> u64
     ensures { λ r. ⌜ r ≡ repeatOf (now (table .entry)) (now (notice .entry)) times ⌝ }

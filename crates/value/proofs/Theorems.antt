@@ -10,6 +10,7 @@ use native.Mathlib.Omega.{arith}
 use lib.Dec.{eqb}
 use lib.IntN.{ℤ, pos, negsuc}
 use lib.ListN.{take, drop}
+use lib.Ieee.{isNan}
 use mir.Syntax.{w32, w64}
 use mir.Val.{bits, hbits, SFits, toZ, ofZ}
 use mir.ValLaws.{toZ-ofZ, toZ-pos, toZ-neg}
@@ -23,6 +24,7 @@ use Rattle.utf8.specs.declared.Counted.the-variants.{Characters, IllFormed}
 use Rattle.utf8.specs.Utf8.{HasCharacters, WellFormed, Counts}
 use Rattle.utf8.specs.Scan.{countOf}
 use Rattle.utf8.proofs.Theorems.{one-answer, right, counted-is}
+use Rattle.opcode.specs.Opcode.{Kind}
 use Rattle.opcode.specs.declared.Edition.{Edition}
 use Rattle.opcode.specs.declared.Load.{Load}
 use Rattle.opcode.specs.declared.Arithmetic.{Arithmetic}
@@ -46,8 +48,8 @@ use Rattle.notice.specs.Field.{Field}
 use Rattle.notice.specs.Layout.{fieldsOf}
 use Rattle.notice.specs.Lookup.{lookupOf, fieldNamed, FoundIs}
 use Rattle.notice.proofs.Theorems.{lookup}
-use Rattle.value.specs.Value.{Value, bottom, opaque, Item, logic, value, numberOf, valueOf, typeOf, isText, textIn, sizeBy, equalValues, combineNumbers, combineOf, compareOf, fitOf, allTexts, anyFits, anyFit, anyEqual, fitValues, truthIn, valueIn, strictOr, tallyOf, startOf, fieldValue, foundValue, namedValue, valueNamed, inPool, int32, int64, real, text}
-use Rattle.value.specs.Theorems.{UnaryKind, BinaryKind, ManyKind, LoadKind, ShiftsAlone, StrictUnary, StrictBinary, StrictMany, SizeCharacters, SizeBottom, SizeFolded, LaterNoText, EqualsTrue, FalseAnd, TrueOr, EqualOtherwise, Tally, ValueNamed, LoadInt32, LoadInt64, LoadReal64, LoadText, LoadName}
+use Rattle.value.specs.Value.{Value, bottom, opaque, Item, logic, value, isBottom, kindOf, unaryOf, binaryOf, connectOf, typeTest, nanOf, testOf, numberOf, valueOf, typeOf, isText, textIn, sizeBy, equalValues, combineNumbers, combineOf, compareOf, fitOf, allTexts, anyFits, anyFit, anyEqual, fitValues, truthIn, valueIn, strictOr, tallyOf, startOf, fieldValue, foundValue, namedValue, valueNamed, inPool, int32, int64, real, text}
+use Rattle.value.specs.Theorems.{UnaryKind, BinaryKind, ManyKind, LoadKind, ShiftsAlone, StrictUnary, StrictBinary, StrictMany, SizeCharacters, SizeBottom, SizeFolded, LaterNoText, EqualsTrue, FalseAnd, TrueOr, EqualOtherwise, Tally, Settled, KnownNot, KnownTest, KnownConnect, ValueNamed, LoadInt32, LoadInt64, LoadReal64, LoadText, LoadName}
 
 pub unary-kind : UnaryKind
 unary-kind Unary.Not x = refl
@@ -295,6 +297,82 @@ fits-by f x ys false e = ap (λ (t : Bool). tallyOf (Many.Fit f) x (cond t False
 pub tally : Tally
 tally (Many.Fit f) x ys = ap logic (fits-by f x ys (isText (valueIn x)) refl)
 tally Many.Equals x ys = ap logic (equals-from x False ys ∙ or-false (anyEqual (valueIn x) (map valueIn ys)) .1)
+
+-- an equal value stays
+stays-true : (x : Item) (ys : List Item) → tallyOf Many.Equals x True ys ≡ True
+stays-true x [] = refl
+stays-true x (y ∷ ys) = ap (λ (t : Truth). tallyOf Many.Equals x t ys) (true-or-t True (equalValues (valueIn x) (valueIn y)) refl) ∙ stays-true x ys
+
+pub settled : Settled
+settled (Many.Fit f) x False ys e = true-false e
+settled (Many.Fit f) x Bottom ys e = stays-bottom f x ys
+settled (Many.Fit f) x True ys e = true-false e
+settled Many.Equals x False ys e = true-false e
+settled Many.Equals x Bottom ys e = true-false e
+settled Many.Equals x True ys e = stays-true x ys
+
+-- what is known stays known under `!`, a type test and `&& ^^ ||`
+pub known-not : KnownNot
+known-not (logic True) k e = refl
+known-not (logic Bottom) k e = true-false e
+known-not (logic False) k e = refl
+known-not (value v) k e = cc
+
+of-bool-known : (b : Bool) → isBottom (logic (ofBool b)) ≡ false
+of-bool-known true = refl
+of-bool-known false = refl
+
+type-known : (n : ℕ) (v : Value) → eqb (typeOf v) 0 ≡ false → isBottom (logic (typeTest n v)) ≡ false
+type-known n v e = rw e (of-bool-known (eqb (typeOf v) n))
+
+nan-known : (v : Value) → eqb (typeOf v) 0 ≡ false → isBottom (logic (nanOf v)) ≡ false
+nan-known bottom e = true-false e
+nan-known (int32 z) e = refl
+nan-known (int64 z) e = refl
+nan-known (real x) e = of-bool-known (isNan x)
+nan-known (text s) e = refl
+nan-known (opaque s) e = refl
+
+test-known : (o : Test) (v : Value) → eqb (typeOf v) 0 ≡ false → isBottom (logic (testOf o v)) ≡ false
+test-known Test.Int32 v e = type-known 1 v e
+test-known Test.Int64 v e = type-known 2 v e
+test-known Test.Real64 v e = type-known 3 v e
+test-known Test.Text v e = type-known 4 v e
+test-known Test.Opaque v e = type-known 5 v e
+test-known Test.Nan v e = nan-known v e
+test-known Test.Require v e = rw e refl
+
+pub known-test : KnownTest
+known-test o (logic t) k e = cc
+known-test o (value v) k e = test-known o v e
+
+connect-known : (o : Connective) (s t : Truth) → isBottom (logic s) ≡ false → isBottom (logic t) ≡ false → isBottom (logic (connectOf o s t)) ≡ false
+connect-known Connective.And True True d e = refl
+connect-known Connective.And True Bottom d e = true-false e
+connect-known Connective.And True False d e = refl
+connect-known Connective.And Bottom t d e = true-false d
+connect-known Connective.And False True d e = refl
+connect-known Connective.And False Bottom d e = true-false e
+connect-known Connective.And False False d e = refl
+connect-known Connective.Xor True True d e = refl
+connect-known Connective.Xor True Bottom d e = true-false e
+connect-known Connective.Xor True False d e = refl
+connect-known Connective.Xor Bottom t d e = true-false d
+connect-known Connective.Xor False True d e = refl
+connect-known Connective.Xor False Bottom d e = true-false e
+connect-known Connective.Xor False False d e = refl
+connect-known Connective.Or True True d e = refl
+connect-known Connective.Or True Bottom d e = true-false e
+connect-known Connective.Or True False d e = refl
+connect-known Connective.Or Bottom t d e = true-false d
+connect-known Connective.Or False True d e = refl
+connect-known Connective.Or False Bottom d e = true-false e
+connect-known Connective.Or False False d e = refl
+
+pub known-connect : KnownConnect
+known-connect e o (logic s) (logic t) j k c d = connect-known o s t c d
+known-connect e o (logic s) (value w) j k c d = cc
+known-connect e o (value v) y j k c d = cc
 
 -- names and loads
 found : (s : List ℕ) (r : Found) (o : Option Field) → FoundIs s r o → foundValue s r ≡ namedValue o

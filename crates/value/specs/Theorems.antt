@@ -10,12 +10,14 @@ use lib.ListN.{take, drop}
 use lib.Ieee.{Float, binary64, fits, toBits}
 use mir.Syntax.{w32, w64}
 use mir.Val.{SFits, ofZ}
+use Rattle.truth.specs.declared.Truth.{Truth}
 use Rattle.truth.specs.declared.Truth.the-variants.{Bottom, True}
 use Rattle.truth.specs.Truth.{isFalse, isTrue}
 use Rattle.utf8.specs.Utf8.{HasCharacters, WellFormed}
 use Rattle.opcode.specs.Opcode.{Kind, unaryTakes, unaryGives, binaryTakes, binaryGives}
 use Rattle.opcode.specs.declared.Edition.{Edition}
 use Rattle.opcode.specs.declared.Load.{Load}
+use Rattle.opcode.specs.declared.Test.{Test}
 use Rattle.opcode.specs.declared.Unary.{Unary}
 use Rattle.opcode.specs.declared.Shift.{Shift}
 use Rattle.opcode.specs.declared.Combine.{Combine}
@@ -26,7 +28,7 @@ use Rattle.opcode.specs.declared.Many.{Many}
 use Rattle.number.specs.declared.Number.{Number}
 use Rattle.notice.specs.Layout.{fieldsOf}
 use Rattle.notice.specs.Lookup.{fieldNamed}
-use Rattle.value.specs.Value.{Value, bottom, int32, int64, real, text, Item, logic, value, numberOf, isText, foldCaseOf, sizeOf, equalValues, truthIn, valueIn, unaryOf, binaryOf, manyItems, kindOf, bottomOf, isStrict, startOf, tallyOf, valueNamed, namedValue, loadOf}
+use Rattle.value.specs.Value.{Value, bottom, int32, int64, real, text, Item, logic, value, numberOf, isText, foldCaseOf, sizeOf, equalValues, truthIn, valueIn, unaryOf, binaryOf, manyItems, kindOf, isBottom, bottomOf, isStrict, startOf, openOf, tallyOf, valueNamed, namedValue, loadOf}
 
 -- The kind of each answer is the operator's, whatever the operands are.
 abbrev pub UnaryKind : Type 0
@@ -92,6 +94,22 @@ EqualOtherwise = (v w : Value) → (isText v && isText w) ≡ false → (numberO
 -- One later operand after the other, in their order, gives what the operator gives on all of them.
 abbrev pub Tally : Type 0
 Tally = (o : Many) (x : Item) (ys : List Item) → logic (tallyOf o x (startOf o x) ys) ≡ manyItems o x ys
+
+-- What later operands cannot change any more they do not change.
+abbrev pub Settled : Type 0
+Settled = (o : Many) (x : Item) (known : Truth) (ys : List Item) → openOf o known ≡ false → tallyOf o x known ys ≡ known
+
+-- Document 02, request 7: `!`, a type test and `&& ^^ ||` give bottom of bottom alone, so that none of them is the first to leave it on a stack.
+abbrev pub KnownNot : Type 0
+KnownNot = (x : Item) → kindOf x ≡ Kind.logic → isBottom x ≡ false → isBottom (unaryOf Unary.Not x) ≡ false
+
+abbrev pub KnownTest : Type 0
+KnownTest = (o : Test) (x : Item) → kindOf x ≡ Kind.value → isBottom x ≡ false → isBottom (unaryOf (Unary.Test o) x) ≡ false
+
+abbrev pub KnownConnect : Type 0
+KnownConnect =
+    (e : Edition) (o : Connective) (x y : Item) → kindOf x ≡ Kind.logic → kindOf y ≡ Kind.logic → isBottom x ≡ false → isBottom y ≡ false
+    → isBottom (binaryOf e (Binary.Connect o) x y) ≡ false
 
 -- A name's value is that of the field that has the name, and bottom where none has.
 abbrev pub ValueNamed : Type 0

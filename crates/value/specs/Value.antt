@@ -257,6 +257,15 @@ abbrev pub joinOf : Many → Truth → Truth → Truth
 joinOf (Many.Fit f) s t = strictOr s t
 joinOf Many.Equals s t = orOf s t
 
+-- whether one more can change what is known
+abbrev pub openOf : Many → Truth → Bool
+openOf (Many.Fit f) False = true
+openOf (Many.Fit f) Bottom = false
+openOf (Many.Fit f) True = true
+openOf Many.Equals False = true
+openOf Many.Equals Bottom = true
+openOf Many.Equals True = false
+
 -- the first operand beside one later one
 abbrev pub fitValues : Fit → Value → Value → Truth
 fitValues f v w = cond (isText v && isText w) (ofBool (fitOf f (textIn v) (textIn w))) Bottom

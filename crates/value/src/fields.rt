@@ -8,11 +8,10 @@ ghost use Rattle.notice.specs.Field.{sizeRight};
 ghost use Rattle.notice.specs.Layout.{checkOf as noticeCheck, Indexed};
 ghost use Rattle.notice.specs.declared.Layout.the-variants.{WellFormed};
 ghost use Rattle.value.specs.Value.{fieldValue, valueNamed};
-ghost use Rattle.value.specs.Held.{partOf, noticed, typedOf};
+ghost use Rattle.value.specs.Held.{noticed, typedOf};
 use crate::Origin;
 use crate::Piece;
 use crate::Typed;
-use crate::texts;
 use notice::Found;
 
 // The value of a field of a kind whose value lies at `start`. It asks that the value has the kind's size and lies in the notice.
@@ -42,13 +41,12 @@ fn in_notice(start: u16, len: u16) -> Piece
     }
 }
 
-// The value of the field whose name is a piece's bytes, or bottom. It asks for a notice found well-formed and the starts of its fields.
-pub fn named<'a>(pool: &'a [u8], notice: &'a [u8], starts: &[u16; 64], name: Piece) -> Typed
+// The value of the field of a name, or bottom. It asks for a notice found well-formed and the starts of its fields.
+pub fn named(notice: &[u8], starts: &[u16; 64], name: &[u8]) -> Typed
     requires { ⌜ (noticeCheck (now notice) ≡ WellFormed) × Indexed (now notice) (now starts) ⌝ }
-    ensures { λ r. ⌜ ((p : List ℕ) → typedOf p (now (notice .entry)) r ≡ valueNamed (now (notice .entry)) (partOf (now (pool .entry)) (now (notice .entry)) name)) ⌝ }
+    ensures { λ r. ⌜ ((p : List ℕ) → typedOf p (now (notice .entry)) r ≡ valueNamed (now (notice .entry)) (now (name .entry))) ⌝ }
 {
-    let key = texts::fetch(pool, notice, name);
-    let found = notice::lookup_in(notice, starts, key);
+    let found = notice::lookup_in(notice, starts, name);
     match found {
         Found::At { kind, start, len } => field_value(notice, kind, start, len),
         Found::Nothing => Typed::Bottom,

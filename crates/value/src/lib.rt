@@ -1,16 +1,20 @@
 // Values as a table's run holds them, and what each operator and function gives. Document 01, "Meaning", "Table".
 // No function here asks anything of its operands: what a piece names beyond its source is not there, and an operand of the other kind counts as bottom.
-// Of the notice only `load_name` asks something: that it was found well-formed and that the starts of its fields are at hand, so that a name is found by halving.
+// Only `load_name` asks something, which the two checks have answered: that the notice was found well-formed and the starts of its fields are at hand, so that a name is found by halving, and that the name lies in the pool.
 ghost use mathlib.Core.Path.{_≡_};
 ghost use mathlib.Core.List.{List};
-ghost use Prim.Native.Nat.{ℕ};
+ghost use Prim.Native.Nat.{ℕ, _+_, _%_, _≤_};
+ghost use lib.ListN.{length};
 ghost use Rattle.notice.specs.Layout.{checkOf as noticeCheck, Indexed};
 ghost use Rattle.notice.specs.declared.Layout.the-variants.{WellFormed};
+ghost use Rattle.opcode.specs.Groups.{equalityBy};
 ghost use Rattle.opcode.specs.declared.Edition.{Edition};
 ghost use Rattle.opcode.specs.declared.Load.{Load};
 ghost use Rattle.opcode.specs.declared.Unary.{Unary};
+ghost use Rattle.opcode.specs.declared.Compare.{Compare};
+ghost use Rattle.opcode.specs.declared.Connective.{Connective};
 ghost use Rattle.opcode.specs.declared.Binary.{Binary};
-ghost use Rattle.value.specs.Value.{logic, value, isBottom, truthIn, valueIn, connectOf, unaryOf, binaryOf, startOf, joinOf, besideOf, moreOf, loadOf};
+ghost use Rattle.value.specs.Value.{logic, value, isBottom, truthIn, valueIn, unaryOf, binaryOf, startOf, openOf, joinOf, besideOf, moreOf, loadOf};
 ghost use Rattle.value.specs.Held.{typedOf, itemIn, pooled};
 
 mod fields;
@@ -19,10 +23,9 @@ mod values;
 
 use opcode::Change;
 use opcode::Combine;
-use opcode::Compare;
-use opcode::Connective;
 use opcode::Edition;
 use opcode::Many;
+use opcode::Order;
 use opcode::Test;
 pub use texts::fetch;
 use truth::Truth;
@@ -113,17 +116,6 @@ pub fn is_bottom(s: Slot) -> bool
     }
 }
 
-// `&& ^^ ||` of two truth values.
-fn joined(op: Connective, s: Truth, t: Truth) -> Truth
-    ensures { λ r. ⌜ r ≡ connectOf op s t ⌝ }
-{
-    match op {
-        Connective::And => truth::and(s, t),
-        Connective::Xor => truth::xor(s, t),
-        Connective::Or => truth::or(s, t),
-    }
-}
-
 // The operators of one operand and of two, from slots to a slot, a function for each group (`Unary`, `Binary`): a run then stores each group's answer by itself.
 // Op 40.
 pub fn not(s: Slot) -> Slot
@@ -153,18 +145,37 @@ pub fn combine(edition: Edition, op: Combine, s: Slot, t: Slot) -> Slot
     valued(values::combine(edition, op, value_in(s), value_in(t)))
 }
 
-// Ops 32..37.
-pub fn compare<'a>(pool: &'a [u8], notice: &'a [u8], op: Compare, s: Slot, t: Slot) -> Slot
-    ensures { λ r. ⌜ ((e : Edition) → itemIn (now (pool .entry)) (now (notice .entry)) r ≡ binaryOf e (Binary.Compare op) (itemIn (now (pool .entry)) (now (notice .entry)) s) (itemIn (now (pool .entry)) (now (notice .entry)) t)) ⌝ }
+// Ops 32 and 33; `!=` is the negated one.
+pub fn equality<'a>(pool: &'a [u8], notice: &'a [u8], negated: bool, s: Slot, t: Slot) -> Slot
+    ensures { λ r. ⌜ ((e : Edition) → itemIn (now (pool .entry)) (now (notice .entry)) r ≡ binaryOf e (Binary.Compare (equalityBy negated)) (itemIn (now (pool .entry)) (now (notice .entry)) s) (itemIn (now (pool .entry)) (now (notice .entry)) t)) ⌝ }
 {
-    decided(values::compare(pool, notice, op, value_in(s), value_in(t)))
+    decided(values::equality(pool, notice, negated, value_in(s), value_in(t)))
 }
 
-// Ops 41..43.
-pub fn connect(op: Connective, s: Slot, t: Slot) -> Slot
-    ensures { λ r. ⌜ ((e : Edition) → (p : List ℕ) → (q : List ℕ) → itemIn p q r ≡ binaryOf e (Binary.Connect op) (itemIn p q s) (itemIn p q t)) ⌝ }
+// Ops 34..37.
+pub fn ordered(op: Order, s: Slot, t: Slot) -> Slot
+    ensures { λ r. ⌜ ((e : Edition) → (p : List ℕ) → (q : List ℕ) → itemIn p q r ≡ binaryOf e (Binary.Compare (Compare.Order op)) (itemIn p q s) (itemIn p q t)) ⌝ }
 {
-    decided(joined(op, truth_in(s), truth_in(t)))
+    decided(values::ordered(op, value_in(s), value_in(t)))
+}
+
+// Ops 41..43, a function for each.
+pub fn and(s: Slot, t: Slot) -> Slot
+    ensures { λ r. ⌜ ((e : Edition) → (p : List ℕ) → (q : List ℕ) → itemIn p q r ≡ binaryOf e (Binary.Connect Connective.And) (itemIn p q s) (itemIn p q t)) ⌝ }
+{
+    decided(truth::and(truth_in(s), truth_in(t)))
+}
+
+pub fn xor(s: Slot, t: Slot) -> Slot
+    ensures { λ r. ⌜ ((e : Edition) → (p : List ℕ) → (q : List ℕ) → itemIn p q r ≡ binaryOf e (Binary.Connect Connective.Xor) (itemIn p q s) (itemIn p q t)) ⌝ }
+{
+    decided(truth::xor(truth_in(s), truth_in(t)))
+}
+
+pub fn or(s: Slot, t: Slot) -> Slot
+    ensures { λ r. ⌜ ((e : Edition) → (p : List ℕ) → (q : List ℕ) → itemIn p q r ≡ binaryOf e (Binary.Connect Connective.Or) (itemIn p q s) (itemIn p q t)) ⌝ }
+{
+    decided(truth::or(truth_in(s), truth_in(t)))
 }
 
 // Ops 56..61, one later operand after the other: what is known before any of them ..
@@ -193,6 +204,24 @@ pub fn more<'a>(
         known,
         beside(pool, notice, op, value_in(first), value_in(later)),
     )
+}
+
+// Whether a later operand can still change what is known: bottom of strings stays, and so does an equal value.
+pub fn is_open(op: Many, known: Truth) -> bool
+    ensures { λ r. ⌜ r ≡ openOf op known ⌝ }
+{
+    match op {
+        Many::Fit(_) => match known {
+            Truth::False => true,
+            Truth::Bottom => false,
+            Truth::True => true,
+        },
+        Many::Equals => match known {
+            Truth::False => true,
+            Truth::Bottom => true,
+            Truth::True => false,
+        },
+    }
 }
 
 // The first operand beside a later one.
@@ -240,11 +269,14 @@ pub fn load_text(a: u16, b: u64) -> Slot
     valued(Typed::Text(in_pool(a, b)))
 }
 
+// It asks for a notice found well-formed and the starts of its fields, and that the name lies in the pool, as the table check has found.
 pub fn load_name<'a>(pool: &'a [u8], notice: &'a [u8], starts: &[u16; 64], a: u16, b: u64) -> Slot
-    requires { ⌜ (noticeCheck (now notice) ≡ WellFormed) × Indexed (now notice) (now starts) ⌝ }
+    requires { ⌜ (noticeCheck (now notice) ≡ WellFormed) × Indexed (now notice) (now starts) × (b % 65536 + a ≤ length (now pool)) ⌝ }
     ensures { λ r. ⌜ itemIn (now (pool .entry)) (now (notice .entry)) r ≡ loadOf (now (pool .entry)) (now (notice .entry)) Load.Name a b ⌝ }
 {
-    valued(fields::named(pool, notice, starts, in_pool(a, b)))
+    let start = (b % 65536) as usize;
+    let end = start + a as usize;
+    valued(fields::named(notice, starts, &pool[start..end]))
 }
 
 // "a length, b pool offset"

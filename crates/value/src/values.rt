@@ -6,6 +6,8 @@ ghost use Prim.Native.Nat.{ℕ};
 ghost use lib.Dec.{eqb};
 ghost use Rattle.truth.specs.declared.Truth.the-variants.{False, Bottom};
 ghost use Rattle.utf8.specs.Scan.{countOf};
+ghost use Rattle.opcode.specs.Groups.{equalityBy};
+ghost use Rattle.opcode.specs.declared.Compare.{Compare};
 ghost use Rattle.value.specs.Value.{numberOf, valueOf, typeOf, isText, textIn, foldCaseOf, sizeBy, sizeOf, changeOf, ifPresent, typeTest, nanOf, testOf, combineNumbers, combineOf, equalValues, compareOf, fitValues, strictOr};
 ghost use Rattle.value.specs.Held.{pooled, foldedPiece, textOf, typedOf};
 use crate::Origin;
@@ -15,9 +17,9 @@ use crate::texts;
 use number::Number;
 use opcode::Change;
 use opcode::Combine;
-use opcode::Compare;
 use opcode::Edition;
 use opcode::Fit;
+use opcode::Order;
 use opcode::Test;
 use truth::Truth;
 use utf8::Counted;
@@ -233,7 +235,7 @@ fn equal<'a>(pool: &'a [u8], notice: &'a [u8], v: Typed, w: Typed) -> Truth
     number::equal(number_of(v), number_of(w))
 }
 
-// The same for `equals`. `compare` calls `equal` at one place and nothing else does, so that the compiler lays it into the run's loop: operands that pass through memory take a quarter of a run.
+// The same for `equals`. `equality` calls `equal` at one place and nothing else does, so that the compiler lays it into the run's loop: operands that pass through memory take a quarter of a run.
 pub fn equals<'a>(pool: &'a [u8], notice: &'a [u8], v: Typed, w: Typed) -> Truth
     ensures { λ r. ⌜ r ≡ equalValues (typedOf (now (pool .entry)) (now (notice .entry)) v) (typedOf (now (pool .entry)) (now (notice .entry)) w) ⌝ }
 {
@@ -243,25 +245,26 @@ pub fn equals<'a>(pool: &'a [u8], notice: &'a [u8], v: Typed, w: Typed) -> Truth
     number::equal(number_of(v), number_of(w))
 }
 
-// `== != < <= > >=`
-pub fn compare<'a>(pool: &'a [u8], notice: &'a [u8], op: Compare, v: Typed, w: Typed) -> Truth
-    ensures { λ r. ⌜ r ≡ compareOf op (typedOf (now (pool .entry)) (now (notice .entry)) v) (typedOf (now (pool .entry)) (now (notice .entry)) w) ⌝ }
+// `==`, and `!=` where it is negated.
+pub fn equality<'a>(pool: &'a [u8], notice: &'a [u8], negated: bool, v: Typed, w: Typed) -> Truth
+    ensures { λ r. ⌜ r ≡ compareOf (equalityBy negated) (typedOf (now (pool .entry)) (now (notice .entry)) v) (typedOf (now (pool .entry)) (now (notice .entry)) w) ⌝ }
 {
     if any_bottom(v, w) {
         return Truth::Bottom;
     }
-    let mut negated = false;
-    match op {
-        Compare::Equal => {}
-        Compare::NotEqual => {
-            negated = true;
-        }
-        Compare::Order(o) => {
-            return number::order(o, number_of(v), number_of(w));
-        }
-    }
     let t = equal(pool, notice, v, w);
     if negated { truth::not(t) } else { t }
+}
+
+// `< <= > >=`
+pub fn ordered(op: Order, v: Typed, w: Typed) -> Truth
+    ensures { λ r. ⌜ ((p : List ℕ) → (q : List ℕ) → r ≡ compareOf (Compare.Order op) (typedOf p q v) (typedOf p q w)) ⌝ }
+{
+    if any_bottom(v, w) {
+        Truth::Bottom
+    } else {
+        number::order(op, number_of(v), number_of(w))
+    }
 }
 
 // Ops 56..58, 60 and 61: what is known before any literal, and what one literal says.

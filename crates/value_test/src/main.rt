@@ -3,13 +3,11 @@
 // The last is the op to run; 0 gives its one operand. An answer is a truth value, or a type and its bits or bytes in hex.
 use libc::STDOUT_FILENO;
 use notice::Layout;
-use opcode::Binary;
 use opcode::Change;
 use opcode::Edition;
-use opcode::Load;
 use opcode::Many;
-use opcode::Op;
-use opcode::Unary;
+use opcode::groups;
+use opcode::groups::Group;
 use truth::Truth;
 use value::Held;
 use value::Piece;
@@ -101,25 +99,19 @@ fn folded<'a>(pool: &'a [u8], notice: &'a [u8], number: u16, s: Slot) -> Slot {
     value::change(pool, notice, Change::FoldCase, s)
 }
 
-// In a notice that is not well-formed every name is missing.
+// A name that lies beyond the pool, and in a notice that is not well-formed every name, is missing.
 fn load_name<'a>(pool: &'a [u8], notice: &'a [u8], a: u16, b: u64) -> Slot {
+    let missing = Slot {
+        held: Held::Value(Typed::Bottom),
+    };
+    if pool.len() < (b % 65536) as usize + a as usize {
+        return missing;
+    }
     let mut starts: [u16; 64] = [0; 64];
     let layout = notice::index(notice, &mut starts);
     match layout {
         Layout::WellFormed => value::load_name(pool, notice, &starts, a, b),
-        Layout::Fault(_) => Slot {
-            held: Held::Value(Typed::Bottom),
-        },
-    }
-}
-
-fn load<'a>(pool: &'a [u8], notice: &'a [u8], op: Load, a: u16, b: u64) -> Slot {
-    match op {
-        Load::Int32 => value::load_int32(b),
-        Load::Int64 => value::load_int64(b),
-        Load::Real64 => value::load_real64(b),
-        Load::Text => value::load_text(a, b),
-        Load::Name => load_name(pool, notice, a, b),
+        Layout::Fault(_) => missing,
     }
 }
 
@@ -131,10 +123,15 @@ fn operand<'a>(pool: &'a [u8], notice: &'a [u8], entries: &'a [u8], i: usize) ->
     let number = word::read_u16(entries, i * 12);
     let a = word::read_u16(entries, i * 12 + 2);
     let b = word::read_u64(entries, i * 12 + 4);
-    match opcode::op_of(number % 256) {
-        Op::Load(l) => folded(pool, notice, number, load(pool, notice, l, a, b)),
-        _ => value::decided(truth_of(a)),
-    }
+    let s = match groups::group_of(number % 256) {
+        Group::Int32 => value::load_int32(b),
+        Group::Int64 => value::load_int64(b),
+        Group::Real64 => value::load_real64(b),
+        Group::Text => value::load_text(a, b),
+        Group::Name => load_name(pool, notice, a, b),
+        _ => return value::decided(truth_of(a)),
+    };
+    folded(pool, notice, number, s)
 }
 
 // The later operands, one after the other.
@@ -156,50 +153,29 @@ fn many<'a>(pool: &'a [u8], notice: &'a [u8], op: Many, entries: &'a [u8], count
     value::decided(known)
 }
 
-fn one<'a>(pool: &'a [u8], notice: &'a [u8], op: Unary, s: Slot) -> Slot {
-    match op {
-        Unary::Not => value::not(s),
-        Unary::Change(o) => value::change(pool, notice, o, s),
-        Unary::Test(o) => value::test(o, s),
-    }
-}
-
-fn two<'a>(
-    pool: &'a [u8],
-    notice: &'a [u8],
-    edition: Edition,
-    op: Binary,
-    s: Slot,
-    t: Slot,
-) -> Slot {
-    match op {
-        Binary::Combine(o) => value::combine(edition, o, s, t),
-        Binary::Compare(o) => value::compare(pool, notice, o, s, t),
-        Binary::Connect(o) => value::connect(o, s, t),
-    }
-}
-
+// The op of a number below 256 on the operands.
 fn operate<'a>(
     pool: &'a [u8],
     notice: &'a [u8],
     edition: Edition,
-    op: Op,
+    number: u16,
     entries: &'a [u8],
     count: usize,
 ) -> Slot {
-    let first = operand(pool, notice, entries, 0);
-    match op {
-        Op::Unary(o) => one(pool, notice, o, first),
-        Op::Binary(o) => two(
-            pool,
-            notice,
-            edition,
-            o,
-            first,
-            operand(pool, notice, entries, 1),
-        ),
-        Op::Many(o) => many(pool, notice, o, entries, count),
-        _ => first,
+    let s = operand(pool, notice, entries, 0);
+    let t = operand(pool, notice, entries, 1);
+    match groups::group_of(number) {
+        Group::Change => value::change(pool, notice, groups::change_of(number), s),
+        Group::Combine => value::combine(edition, groups::combine_of(number), s, t),
+        Group::Equality => value::equality(pool, notice, groups::is_not_equal(number), s, t),
+        Group::Order => value::ordered(groups::order_of(number), s, t),
+        Group::Not => value::not(s),
+        Group::And => value::and(s, t),
+        Group::Xor => value::xor(s, t),
+        Group::Or => value::or(s, t),
+        Group::Test => value::test(groups::test_of(number), s),
+        Group::Many => many(pool, notice, groups::many_of(number), entries, count),
+        _ => s,
     }
 }
 
@@ -222,11 +198,17 @@ fn next_case<'a>(pool: &'a [u8], notice: &'a [u8]) -> bool {
     }
     let count = n / 12 - 1;
     let number = word::read_u16(&entries, count * 12);
-    let op = opcode::op_of(number % 256);
     put_slot(
         pool,
         notice,
-        operate(pool, notice, edition_of(number), op, &entries, count),
+        operate(
+            pool,
+            notice,
+            edition_of(number),
+            number % 256,
+            &entries,
+            count,
+        ),
     );
     true
 }

@@ -1,9 +1,9 @@
--- `repeat::sum` meets its contract. The loop's invariant: the sum is i times what one run adds, and at most 2050 for each. Assumes nothing.
+-- `repeat::sum` meets its contract. The loop's invariant: the sum is i times what one run adds, and at most 268433410 for each. Assumes nothing.
 use mathlib.Core.Path.{_≡_, sym, ap, _∙_}
 use Prim.Native.Nat.{ℕ, _+_, _*_, _≤_, _-_}
 use native.Mathlib.Omega.{arith}
 use Rattle.table.specs.Table.{decode}
-use Rattle.interpreter.specs.Run.{runOf}
+use Rattle.interpreter.specs.Running.{answerOf}
 use Rattle.repeat.specs.Repeat.{weightOf}
 use Rattle.repeat.proofs.Small.{one-more}
 use borrow.Author.Needs.{needs}
@@ -11,7 +11,7 @@ use Rattle.repeat.proofs.sum.Statement.{statement}
 use Rattle.repeat.proofs.sum.Tie as tie
 
 abbrev Inv-loop : tie.InvT-loop
-Inv-loop table notice starts times total₀ i₀ total i = (i ≤ times) × (total ≡ i * weightOf (runOf (decode table) notice)) × (total ≤ 2050 * i)
+Inv-loop table notice starts times total₀ i₀ total i = (i ≤ times) × (total ≡ i * weightOf (answerOf (decode table) notice)) × (total ≤ 268433410 * i)
 
 abbrev μ-loop : tie.MeasureT-loop
 μ-loop table notice starts times total₀ i₀ total i = times - i
@@ -40,7 +40,7 @@ returns : tie.Need-returns Inv-loop μ-loop
 returns c =
     let l = c .before .loop in
     let i-is : l .i ≡ c .before .before .before .before .args .times = omega arith in
-    l .inv .1 ∙ ap (λ (k : ℕ). k * weightOf (runOf (decode (c .before .before .before .before .args .table .now)) (c .before .before .before .before .args .notice .now))) i-is
+    l .inv .1 ∙ ap (λ (k : ℕ). k * weightOf (answerOf (decode (c .before .before .before .before .args .table .now)) (c .before .before .before .before .args .notice .now))) i-is
 
 pub sum-spec : {M : Type 1} → statement M
 sum-spec =
