@@ -1,3 +1,4 @@
+pub mod Plains
 pub mod Machine
 pub mod Scans
 pub mod Items

@@ -46,7 +46,7 @@ narrow : (q b : ℕ) → needsEscape q b ≡ false → escapeOf q b ≡ b ∷ []
 narrow q b e = rw e
 
 -- a byte that needs no escape is no backslash
-plain : (q b : ℕ) → needsEscape q b ≡ false → eqb b 92 ≡ false
+pub plain : (q b : ℕ) → needsEscape q b ≡ false → eqb b 92 ≡ false
 plain q b e = go (eqb b q) e
   where
     go : (x : Bool) → (x || eqb b 92) ≡ false → eqb b 92 ≡ false
@@ -116,7 +116,7 @@ length-value text kind at len e (inr (inr (inr p))) = rw (p .0) (length-bytes te
 
 -- ---- the part between two quotes
 
-longer : (q : ℕ) (bs : List ℕ) → length bs ≤ length (escapes q bs)
+pub longer : (q : ℕ) (bs : List ℕ) → length bs ≤ length (escapes q bs)
 unfolding escapes
 longer q [] = omega arith
 longer q (b ∷ bs) =

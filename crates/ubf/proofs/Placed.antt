@@ -1,15 +1,15 @@
 -- Storing fields as a notice: their parts, one field after the other, and the header before them. Assumes nothing.
 use mathlib.Core.Path.{_≡_, refl, sym, ap, ap₂, _∙_}
 use mathlib.Core.Logic.{inl, inr}
-use mathlib.Core.Bool.{Bool, true}
+use mathlib.Core.Bool.{Bool, true, false}
 use mathlib.Core.List.{List, [], _∷_, _++_, append-assoc}
-use Prim.Native.Nat.{ℕ, suc, _+_, _-_, _≤_, _<_}
+use Prim.Native.Nat.{ℕ, zero, suc, _+_, _-_, _≤_, _<_}
 use native.Mathlib.Omega.{arith}
 use native.Mathlib.Numerals.{add-one}
 use borrow.Author.Tests.{eq-eqb, ne-eqb}
-use lib.Dec.{ltb}
-use lib.ListN.{length, getD, set, drop, length-append, length-drop, length-map, drop-of-length-le}
-use lib.Seq.{sets, sets-eq, drop-cons}
+use lib.Dec.{eqb, ltb}
+use lib.ListN.{length, getD, set, take, drop, length-append, length-drop, length-map, drop-of-length-le}
+use lib.Seq.{sets, sets-eq, drop-cons, length-take-le}
 use Rattle.common.proofs.Stores.{sets-append}
 use Rattle.word.specs.Word.{wordBytes}
 use Rattle.word.proofs.Laws.{length-wordBytes}
@@ -18,12 +18,12 @@ use Rattle.notice.specs.Render.{fieldBytes, fieldsBytes, render}
 use Rattle.notice.proofs.Fields.{length-field}
 use Rattle.notice.proofs.Stores.{field-stored}
 use Rattle.notice.proofs.Renders.{length-render}
-use Rattle.ubf.specs.Escape.{bytesIn}
+use Rattle.ubf.specs.Escape.{bytesIn, Plain}
 use Rattle.ubf.specs.Answer.{noticeSize, leaves}
 use Rattle.ubf.specs.Span.{valueIn, nameIn, fieldIn, PartIn, ValuePart, SpanIn, rowIn, rowFields, ordered, RowsShort, Placing}
 use Rattle.ubf.specs.declared.spans.Span.{Span}
-use Rattle.ubf.proofs.Parts.{length-bytes, length-value}
-use Rattle.ubf.proofs.Names.{ByteOf}
+use Rattle.ubf.proofs.Parts.{plain, longer, length-bytes, length-value}
+use Rattle.ubf.proofs.Names.{ByteOf, byte-of}
 
 -- a byte more of those that have escapes
 pub unescaped-one : (d text : List ℕ) (at i n k j : ℕ) → k < n → ByteOf text i (n - k) true j
@@ -35,6 +35,61 @@ unescaped-one d text at i n k j h b =
 
 pub unescaped-rest : (text : List ℕ) (i n k j : ℕ) → k < n → ByteOf text i (n - k) true j → PartIn text (j + 1) (n - (k + 1)) true
 unescaped-rest text i n k j h b = let m : n - (k + 1) ≡ n - k - 1 = omega arith in rw m (b .rest)
+
+-- a run of them that has no escape
+pub record Run (text : List ℕ) (i n r : ℕ) : Type 0 where
+  pub inside : i + r ≤ length text
+  pub bytes : bytesIn text i n true ≡ take r (drop i text) ++ bytesIn text (i + r) (n - r) true
+  pub rest : PartIn text (i + r) (n - r) true
+
+pub part-run : (r : ℕ) (text : List ℕ) (i n : ℕ) → r ≤ n → Plain text 34 i (i + r) → PartIn text i n true → Run text i n r
+part-run zero text i n h p q =
+    let e : i + 0 ≡ i = omega arith in
+    let m : n - 0 ≡ n = omega arith in
+    record { inside = omega (arith, q .2); bytes = rw (e, m); rest = rw (e, m) q }
+part-run (suc r) text i n h p q =
+    let b : ℕ = getD text i 0 in
+    let f : eqb b 92 ≡ false = plain 34 b (p i (omega arith) (omega arith)) in
+    let o = byte-of text i n true i (omega arith) (rw f) q in
+    let e : i + 1 + r ≡ i + suc r = omega arith in
+    let m : n - 1 - r ≡ n - suc r = omega arith in
+    let one : i + 1 ≡ suc i = omega arith in
+    let ih : Run text (i + 1) (n - 1) r = part-run r text (i + 1) (n - 1) (omega arith) (λ j l k. p j (omega arith) (omega arith)) (o .rest) in
+    record {
+      inside = omega (arith, ih .inside);
+      bytes = o .first
+          ∙ (ap (λ (x : List ℕ). b ∷ x) (ih .bytes)
+          ∙ (ap₂ (λ (j k : ℕ). (b ∷ take r (drop (i + 1) text)) ++ bytesIn text j k true) e m
+          ∙ (ap (λ (j : ℕ). (b ∷ take r (drop j text)) ++ bytesIn text (i + suc r) (n - suc r) true) one
+          ∙ ap (λ (x : List ℕ). take (suc r) x ++ bytesIn text (i + suc r) (n - suc r) true) (sym (drop-cons text i 0 (omega (arith, ih .inside)))))));
+      rest = rw (e, m) at (ih .rest);
+    }
+
+pub part-room : (text : List ℕ) (i n : ℕ) → PartIn text i n true → i + n ≤ length text
+part-room text i n q = omega (arith, q .1, q .2, longer 34 (q .0))
+
+-- the run is stored, and what is left of them makes the same of the buffer
+pub record RunStored (d after text : List ℕ) (at i n k end : ℕ) : Type 0 where
+  pub next : k + (end - i) ≤ n
+  pub rest : PartIn text end (n - (k + (end - i))) true
+  pub same : sets after (at + (k + (end - i))) (bytesIn text end (n - (k + (end - i))) true) ≡ sets d (at + k) (bytesIn text i (n - k) true)
+
+pub run-stored : (d after text : List ℕ) (at i n k end : ℕ) → k ≤ n → i ≤ end → end ≤ i + (n - k) → Plain text 34 i end → PartIn text i (n - k) true → after ≡ sets d (at + k) (take (end - i) (drop i text)) → RunStored d after text at i n k end
+run-stored d after text at i n k end h l m p q w =
+    let r = end - i in
+    let e : i + r ≡ end = omega arith in
+    let z : n - k - r ≡ n - (k + r) = omega arith in
+    let g = part-run r text i (n - k) (omega arith) (λ j a b. p j a (omega arith)) q in
+    let t : length (take r (drop i text)) ≡ r = length-take-le r (drop i text) (simp length-drop (omega (arith, g .inside))) in
+    let a : at + (k + r) ≡ at + k + length (take r (drop i text)) = omega (arith, t) in
+    let rest : bytesIn text (i + r) (n - k - r) true ≡ bytesIn text end (n - (k + r)) true = ap₂ (λ (x y : ℕ). bytesIn text x y true) e z in
+    record {
+      next = omega arith;
+      rest = rw (e, z) at (g .rest);
+      same = ap₂ (λ (x : List ℕ) (j : ℕ). sets x j (bytesIn text end (n - (k + r)) true)) w a
+          ∙ (sym (sets-append (take r (drop i text)) (bytesIn text end (n - (k + r)) true) d (at + k))
+          ∙ ap (sets d (at + k)) (sym (g .bytes ∙ ap (λ (x : List ℕ). take r (drop i text) ++ x) rest)));
+    }
 
 -- a value by its kind
 module _ (text : List ℕ) (kind at len : ℕ) (e : Bool) where

@@ -3,7 +3,7 @@ use mathlib.Core.Path.{_≡_, refl, sym, ap, ap₂, _∙_}
 use mathlib.Core.Bool.{Bool, true, false, _&&_, _||_}
 use mathlib.Core.List.{List, [], _∷_, _++_, append-assoc}
 use mathlib.Core.Logic.{inl, inr}
-use Prim.Native.Nat.{ℕ, suc, _+_, _*_, _-_, _≤_, _<_}
+use Prim.Native.Nat.{ℕ, zero, suc, _+_, _*_, _-_, _≤_, _<_}
 use native.Mathlib.Decide.{decLt}
 use native.Mathlib.Omega.{arith}
 use borrow.Author.Tests.{ne-eqb, eqb-true, eqb-false, lt-ltb, le-ltb, ltb-true, ltb-false}
@@ -13,7 +13,7 @@ use lib.Seq.{length-take-le}
 use Rattle.common.proofs.Choice.{true-false, false-true}
 use Rattle.octets.proofs.Theorems.{and-parts}
 use Rattle.ubf.specs.Byte.{is, isSpace, isDigit, digitOf}
-use Rattle.ubf.specs.Escape.{needsEscape, escapeOf, escapes, escapeRight, bytePlace}
+use Rattle.ubf.specs.Escape.{needsEscape, escapeOf, escapes, escapeRight, bytePlace, Plain, PlainTo}
 use Rattle.ubf.specs.Item.{Item, integer, binary, between, within, escaped, minus, digits, counted, State, state, closed, run}
 use Rattle.ubf.specs.Fields.{noText}
 use Rattle.ubf.specs.Scan.{onward, part, Capped, Grows, QuotedIs, BlanksTo, DigitsTo, IntegerIs, BinaryIs}
@@ -45,10 +45,9 @@ needs-none : (q b : ℕ) → (b ≡ q → ⊥) → (b ≡ 92 → ⊥) → needsE
 needs-none q b h g = simp (ne-eqb b q h, ne-eqb b 92 g)
 
 module _ (text : List ℕ) (at q i count : ℕ) (o : Opens text at q i count) where
-  pub opens-one : i < length text → (getD text i 0 ≡ q → ⊥) → (getD text i 0 ≡ 92 → ⊥) → Opens text at q (i + 1) count
-  opens-one l h g =
+  opens-plain : i < length text → needsEscape q (getD text i 0) ≡ false → Opens text at q (i + 1) count
+  opens-plain l n =
       let b : ℕ = getD text i 0 in
-      let n : needsEscape q b ≡ false = needs-none q b h g in
       let e : i + 1 ≡ suc i = omega arith in
       let w : escapeOf q b ≡ b ∷ [] = rw n in
       let r = length-append (o .bytes) (b ∷ []) in
@@ -60,6 +59,9 @@ module _ (text : List ℕ) (at q i count : ℕ) (o : Opens text at q i count) wh
         count-is = omega (arith, o .count-is);
         goes = λ its d. o .goes its d ∙ onward-step text i b (state (within q (o .bytes)) its d) (state (within q (o .bytes ++ (b ∷ []))) its d) l refl (quoted-plain q (o .bytes) its d b n) ∙ ap (λ (k : ℕ). onward text k (state (within q (o .bytes ++ (b ∷ []))) its d)) (sym e);
       }
+
+  pub opens-one : i < length text → (getD text i 0 ≡ q → ⊥) → (getD text i 0 ≡ 92 → ⊥) → Opens text at q (i + 1) count
+  opens-one l h g = opens-plain l (needs-none q (getD text i 0) h g)
 
   pub opens-two : (q ≡ 92 → ⊥) → i < length text → getD text i 0 ≡ 92 → escapeRight text i q ≡ true → Opens text at q (i + 2) (count + 1)
   opens-two v l g h =
@@ -118,6 +120,22 @@ module _ (text : List ℕ) (at q i count : ℕ) (o : Opens text at q i count) wh
           let n : needsEscape q (getD text (suc i) 0) ≡ false = rw (lt-ltb (suc i) (length text) m) at h in
           onward-breaks text (suc i) (getD text (suc i) 0) (state (escaped q (o .bytes)) its d) its d m refl (quoted-wrong q (o .bytes) its d (getD text (suc i) 0) n)
       after its d (no m) = onward-end text (suc i) (state (escaped q (o .bytes)) its d) (omega arith)
+
+-- a run in which no byte has an escape
+opens-run : (n : ℕ) (text : List ℕ) (at q i count : ℕ) → Opens text at q i count → i + n ≤ length text → Plain text q i (i + n) → Opens text at q (i + n) count
+opens-run zero text at q i count o h p = let e : i + 0 ≡ i = omega arith in rw e o
+opens-run (suc n) text at q i count o h p =
+    let e : i + 1 + n ≡ i + suc n = omega arith in
+    let one = opens-plain text at q i count o (omega arith) (p i (omega arith) (omega arith)) in
+    rw e at (opens-run n text at q (i + 1) count one (omega arith) (λ j l m. p j (omega arith) (omega arith)))
+
+pub opens-to : (text : List ℕ) (at q i count end : ℕ) → Opens text at q i count → PlainTo text q i end → Opens text at q end count
+opens-to text at q i count end o r =
+    let e : i + (end - i) ≡ end = omega (arith, r .after) in
+    rw e at (opens-run (end - i) text at q i count o (omega (arith, r .after, r .near)) (λ j l m. r .plain j l (omega (arith, r .after))))
+
+pub stop-backslash : (q b : ℕ) → needsEscape q b ≡ true → (b ≡ q → ⊥) → b ≡ 92
+stop-backslash q b e h = eqb-true b 92 (rw (ne-eqb b q h) at e)
 
 pub escape-cut : (text : List ℕ) (at q : ℕ) → length text - at < 2 → false ≡ escapeRight text at q
 escape-cut text at q h = rw (le-ltb (suc at) (length text) (omega arith))

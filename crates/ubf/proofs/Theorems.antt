@@ -7,7 +7,7 @@ use native.Mathlib.Omega.{arith}
 use borrow.Author.Tests.{le-leb, leb-true, eqb-false}
 use lib.Dec.{eqb, leb}
 use lib.ListN.{length, take, drop}
-use lib.Seq.{take-append-seam, getD-drop}
+use lib.Seq.{take-append-seam}
 use Rattle.word.specs.Word.{Bytes}
 use Rattle.octets.specs.Octets.{sameOf, beforeOf}
 use Rattle.octets.proofs.Theorems.{and-parts, before-transitive}
@@ -16,9 +16,8 @@ use Rattle.notice.specs.declared.Layout.the-variants as layouts
 use Rattle.notice.specs.Field.{Field, nameRight, sizeRight, fieldRight, allRight, beforeFirst, rising}
 use Rattle.notice.specs.Render.{fieldsBytes, render, NoticeFields}
 use Rattle.common.proofs.Choice.{true-false, false-true}
-use Rattle.notice.specs.Layout.{unless, valueSizeAt, valueStart, fieldAt, checkOf, startsOf, fieldsOf}
+use Rattle.notice.specs.Layout.{unless, fieldAt, checkOf, startsOf, fieldsOf}
 use Rattle.notice.specs.Write.{hasName, sorted}
-use Rattle.notice.proofs.Keys.{bytes-take}
 use Rattle.notice.proofs.Orders.{same-symmetric, before-not-same, perm-right}
 use Rattle.notice.proofs.Renders.{well-render, well-fields, length-render, render-passes, render-fields}
 use Rattle.ubf.specs.declared.Answer.{Answer}
@@ -30,6 +29,7 @@ use Rattle.ubf.specs.Theorems.{WrittenSays, WrittenInput, WriteRead, Wri
 use Rattle.ubf.proofs.Trips.{AllGood, text-says}
 use Rattle.notice.proofs.Sorted.{sorted-length, sorted-size, sorted-same, sorted-same-fields}
 use Rattle.ubf.proofs.Sorted.{sorted-rising}
+use Rattle.ubf.proofs.Values.{value-bytes}
 use Rattle.ubf.proofs.Writes.{written}
 use Rattle.ubf.proofs.Grammar.{input-run, run-input}
 
@@ -39,9 +39,6 @@ or-parts false b e = (refl, e)
 
 -- ---- the fields of a notice can be written
 
-bytes-drop : (n : ℕ) (s : List ℕ) → Bytes s → Bytes (drop n s)
-bytes-drop n s b i = let e = getD-drop n s i 0 in rw e (b (n + i))
-
 good-all : (s : List ℕ) → Bytes s → (ats : List ℕ) → allRight (map (fieldAt s) ats) ≡ true → hasReal (map (fieldAt s) ats) ≡ false → AllGood (map (fieldAt s) ats)
 unfolding hasReal
 good-all s bytes [] a h = tt
@@ -50,7 +47,7 @@ good-all s bytes (at ∷ ats) a h =
     let q = or-parts (eqb (fieldAt s at .kind) 3) (hasReal (map (fieldAt s) ats)) h in (
       record {
         size = and-parts (nameRight (fieldAt s at .name)) (sizeRight (fieldAt s at .kind) (length (fieldAt s at .value))) (p .0) .1;
-        bytes = bytes-take (valueSizeAt s at) (drop (valueStart s at) s) (bytes-drop (valueStart s at) s bytes);
+        bytes = value-bytes s at bytes;
         no-real = eqb-false (fieldAt s at .kind) 3 (q .0);
       },
       good-all s bytes ats (p .1) (q .1),

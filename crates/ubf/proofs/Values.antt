@@ -2,19 +2,21 @@
 use mathlib.Core.Path.{_≡_, refl, sym, ap, ap₂, _∙_}
 use mathlib.Core.Bool.{Bool, true, false, _||_}
 use mathlib.Core.List.{List, [], _∷_, _++_, map}
-use Prim.Native.Nat.{ℕ, _+_, _-_, _≤_, _<_}
+use Prim.Native.Nat.{ℕ, zero, suc, _+_, _*_, _-_, _≤_, _<_}
 use native.Mathlib.Omega.{arith}
-use borrow.Author.Tests.{ne-eqb, eqb-true, leb-true}
-use lib.Dec.{eqb}
+use borrow.Author.Tests.{ne-eqb, eqb-true, eqb-false, leb-true}
+use lib.Dec.{eqb, lit<, lit≤}
 use lib.ListN.{length, take, drop, length-append}
-use lib.Seq.{sets}
-use Rattle.word.specs.Word.{wordAt}
+use lib.Seq.{sets, getD-drop}
+use Rattle.word.specs.Word.{wordAt, Bytes}
+use Rattle.word.proofs.Theorems.{bounded}
 use Rattle.decimal.specs.Decimal.{Put}
 use Rattle.octets.proofs.Theorems.{and-parts}
 use Rattle.notice.specs.declared.Layout.the-variants.{WellFormed}
 use Rattle.notice.specs.Field.{Field, nameRight, sizeRight, fieldRight}
-use Rattle.notice.specs.Layout.{sizeAt, kindAt, nameSizeAt, valueSizeAt, nextAt, nameAt, valueAt, fieldAt, liesAt, rightAt, countOf, headerRight, checkFrom, checkOf}
-use Rattle.notice.proofs.Places.{right-lies, length-name}
+use Rattle.notice.specs.Layout.{sizeAt, kindAt, nameSizeAt, valueSizeAt, valueStart, nextAt, nameAt, valueAt, fieldAt, liesAt, rightAt, countOf, headerRight, checkFrom, checkOf}
+use Rattle.notice.proofs.Keys.{bytes-take}
+use Rattle.notice.proofs.Places.{right-lies, length-name, length-value}
 use Rattle.notice.proofs.Walks.{starts-end, starts-more}
 use Rattle.notice.proofs.Checks.{wrong-field, wrong-order, right-field, by-fields, wrong-header}
 use Rattle.notice.proofs.Renders.{fault-well, fieldsFrom}
@@ -23,7 +25,7 @@ use Rattle.ubf.specs.Escape.{escapes}
 use Rattle.ubf.specs.Text.{signedOf, signedText, tagText, stringText, binaryText, valueText, fieldText, fieldsText}
 use Rattle.ubf.specs.Answer.{hasReal}
 use Rattle.common.proofs.Stores.{sets-append}
-use Rattle.ubf.proofs.Laws.{length-string, or-assoc}
+use Rattle.ubf.proofs.Laws.{length-string, length-binary, escapes-most, signed-short, count-short, or-assoc}
 
 false-true : {A : Type 0} → false ≡ true → A
 false-true e = let z : _≡_ {A = ℕ} 0 1 = cc in absurd (omega arith)
@@ -69,6 +71,7 @@ module _ (s : List ℕ) (at : ℕ) (h : rightAt s at ≡ true) where
     pub room : 3 + nameSizeAt s at ≤ sizeAt s at
     pub within : at + 2 + sizeAt s at ≤ length s
     pub name-long : length (nameAt s at) ≡ nameSizeAt s at
+    pub value-long : length (valueAt s at) ≡ valueSizeAt s at
     pub size-right : sizeRight (kindAt s at) (length (valueAt s at)) ≡ true
 
   pub parts : Parts
@@ -78,6 +81,7 @@ module _ (s : List ℕ) (at : ℕ) (h : rightAt s at ≡ true) where
         room = l .room;
         within = l .within;
         name-long = length-name s at l;
+        value-long = length-value s at l;
         size-right = and-parts (nameRight (nameAt s at)) (sizeRight (kindAt s at) (length (valueAt s at))) (and-parts (liesAt s at) (fieldRight (fieldAt s at)) h .1) .1;
       }
 
@@ -165,3 +169,43 @@ real-end real n s at e = ap (λ (k : ℕ). real || hasReal (fieldsFrom k s at)) 
 
 pub text-end : (n : ℕ) (s : List ℕ) (at : ℕ) → n ≡ 0 → fieldsText (fieldsFrom n s at) ≡ []
 text-end n s at e = ap (λ (k : ℕ). fieldsText (fieldsFrom k s at)) e ∙ text-none s at
+
+-- ---- no text is longer than twice its notice and 5 bytes a field
+
+bytes-drop : (n : ℕ) (s : List ℕ) → Bytes s → Bytes (drop n s)
+bytes-drop n s b i = let e = getD-drop n s i 0 in rw e (b (n + i))
+
+pub value-bytes : (s : List ℕ) (at : ℕ) → Bytes s → Bytes (valueAt s at)
+value-bytes s at b = bytes-take (valueSizeAt s at) (drop (valueStart s at) s) (bytes-drop (valueStart s at) s b)
+
+value-room : (k : ℕ) (v : List ℕ) → Bytes v → sizeRight k (length v) ≡ true → length (valueText k v) ≤ 2 * length v + 13
+value-room k v b h = go (eqb k 1) (eqb k 2) (eqb k 4) refl refl refl
+  where
+    go : (x y z : Bool) → eqb k 1 ≡ x → eqb k 2 ≡ y → eqb k 4 ≡ z → length (valueText k v) ≤ 2 * length v + 13
+    go true y z e f g =
+        let o = eqb-true k 1 e in
+        omega (arith, size-4 k (length v) o h, signed-short 4 (wordAt 4 v 0) (lit< tt) (lit≤ tt) (bounded 4 0 v b), ap length (text-1 k v o))
+    go false true z e f g =
+        let o = eqb-true k 2 f in
+        let a = length-append (signedText (signedOf 8 (wordAt 8 v 0))) tagText in
+        omega (arith, a, size-8 k (length v) o h, signed-short 8 (wordAt 8 v 0) (lit< tt) (lit≤ tt) (bounded 8 0 v b), ap length (text-2 k v o))
+    go false false true e f g = omega (arith, length-string v, escapes-most v, ap length (text-4 k v (eqb-true k 4 g)))
+    go false false false e f g =
+        let o = eqb-false k 1 e in
+        omega (arith, length-binary v, count-short (length v) (size-most k (length v) o h), ap length (text-other k v o (eqb-false k 2 f) (eqb-false k 4 g)))
+
+field-room : (s : List ℕ) (at : ℕ) → Bytes s → rightAt s at ≡ true → length (fieldText (fieldAt s at)) ≤ 2 * (2 + sizeAt s at) + 5
+field-room s at b h =
+    let p = parts s at h in
+    omega (arith, length-field (fieldAt s at), escapes-most (nameAt s at), value-room (kindAt s at) (valueAt s at) (value-bytes s at b) (p .size-right), p .room, p .name-long, p .value-long)
+
+pub rest-room : (n : ℕ) (s : List ℕ) (at : ℕ) → Bytes s → Rest n s at → at ≤ length s → length (fieldsText (fieldsFrom n s at)) ≤ 2 * (length s - at) + 5 * n
+rest-room zero s at b r l = omega (arith, ap length (text-end 0 s at refl))
+rest-room (suc n) s at b r l =
+    let z : 0 < suc n = omega arith in
+    let h = rest-right (suc n) s at z r in
+    let p = parts s at h in
+    let e : suc n - 1 ≡ n = omega arith in
+    let ih = rest-room n s (nextAt s at) b (rw e at (rest-next (suc n) s at z r)) (p .within) in
+    let m : length (fieldsText (fieldsFrom (suc n) s at)) ≡ length (fieldText (fieldAt s at)) + length (fieldsText (fieldsFrom n s (nextAt s at))) = rw e at (length-more (suc n) s at z r) in
+    omega (arith, m, field-room s at b h, ih, p .within)

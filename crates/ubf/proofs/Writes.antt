@@ -1,18 +1,21 @@
 -- What writing answers and leaves, by its tests. Assumes nothing.
 use mathlib.Core.Path.{_≡_, ap, _∙_}
 use mathlib.Core.Bool.{true, false}
-use mathlib.Core.List.{List, [], _∷_, _++_}
-use Prim.Native.Nat.{ℕ, _+_, _≤_, _<_}
+use mathlib.Core.List.{List, [], _∷_, _++_, map}
+use Prim.Native.Nat.{ℕ, _+_, _*_, _≤_, _<_}
 use native.Mathlib.Omega.{arith}
 use borrow.Author.Tests.{le-leb, lt-leb}
 use lib.ListN.{length, drop, length-append}
 use lib.Seq.{sets, sets-eq}
 use Rattle.notice.specs.declared.Layout.the-variants.{WellFormed, Fault}
-use Rattle.notice.specs.Layout.{checkOf, fieldsOf}
+use Rattle.notice.specs.Layout.{countOf, fieldAt, checkOf, fieldsOf}
 use Rattle.notice.specs.Field.{Field}
+use Rattle.notice.proofs.Renders.{well-header, well-starts}
+use Rattle.word.specs.Word.{Bytes}
 use Rattle.ubf.specs.declared.Answer.{Answer}
 use Rattle.ubf.specs.Text.{fieldsText, textOf}
 use Rattle.ubf.specs.Answer.{hasReal, leaves, writeAnswer, writeBytes}
+use Rattle.ubf.proofs.Values.{rest-start, rest-room}
 
 abbrev pub answer : ℕ → ℕ → ℕ → Answer
 answer number place len = record { number = number; place = place; len = len }
@@ -37,3 +40,10 @@ module _ (s b : List ℕ) where
 
       pub written : length (textOf (fieldsOf s)) ≤ length b → (answer 0 0 (length (textOf (fieldsOf s))) ≡ writeAnswer s b) × (leaves 0 (textOf (fieldsOf s)) b ≡ writeBytes s b)
       written h = let l = le-leb (length (textOf (fieldsOf s))) (length b) h in (rw (w, e, l), rw (w, e, l))
+
+-- no text is longer than twice its notice and 5 bytes for each of 64 fields
+pub text-room : (s : List ℕ) → Bytes s → checkOf s ≡ WellFormed → length (textOf (fieldsOf s)) ≤ 2 * length s + 320
+text-room s b w =
+    let h = well-header s b w in
+    let e = ap (λ (l : List ℕ). length (fieldsText (map (fieldAt s) l))) (well-starts s b w) in
+    omega (arith, e, length-text (fieldsOf s), rest-room (countOf s) s 8 b (rest-start s w) (h .long), h .long, h .few)

@@ -1,5 +1,5 @@
 -- What reading and writing answer, and what they leave in the lent buffer. Document 02, request 5.
-use Prim.Native.Nat.{ℕ, _+_, _≤_}
+use Prim.Native.Nat.{ℕ, _+_}
 use mathlib.Core.Path.{_≡_}
 use mathlib.Core.Bool.{Bool, true, false, cond, not, _&&_, _||_}
 use mathlib.Core.List.{List, [], _∷_, _++_}
@@ -13,7 +13,7 @@ use Rattle.common.specs.Choice.{pick}
 use Rattle.notice.specs.Layout.{unless, checkOf, numberOf, placeOf, fieldsOf}
 use Rattle.notice.specs.Write.{hasName, sorted}
 use Rattle.ubf.specs.Fields.{Said, noText, noTuple, says, said}
-use Rattle.ubf.specs.Text.{fieldsText, textOf}
+use Rattle.ubf.specs.Text.{textOf}
 use Rattle.ubf.specs.declared.Answer.{Answer}
 
 abbrev pub namesRight : List Field → Bool
@@ -74,12 +74,6 @@ ReadIs text buffer answer after = (answer ≡ readAnswer text buffer) × (after 
 unfoldable pub hasReal : List Field → Bool
 hasReal [] = false
 hasReal (f ∷ fs) = eqb (f .kind) 3 || hasReal fs
-
--- whether there is a real64 field, and the length of the fields' texts
-pub record MeasureIs (fs : List Field) (real : Bool) (len : ℕ) : Type 0 where
-  pub real-is : real ≡ hasReal fs
-  pub len-is : len ≡ length (fieldsText fs)
-  pub len-fits : len ≤ 262144
 
 abbrev pub writeBy : Layout → List Field → ℕ → ℕ
 writeBy (Fault place) fs room = numberOf (Fault place)

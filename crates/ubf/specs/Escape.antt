@@ -1,6 +1,7 @@
 -- The bytes of a quoted item as they stand in a text. Source document 001: "([^\\"] | '\\\\' | '\\"')*", and likewise for the other delimiters.
-use Prim.Native.Nat.{ℕ, suc}
-use mathlib.Core.Bool.{Bool, true, false, cond, _&&_, _||_}
+use Prim.Native.Nat.{ℕ, suc, _≤_, _<_}
+use mathlib.Core.Path.{_≡_}
+use mathlib.Core.Bool.{Bool, true, false, cond, not, _&&_, _||_}
 use mathlib.Core.List.{List, [], _∷_, _++_}
 use lib.Dec.{eqb, ltb}
 use lib.ListN.{length, getD, take, drop}
@@ -38,3 +39,19 @@ bytesIn text at n false = take n (drop at text)
 -- where the byte that starts at a place itself stands: after its backslash, if it has one
 abbrev pub bytePlace : List ℕ → ℕ → Bool → ℕ
 bytePlace text at escaped = cond (escaped && eqb (getD text at 0) 92) (suc at) at
+
+-- none of the bytes is q
+abbrev pub lacking : ℕ → List ℕ → Bool
+lacking q [] = true
+lacking q (b ∷ bs) = not (eqb b q) && lacking q bs
+
+-- from a place to another no byte has an escape
+abbrev pub Plain : List ℕ → ℕ → ℕ → ℕ → Type 0
+Plain s q at end = (i : ℕ) → at ≤ i → i < end → needsEscape q (getD s i 0) ≡ false
+
+-- .. and r is the place of the first that has one, or the length
+pub record PlainTo (s : List ℕ) (q at r : ℕ) : Type 0 where
+  pub after : at ≤ r
+  pub near : r ≤ length s
+  pub plain : Plain s q at r
+  pub stops : r < length s → needsEscape q (getD s r 0) ≡ true

@@ -8,6 +8,7 @@ mod repeats;
 mod scanning;
 mod spans;
 mod syntax;
+mod words;
 mod writing;
 
 pub use reading::read;

@@ -7,14 +7,27 @@ ghost use lib.ListN.{length};
 ghost use lib.Seq.{sets};
 ghost use Rattle.decimal.specs.Decimal.{Put};
 ghost use Rattle.notice.specs.Render.{fieldBytes, fieldsBytes, render};
-ghost use Rattle.ubf.specs.Escape.{bytesIn};
+ghost use Rattle.ubf.specs.Escape.{bytesIn, Plain};
 ghost use Rattle.ubf.specs.Answer.{noticeSize, leaves};
 ghost use Rattle.ubf.specs.Span.{PartIn, SpanIn, valueIn, fieldIn, ordered, Placing};
 use crate::scanning::byte_place;
 use crate::spans::Span;
 use crate::spans::span_at;
+use crate::words::plain_to;
 
-// Stores n bytes that stand in the text from `from` on with escapes.
+// Where the run from `at` on ends in which no byte has an escape, of n bytes at most.
+fn run_end(text: &[u8], at: usize, n: usize) -> usize
+    requires { ⌜ at + n ≤ length (now text) ⌝ }
+    ensures { λ r. ⌜ (at ≤ r) × (r ≤ at + n) × Plain (now (text .entry)) 34 at r ⌝ }
+{
+    let end = plain_to(text, at, b'"');
+    if at + n < end {
+        return at + n;
+    }
+    end
+}
+
+// Stores n bytes that stand in the text from `from` on with escapes, run by run.
 fn put_unescaped(buffer: &mut [u8], at: usize, text: &[u8], from: usize, n: usize)
     requires { ⌜ PartIn (now text) from n true × (at + n ≤ length (now buffer)) ⌝ }
     ensures { λ _. ⌜ now (buffer .exit) ≡ sets (now (buffer .entry)) at (bytesIn (now (text .entry)) from n true) ⌝ }
@@ -22,7 +35,13 @@ fn put_unescaped(buffer: &mut [u8], at: usize, text: &[u8], from: usize, n: usiz
     let mut i = from;
     let mut k = 0;
     while k < n {
-        let j = byte_place(text, i, true);
+        let end = run_end(text, i, n - k);
+        common::copy_to(buffer, at + k, &text[i..end]);
+        k = k + (end - i);
+        if k == n {
+            return;
+        }
+        let j = byte_place(text, end, true);
         buffer[at + k] = text[j];
         i = j + 1;
         k += 1;
@@ -53,7 +72,12 @@ fn put_data(buffer: &mut [u8], at: usize, text: &[u8], s: Span)
         word::write_u64(buffer, at, s.value as u64);
         return;
     }
-    put_part(buffer, at, text, s.value, s.len, s.escapes);
+    // told here too, so that what has no escapes is copied with no call
+    if s.escapes != 0 {
+        put_unescaped(buffer, at, text, s.value, s.len);
+        return;
+    }
+    put_part(buffer, at, text, s.value, s.len, 0);
 }
 
 fn put_span(buffer: &mut [u8], at: usize, text: &[u8], s: Span) -> usize

@@ -3,8 +3,10 @@ ghost use mathlib.Core.Path.{_≡_};
 ghost use Prim.Native.Nat.{_+_, _*_, _≤_, _<_};
 ghost use lib.ListN.{length};
 ghost use Rattle.decimal.specs.Decimal.{Put};
-ghost use Rattle.ubf.specs.Escape.{needsEscape, escapeOf, escapes};
+ghost use Rattle.ubf.specs.Escape.{escapeOf, escapes};
 ghost use Rattle.ubf.specs.Text.{stringText, signedOf, signedText, tagText};
+use crate::words::needs_escape;
+use crate::words::plain_to;
 use decimal::places;
 use decimal::put_byte;
 use decimal::put_bytes;
@@ -68,16 +70,10 @@ pub fn put_signed(out: &mut [u8], at: usize, s: Signed) -> usize
 }
 
 // Strings, with escapes only where needed.
-fn needs_escape(b: u8) -> bool
-    ensures { λ r. ⌜ r ≡ needsEscape 34 b ⌝ }
-{
-    (b == b'"') | (b == b'\\')
-}
-
 fn width(b: u8) -> usize
     ensures { λ r. ⌜ (r ≡ length (escapeOf 34 b)) × (r ≤ 2) ⌝ }
 {
-    if needs_escape(b) { 2 } else { 1 }
+    if needs_escape(b, b'"') { 2 } else { 1 }
 }
 
 pub fn escaped_length(s: &[u8]) -> usize
@@ -97,7 +93,7 @@ fn put_escape(out: &mut [u8], at: usize, b: u8) -> usize
     requires { ⌜ at + length (escapeOf 34 b) ≤ length (now out) ⌝ }
     ensures { λ r. ⌜ Put (now (out .entry)) at (escapeOf 34 b) (now (out .exit)) r ⌝ }
 {
-    if needs_escape(b) {
+    if needs_escape(b, b'"') {
         out[at] = b'\\';
         out[at + 1] = b;
         return at + 2;
@@ -106,6 +102,7 @@ fn put_escape(out: &mut [u8], at: usize, b: u8) -> usize
     at + 1
 }
 
+// A string byte by byte.
 fn put_escaped(out: &mut [u8], at: usize, s: &[u8]) -> usize
     requires { ⌜ at + length (escapes 34 (now s)) ≤ length (now out) ⌝ }
     ensures { λ r. ⌜ Put (now (out .entry)) at (escapes 34 (now (s .entry))) (now (out .exit)) r ⌝ }
@@ -119,12 +116,42 @@ fn put_escaped(out: &mut [u8], at: usize, s: &[u8]) -> usize
     p
 }
 
+// A string by the runs in which no byte has an escape.
+fn put_runs(out: &mut [u8], at: usize, s: &[u8]) -> usize
+    requires { ⌜ at + length (escapes 34 (now s)) ≤ length (now out) ⌝ }
+    ensures { λ r. ⌜ Put (now (out .entry)) at (escapes 34 (now (s .entry))) (now (out .exit)) r ⌝ }
+{
+    let mut p = at;
+    let mut i = 0;
+    while i < s.len() {
+        let end = plain_to(s, i, b'"');
+        p = put_bytes(out, p, &s[i..end]);
+        if end == s.len() {
+            return p;
+        }
+        p = put_escape(out, p, s[end]);
+        i = end + 1;
+    }
+    p
+}
+
+// A short string byte by byte, a longer one by runs.
+fn put_inside(out: &mut [u8], at: usize, s: &[u8]) -> usize
+    requires { ⌜ at + length (escapes 34 (now s)) ≤ length (now out) ⌝ }
+    ensures { λ r. ⌜ Put (now (out .entry)) at (escapes 34 (now (s .entry))) (now (out .exit)) r ⌝ }
+{
+    if s.len() < 10 {
+        return put_escaped(out, at, s);
+    }
+    put_runs(out, at, s)
+}
+
 pub fn put_string(out: &mut [u8], at: usize, s: &[u8]) -> usize
     requires { ⌜ at + length (stringText (now s)) ≤ length (now out) ⌝ }
     ensures { λ r. ⌜ Put (now (out .entry)) at (stringText (now (s .entry))) (now (out .exit)) r ⌝ }
 {
     let a = put_byte(out, at, b'"');
-    let b = put_escaped(out, a, s);
+    let b = put_inside(out, a, s);
     put_byte(out, b, b'"')
 }
 

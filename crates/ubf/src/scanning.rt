@@ -6,6 +6,8 @@ ghost use lib.ListN.{length, getD};
 ghost use Rattle.ubf.specs.Byte.{is, isSpace, isDigit};
 ghost use Rattle.ubf.specs.Escape.{escapeRight, bytePlace};
 ghost use Rattle.ubf.specs.Scan.{QuotedIs, BlanksTo, Grows, DigitsTo, IntegerIs, BinaryIs};
+use crate::words::needs_escape;
+use crate::words::plain_to;
 
 pub(crate) fn is_space(b: u8) -> bool
     ensures { λ r. ⌜ r ≡ isSpace b ⌝ }
@@ -33,8 +35,7 @@ fn escape_right(text: &[u8], at: usize, q: u8) -> bool
     if text.len() - at < 2 {
         return false;
     }
-    let b = text[at + 1];
-    (b == q) | (b == b'\\')
+    needs_escape(text[at + 1], q)
 }
 
 // A quoted item whose bytes start at `at`.
@@ -57,6 +58,33 @@ pub(crate) fn quoted_at(text: &[u8], at: usize, q: u8) -> Quoted
             break;
         }
         i += 2;
+        escapes += 1;
+    }
+    Quoted {
+        end: text.len(),
+        escapes: 0,
+    }
+}
+
+// A string, by runs in which no byte has an escape: it may be long.
+pub(crate) fn string_at(text: &[u8], at: usize) -> Quoted
+    requires { ⌜ at ≤ length (now text) ⌝ }
+    ensures { λ r. ⌜ QuotedIs (now (text .entry)) at 34 (r .end) (r .escapes) ⌝ }
+{
+    let mut i = at;
+    let mut escapes = 0;
+    while i < text.len() {
+        let end = plain_to(text, i, b'"');
+        if end == text.len() {
+            break;
+        }
+        if text[end] == b'"' {
+            return Quoted { end, escapes };
+        }
+        if !escape_right(text, end, b'"') {
+            break;
+        }
+        i = end + 2;
         escapes += 1;
     }
     Quoted {

@@ -16,6 +16,7 @@ use crate::scanning::byte_place;
 use crate::scanning::integer_at;
 use crate::scanning::is_digit;
 use crate::scanning::quoted_at;
+use crate::scanning::string_at;
 
 // A value: its kind in a notice, 0 for none; a number's bits, or where its bytes start; how many bytes it has, and how many of them have an escape; and where the next item starts.
 pub struct Value {
@@ -119,7 +120,7 @@ fn string_value(text: &[u8], at: usize) -> Value
     requires { ⌜ (at < length (now text)) × (getD (now text) at 0 ≡ 34) ⌝ }
     ensures { λ r. ⌜ ValueIs (now (text .entry)) at r ⌝ }
 {
-    let s = quoted_at(text, at + 1, b'"');
+    let s = string_at(text, at + 1);
     if s.end == text.len() {
         return no_value();
     }

@@ -2,13 +2,14 @@
 ghost use mathlib.Core.Path.{_≡_};
 ghost use mathlib.Core.Bool.{true};
 ghost use Prim.Native.Nat.{_+_, _≤_};
+ghost use lib.Dec.{leb};
 ghost use lib.ListN.{length};
 ghost use Rattle.decimal.specs.Decimal.{Put};
 ghost use Rattle.notice.specs.declared.Layout.the-variants.{WellFormed};
 ghost use Rattle.notice.specs.Field.{sizeRight};
 ghost use Rattle.notice.specs.Layout.{rightAt, fieldAt, sizeAt, nameSizeAt, checkOf, fieldsOf};
 ghost use Rattle.ubf.specs.Text.{valueText, binaryText, fieldText, fieldsText, textOf};
-ghost use Rattle.ubf.specs.Answer.{MeasureIs, leaves, WriteIs};
+ghost use Rattle.ubf.specs.Answer.{hasReal, leaves, WriteIs};
 use crate::Answer;
 use crate::put::escaped_length;
 use crate::put::put_signed;
@@ -115,27 +116,47 @@ fn put_field(out: &mut [u8], p: usize, notice: &[u8], at: usize) -> usize
     )
 }
 
-// Whether there is a real64 field, and the length of the fields' texts.
-pub struct Extent {
-    pub real: bool,
-    pub len: usize,
-}
-
-fn measure(notice: &[u8]) -> Extent
+// Whether a field is a real64.
+fn has_real(notice: &[u8]) -> bool
     requires { ⌜ checkOf (now notice) ≡ WellFormed ⌝ }
-    ensures { λ r. ⌜ MeasureIs (fieldsOf (now (notice .entry))) (r .real) (r .len) ⌝ }
+    ensures { λ r. ⌜ r ≡ hasReal (fieldsOf (now (notice .entry))) ⌝ }
 {
     let mut real = false;
-    let mut len = 0;
     let mut left = word::read_u16(notice, 6);
     let mut at = 8;
     while 0 < left {
         real = real | (word::read_u16(notice, at + 2) == 3);
+        at = at + 2 + field_size(notice, at);
+        left -= 1;
+    }
+    real
+}
+
+// The length of the fields' texts.
+fn measure(notice: &[u8]) -> usize
+    requires { ⌜ checkOf (now notice) ≡ WellFormed ⌝ }
+    ensures { λ r. ⌜ (r ≡ length (fieldsText (fieldsOf (now (notice .entry))))) × (r ≤ 262144) ⌝ }
+{
+    let mut len = 0;
+    let mut left = word::read_u16(notice, 6);
+    let mut at = 8;
+    while 0 < left {
         len = len + field_length(notice, at);
         at = at + 2 + field_size(notice, at);
         left -= 1;
     }
-    Extent { real, len }
+    len
+}
+
+// Whether the text has room. None is longer than twice its notice and 5 bytes a field: one that surely fits is not measured.
+fn has_room(notice: &[u8], room: usize) -> bool
+    requires { ⌜ checkOf (now notice) ≡ WellFormed ⌝ }
+    ensures { λ r. ⌜ r ≡ leb (length (textOf (fieldsOf (now (notice .entry))))) room ⌝ }
+{
+    if 2 * notice.len() + 320 <= room {
+        return true;
+    }
+    measure(notice) + 3 <= room
 }
 
 fn put_fields(out: &mut [u8], from: usize, notice: &[u8]) -> usize
@@ -153,14 +174,14 @@ fn put_fields(out: &mut [u8], from: usize, notice: &[u8]) -> usize
     p
 }
 
-fn put_text(out: &mut [u8], notice: &[u8])
+fn put_text(out: &mut [u8], notice: &[u8]) -> usize
     requires { ⌜ (checkOf (now notice) ≡ WellFormed) × (length (textOf (fieldsOf (now notice))) ≤ length (now out)) ⌝ }
-    ensures { λ _. ⌜ now (out .exit) ≡ leaves 0 (textOf (fieldsOf (now (notice .entry)))) (now (out .entry)) ⌝ }
+    ensures { λ r. ⌜ (now (out .exit) ≡ leaves 0 (textOf (fieldsOf (now (notice .entry)))) (now (out .entry))) × (r ≡ length (textOf (fieldsOf (now (notice .entry))))) ⌝ }
 {
     let a = put_byte(out, 0, b'{');
     let b = put_fields(out, a, notice);
     let c = put_byte(out, b, b'}');
-    put_byte(out, c, b'$');
+    put_byte(out, c, b'$')
 }
 
 // The notice as a text at the start of the buffer.
@@ -175,23 +196,21 @@ pub fn write(notice: &[u8], buffer: &mut [u8]) -> Answer
             len: 0,
         },
         Layout::WellFormed => {
-            let m = measure(notice);
-            if m.real {
+            if has_real(notice) {
                 return Answer {
                     number: 23,
                     place: 0,
                     len: 0,
                 };
             }
-            let len = m.len + 3;
-            if buffer.len() < len {
+            if !has_room(notice, buffer.len()) {
                 return Answer {
                     number: 15,
                     place: 0,
                     len: 0,
                 };
             }
-            put_text(buffer, notice);
+            let len = put_text(buffer, notice);
             Answer {
                 number: 0,
                 place: 0,

@@ -9,7 +9,7 @@ use Rattle.ubf.proofs.put.put_escape.Statement.{statement}
 use Rattle.ubf.proofs.put.put_escape.Tie as tie
 use Rattle.ubf.proofs.put.put_escape.Reads as reads
 use Rattle.ubf.proofs.put.put_escape.Lts as lts
-use Rattle.ubf.proofs.put.needs_escape.Reads as needs-escape-reads
+use Rattle.ubf.proofs.words.needs_escape.Reads as needs-escape-reads
 
 needs-escape-requires : tie.Need-needs-escape-requires
 needs-escape-requires c κs = search needs

@@ -9,24 +9,24 @@ use Rattle.ubf.proofs.put.put_string.Statement.{statement}
 use Rattle.ubf.proofs.put.put_string.Tie as tie
 use Rattle.ubf.proofs.put.put_string.Reads as reads
 use Rattle.ubf.proofs.put.put_string.Lts as lts
-use Rattle.ubf.proofs.put.put_escaped.Reads as put-escaped-reads
+use Rattle.ubf.proofs.put.put_inside.Reads as put-inside-reads
 
 put-byte-requires : tie.Need-put-byte-requires
 put-byte-requires c κs = search needs
 
-put-escaped-requires : tie.Need-put-escaped-requires
-put-escaped-requires c κs = omega (arith, length-string (c .before .before .before .before .before .before .before .args .s .now), c .before .before .before .put-byte .ensures .next)
+put-inside-requires : tie.Need-put-inside-requires
+put-inside-requires c κs = omega (arith, length-string (c .before .before .before .before .before .before .before .args .s .now), c .before .before .before .put-byte .ensures .next)
 
 put-byte-requires-2 : tie.Need-put-byte-requires-2
-put-byte-requires-2 c κs = omega (arith, length-string (c .before .before .before .before .before .before .before .before .before .before .before .args .s .now), c .before .before .before .before .before .before .before .put-byte .ensures .next, c .before .before .before .put-escaped .ensures .next)
+put-byte-requires-2 c κs = omega (arith, length-string (c .before .before .before .before .before .before .before .before .before .before .before .args .s .now), c .before .before .before .before .before .before .before .put-byte .ensures .next, c .before .before .before .put-inside .ensures .next)
 
 same-length : tie.Need-same-length
 same-length c = search needs
 
 returns : tie.Need-returns
-returns c = let e = escapes 34 (c .before .before .before .before .before .before .before .before .before .before .before .before .before .before .args .s .now) in joined (34 ∷ []) (e ++ (34 ∷ [])) (c .before .before .before .before .before .before .before .before .before .before .put-byte .ensures) (joined e (34 ∷ []) (c .before .before .before .before .before .before .put-escaped .ensures) (c .before .before .put-byte2 .ensures))
+returns c = let e = escapes 34 (c .before .before .before .before .before .before .before .before .before .before .before .before .before .before .args .s .now) in joined (34 ∷ []) (e ++ (34 ∷ [])) (c .before .before .before .before .before .before .before .before .before .before .put-byte .ensures) (joined e (34 ∷ []) (c .before .before .before .before .before .before .put-inside .ensures) (c .before .before .put-byte2 .ensures))
 
 pub put-string-spec : {M : Type 1} → statement M
 put-string-spec =
     tie.close
-    (tie.spec put-byte-requires put-escaped-requires put-byte-requires-2 same-length returns)
+    (tie.spec put-byte-requires put-inside-requires put-byte-requires-2 same-length returns)

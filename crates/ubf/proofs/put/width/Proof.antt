@@ -8,7 +8,7 @@ use Rattle.ubf.proofs.put.width.Statement.{statement}
 use Rattle.ubf.proofs.put.width.Tie as tie
 use Rattle.ubf.proofs.put.width.Reads as reads
 use Rattle.ubf.proofs.put.width.Lts as lts
-use Rattle.ubf.proofs.put.needs_escape.Reads as needs-escape-reads
+use Rattle.ubf.proofs.words.needs_escape.Reads as needs-escape-reads
 
 needs-escape-requires : tie.Need-needs-escape-requires
 needs-escape-requires c κs = search needs

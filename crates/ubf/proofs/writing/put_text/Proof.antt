@@ -1,6 +1,7 @@
-use mathlib.Core.Path.{_∙_}
-use Prim.Native.Nat.{_+_, _-_}
+use mathlib.Core.Path.{_≡_, _∙_}
+use Prim.Native.Nat.{_+_}
 use native.Mathlib.Omega.{arith}
+use lib.ListN.{length}
 use mathlib.Core.List.{[], _∷_, _++_}
 use Rattle.decimal.proofs.Laws.{joined}
 use Rattle.decimal.proofs.put_byte.Reads as put-byte-reads
@@ -30,7 +31,13 @@ same-length : tie.Need-same-length
 same-length c = search needs
 
 returns : tie.Need-returns
-returns c = let fs = fieldsOf (c .before .before .before .before .before .before .before .before .before .before .before .before .before .before .before .before .before .before .args .notice .now) in let t = fieldsText fs in let j = joined (123 ∷ []) (t ++ (125 ∷ 36 ∷ [])) (c .before .before .before .before .before .before .before .before .before .before .before .before .before .before .put-byte .ensures) (joined t (125 ∷ 36 ∷ []) (c .before .before .before .before .before .before .before .before .before .before .put-fields .ensures) (joined (125 ∷ []) (36 ∷ []) (c .before .before .before .before .before .before .put-byte2 .ensures) (c .before .before .put-byte3 .ensures))) in j .stored ∙ stored-leaves (c .before .before .before .before .before .before .before .before .before .before .before .before .before .before .before .before .before .before .args .out .now) (textOf fs) (c .before .before .before .before .before .before .before .before .before .before .before .before .before .before .before .before .before .before .pre .1)
+returns c =
+    let a = c .before .before .before .before .before .before .before .before .before .before .before .before .before .before .before .before .before .before .args in
+    let fs = fieldsOf (a .notice .now) in
+    let t = fieldsText fs in
+    let j = joined (123 ∷ []) (t ++ (125 ∷ 36 ∷ [])) (c .before .before .before .before .before .before .before .before .before .before .before .before .before .before .put-byte .ensures) (joined t (125 ∷ 36 ∷ []) (c .before .before .before .before .before .before .before .before .before .before .put-fields .ensures) (joined (125 ∷ []) (36 ∷ []) (c .before .before .before .before .before .before .put-byte2 .ensures) (c .before .before .put-byte3 .ensures))) in
+    let z : 0 + length (textOf fs) ≡ length (textOf fs) = omega arith in
+    (j .stored ∙ stored-leaves (a .out .now) (textOf fs) (c .before .before .before .before .before .before .before .before .before .before .before .before .before .before .before .before .before .before .pre .1), j .next ∙ z)
 
 pub put-text-spec : {M : Type 1} → statement M
 put-text-spec =

@@ -1,17 +1,14 @@
-use mathlib.Core.Path.{_≡_, sym, ap, _∙_}
-use Prim.Native.Nat.{_+_, _-_}
-use native.Mathlib.Omega.{arith}
-use lib.ListN.{length}
-use Rattle.ubf.specs.Text.{textOf}
-use Rattle.notice.specs.Layout.{fieldsOf}
-use Rattle.ubf.proofs.Writes.{answer, length-text, faulted, real-field, no-room, written}
+use mathlib.Core.Path.{sym, ap, _∙_}
+use borrow.Author.Tests.{leb-true, leb-false, not-true, not-false}
+use Rattle.ubf.proofs.Writes.{answer, faulted, real-field, no-room, written}
 use borrow.Author.Needs.{needs}
 use Rattle.ubf.proofs.writing.write.Statement.{statement}
 use Rattle.ubf.proofs.writing.write.Tie as tie
 use Rattle.ubf.proofs.writing.write.Reads as reads
 use Rattle.ubf.proofs.writing.write.Lts as lts
 use Rattle.notice.proofs.check.Reads as check-reads
-use Rattle.ubf.proofs.writing.measure.Reads as measure-reads
+use Rattle.ubf.proofs.writing.has_room.Reads as has-room-reads
+use Rattle.ubf.proofs.writing.has_real.Reads as has-real-reads
 use Rattle.ubf.proofs.writing.put_text.Reads as put-text-reads
 
 check-requires : tie.Need-check-requires
@@ -23,20 +20,23 @@ enum-known-layout c = search needs
 enum-told : tie.Need-enum-told
 enum-told c = search needs
 
-measure-requires : tie.Need-measure-requires
-measure-requires c κs = let a = c .before .before .before .before .before .args in let w = sym (c .before .before .check .ensures) ∙ c .enum-told .given .1 in w
+has-real-requires : tie.Need-has-real-requires
+has-real-requires c κs = sym (c .before .before .check .ensures) ∙ c .enum-told .given .1
 
 returns : tie.Need-returns
-returns c = let a = c .before .before .before .before .before .before .before .args in let w = sym (c .before .before .before .before .check .ensures) ∙ c .before .before .enum-told .given .1 in real-field (a .notice .now) (a .buffer .now) w (sym (c .before .measure .ensures .real-is) ∙ c .if1 .taken)
+returns c = let a = c .before .before .before .before .before .before .before .args in real-field (a .notice .now) (a .buffer .now) (sym (c .before .before .before .before .check .ensures) ∙ c .before .before .enum-told .given .1) (sym (c .before .has-real .ensures) ∙ c .if1 .taken)
 
-add-len : tie.Need-add-len
-add-len c = omega (arith, c .before .before .measure .ensures .len-fits)
+has-room-requires : tie.Need-has-room-requires
+has-room-requires c κs = sym (c .before .before .before .before .check .ensures) ∙ c .before .before .enum-told .given .1
 
 returns-2 : tie.Need-returns-2
-returns-2 c = let a = c .before .before .before .before .before .before .before .before .before .args in let w = sym (c .before .before .before .before .before .before .check .ensures) ∙ c .before .before .before .before .enum-told .given .1 in no-room (a .notice .now) (a .buffer .now) w (sym (c .before .before .before .measure .ensures .real-is) ∙ c .before .before .if1 .left) (omega (arith, length-text (fieldsOf (a .notice .now)), c .before .before .before .measure .ensures .len-is, c .if2 .taken))
+returns-2 c =
+    let a = c .before .before .before .before .before .before .before .before .before .args in
+    let f = sym (c .before .has-room .ensures) ∙ not-true _ (c .if2 .taken) in
+    no-room (a .notice .now) (a .buffer .now) (sym (c .before .before .before .before .before .before .check .ensures) ∙ c .before .before .before .before .enum-told .given .1) (sym (c .before .before .before .has-real .ensures) ∙ c .before .before .if1 .left) (leb-false _ _ f)
 
 put-text-requires : tie.Need-put-text-requires
-put-text-requires c κs = let a = c .before .before .before .before .before .before .before .before .before .before .args in let w = sym (c .before .before .before .before .before .before .before .check .ensures) ∙ c .before .before .before .before .before .enum-told .given .1 in (w, omega (arith, length-text (fieldsOf (a .notice .now)), c .before .before .before .before .measure .ensures .len-is, c .before .if2 .left))
+put-text-requires c κs = (sym (c .before .before .before .before .before .before .before .check .ensures) ∙ c .before .before .before .before .before .enum-told .given .1, leb-true _ _ (sym (c .before .before .has-room .ensures) ∙ not-false _ (c .before .if2 .left)))
 
 returns-3 : tie.Need-returns-3
 returns-3 c = let a = c .before .before .before .before .before .before .args in faulted (a .notice .now) (a .buffer .now) (c .before .layout .given .0 .0) (sym (c .before .before .before .check .ensures) ∙ c .before .layout .given .1)
@@ -45,7 +45,12 @@ same-length : tie.Need-same-length
 same-length c = search needs
 
 returns-4 : tie.Need-returns-4
-returns-4 c = let a = c .before .before .before .before .before .before .before .before .before .before .before .before .before .args in let w = sym (c .before .before .before .before .before .before .before .before .before .before .check .ensures) ∙ c .before .before .before .before .before .before .before .before .enum-told .given .1 in let e = sym (c .before .before .before .before .before .before .before .measure .ensures .real-is) ∙ c .before .before .before .before .before .before .if1 .left in let l = length-text (fieldsOf (a .notice .now)) in let r = written (a .notice .now) (a .buffer .now) w e (omega (arith, l, c .before .before .before .before .before .before .before .measure .ensures .len-is, c .before .before .before .before .if2 .left)) in let n : c .before .before .before .before .before .before .before .measure .result .len + 3 ≡ length (textOf (fieldsOf (a .notice .now))) = omega (arith, l, c .before .before .before .before .before .before .before .measure .ensures .len-is) in (ap (answer 0 0) n ∙ r .0, c .before .before .put-text .ensures ∙ r .1)
+returns-4 c =
+    let a = c .before .before .before .before .before .before .before .before .before .before .before .before .before .args in
+    let f = sym (c .before .before .before .before .before .has-room .ensures) ∙ not-false _ (c .before .before .before .before .if2 .left) in
+    let r = written (a .notice .now) (a .buffer .now) (sym (c .before .before .before .before .before .before .before .before .before .before .check .ensures) ∙ c .before .before .before .before .before .before .before .before .enum-told .given .1) (sym (c .before .before .before .before .before .before .before .has-real .ensures) ∙ c .before .before .before .before .before .before .if1 .left) (leb-true _ _ f) in
+    let p = c .before .before .put-text .ensures in
+    (ap (answer 0 0) (p .1) ∙ r .0, p .0 ∙ r .1)
 
 pub write-spec : {M : Type 1} → statement M
 write-spec =
@@ -54,9 +59,9 @@ write-spec =
     check-requires
     enum-known-layout
     enum-told
-    measure-requires
+    has-real-requires
     returns
-    add-len
+    has-room-requires
     returns-2
     put-text-requires
     returns-3
