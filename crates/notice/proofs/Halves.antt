@@ -1,8 +1,8 @@
--- The search by halving, for a caller who has the fields' starts. Assumes nothing.
+-- The search by halving and the walk by the starts, for a caller who has the fields' starts. Assumes nothing.
 use mathlib.Core.Path.{_≡_, refl, sym, ap, ap₂, _∙_}
 use mathlib.Core.Bool.{Bool, true, false, _&&_}
 use mathlib.Core.List.{List, [], _∷_, map}
-use Prim.Native.Nat.{ℕ, zero, suc, _+_, _-_, _/_, _≤_, _<_}
+use Prim.Native.Nat.{ℕ, zero, suc, _+_, _-_, _≤_, _<_}
 use native.Mathlib.Omega.{arith}
 use native.Mathlib.Numerals.{add-one}
 use lib.ListN.{length, getD, take, drop, drop-of-length-le, length-map, take-append-drop}
@@ -51,7 +51,7 @@ module _ (s : List ℕ) where
   each-right zero (a ∷ ats) h e = and-parts (fieldRight (fieldAt s a)) (allRight (map (fieldAt s) ats)) e .0
   each-right (suc k) (a ∷ ats) h e = each-right k ats (omega arith) (and-parts (fieldRight (fieldAt s a)) (allRight (map (fieldAt s) ats)) e .1)
 
--- ---- the walk of `halved`
+-- ---- the walks of `halved` and `walked`
 
 -- the names before `low` are below the one sought, those from `high` on above it
 pub record Between (s name : List ℕ) (low high : ℕ) : Type 0 where
@@ -89,11 +89,8 @@ module _ (s name : List ℕ) (bytes : Bytes s) (well : checkOf s ≡ WellFormed)
         let w : low ≤ countOf s = omega (arith, b .within) in
         parted-none s name (countOf s - low) (drop low (startsOf s)) (parted low w (b .below)) (rising-rest s low (startsOf s) rises) at (rw e (b .above))
 
-    -- the field in the middle
-    module _ (h : low < high) (starts : List ℕ) (indexed : Indexed s starts) where
-      abbrev mid : ℕ
-      mid = (low + high) / 2
-
+    -- a field between: that in the middle, or the first
+    module _ (mid : ℕ) (least : low ≤ mid) (most : mid < high) (starts : List ℕ) (indexed : Indexed s starts) where
       abbrev at : ℕ
       at = getD starts mid 0
 

@@ -33,6 +33,7 @@ pub use reading::value_of;
 use search::halved;
 use search::search;
 use search::sought;
+use search::walked;
 pub use writing::write;
 
 // A notice is well-formed, or its first fault is at a place.
@@ -185,6 +186,18 @@ pub fn lookup_in(notice: &[u8], starts: &[u16; 64], name: &[u8]) -> Found
     ensures { λ r. ⌜ r ≡ lookupOf (now (notice .entry)) (now (name .entry)) ⌝ }
 {
     let stop = halved(notice, starts, name);
+    if stop.found {
+        return found_at(notice, stop.at);
+    }
+    Found::Nothing
+}
+
+// The same for such a caller outside the run, in order: a second caller of `lookup_in` would make it a call in the run's loop.
+pub fn lookup_along(notice: &[u8], starts: &[u16; 64], name: &[u8]) -> Found
+    requires { ⌜ (checkOf (now notice) ≡ WellFormed) × Indexed (now notice) (now starts) ⌝ }
+    ensures { λ r. ⌜ r ≡ lookupOf (now (notice .entry)) (now (name .entry)) ⌝ }
+{
+    let stop = walked(notice, starts, name);
     if stop.found {
         return found_at(notice, stop.at);
     }

@@ -137,6 +137,49 @@ pub(crate) fn halved(notice: &[u8], starts: &[u16; 64], name: &[u8]) -> Stop
     }
 }
 
+// The same in order, by the starts: none of them waits for the length of the field before.
+pub(crate) fn walked(notice: &[u8], starts: &[u16; 64], name: &[u8]) -> Stop
+    requires { ⌜ (checkOf (now notice) ≡ WellFormed) × Indexed (now notice) (now starts) ⌝ }
+    ensures { λ r. ⌜ Stops (now (notice .entry)) (now (name .entry)) r ⌝ }
+{
+    let n = word::read_u16(notice, 6);
+    let mut at = 8;
+    if name.len() == 0 {
+        return Stop {
+            at,
+            left: n,
+            found: false,
+        };
+    }
+    let first = name[0];
+    let mut i: u16 = 0;
+    while i < n {
+        at = starts[i as usize] as usize;
+        match stands_to(notice, at, name, first) {
+            Standing::Below => i = i + 1,
+            Standing::Same => {
+                return Stop {
+                    at,
+                    left: n - i,
+                    found: true,
+                };
+            }
+            Standing::Above => {
+                return Stop {
+                    at,
+                    left: n - i,
+                    found: false,
+                };
+            }
+        }
+    }
+    Stop {
+        at,
+        left: n - i,
+        found: false,
+    }
+}
+
 // What finding a name in a notice answers: the names looked at are "those below the one sought, and one more if any is left".
 pub(crate) fn sought(notice: &[u8], name: &[u8]) -> Sought
     requires { ⌜ checkOf (now notice) ≡ WellFormed ⌝ }

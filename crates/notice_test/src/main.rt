@@ -93,11 +93,15 @@ fn packed(found: Found) -> u64 {
     }
 }
 
-// Nothing is printed where halving finds what lookup finds.
+// Nothing is printed where halving and the walk by the starts find what lookup finds.
 fn put_halved(s: &[u8], starts: &[u16; 64], name: &[u8])
     requires { ⌜ (checkOf (now s) ≡ WellFormed) × Indexed (now s) (now starts) ⌝ }
 {
-    if packed(notice::lookup_in(s, starts, name)) != packed(notice::lookup(s, name)) {
+    let found = packed(notice::lookup(s, name));
+    if packed(notice::lookup_in(s, starts, name)) != found {
+        put(b"other ");
+    }
+    if packed(notice::lookup_along(s, starts, name)) != found {
         put(b"other ");
     }
 }

@@ -9,7 +9,8 @@ use lib.ListN.{length}
 use Rattle.common.specs.Choice.{pick}
 use Rattle.truth.specs.Truth.{isTrue}
 use Rattle.notice.specs.Field.{Field}
-use Rattle.notice.specs.Layout.{unless, fieldsOf}
+use Rattle.notice.specs.declared.Layout.the-variants.{WellFormed}
+use Rattle.notice.specs.Layout.{unless, checkOf as noticeCheck, fieldsOf, Indexed}
 use Rattle.notice.specs.Lookup.{fieldNamed}
 use Rattle.table.specs.Check.{checkOf as tableCheck, refusalOf}
 use Rattle.interpreter.specs.declared.Ran.{Ran}
@@ -54,6 +55,10 @@ pub record Opens (s table : List ℕ) (needed : ℕ) (after : List ℕ) (r : Sho
   pub bytes : after ≡ openedBytes s table needed
 
 -- ---- the field Staff
+
+-- what the run of a notice leaves, so that Staff need not be sought field by field: the starts of its fields, if the notice is well-formed
+abbrev pub Marks : List ℕ → List ℕ → Type 0
+Marks notice starts = noticeCheck notice ≡ WellFormed → Indexed notice starts
 
 -- its name
 abbrev pub staffName : List ℕ

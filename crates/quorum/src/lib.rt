@@ -119,13 +119,14 @@ pub fn show(buffer: &mut [u8], notice: &[u8]) -> Shown
     if !holds(buffer) {
         return nothing_yet(12);
     }
-    let ran = run_in(buffer, notice);
+    let mut starts: [u16; 64] = [0; 64];
+    let ran = run_in(buffer, notice, &mut starts);
     let undecided = ran.undecided;
-    let turn = turn_of(buffer, notice, ran);
+    let turn = turn_of(buffer, notice, &starts, ran);
     let needed = buffer[6];
     let count = buffer[7];
     if adds(turn) {
-        add(buffer, staff(notice));
+        add(buffer, staff(notice, &starts));
     }
     answer_by(turn, count, needed, undecided)
 }

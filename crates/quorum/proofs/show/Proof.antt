@@ -1,5 +1,5 @@
 -- `quorum::show` meets its contract: 12, or what the notice is to the decision. Assumes nothing.
-use mathlib.Core.Path.{_≡_, sym, ap, _∙_}
+use mathlib.Core.Path.{_≡_, refl, sym, ap, _∙_}
 use mathlib.Core.Bool.{true}
 use mathlib.Core.List.{List}
 use mathlib.Core.Logic.{⊎-elim}
@@ -37,22 +37,22 @@ found c = sym (c .before .holds .ensures) ∙ not-false _ (c .if1 .left)
 
 -- the buffer and the notice at the start
 abbrev buffer-of : tie.After-turn-of → List ℕ
-buffer-of c = c .before .before .before .before .before .before .before .before .before .args .buffer .now
+buffer-of c = c .before .before .before .before .before .before .before .before .before .before .before .args .buffer .now
 
 abbrev notice-of : tie.After-turn-of → List ℕ
-notice-of c = c .before .before .before .before .before .before .before .before .before .args .notice .now
+notice-of c = c .before .before .before .before .before .before .before .before .before .before .before .args .notice .now
 
 held : (c : tie.After-turn-of) → holdsOf (buffer-of c) ≡ true
-held c = found (c .before .before .before .before)
+held c = found (c .before .before .before .before .before .before)
 
 holding-of : (c : tie.After-turn-of) → Holding (buffer-of c)
 holding-of c = holding (buffer-of c) (held c)
 
 run-in-requires : tie.Need-run-in-requires
-run-in-requires c κs = found (c .before)
+run-in-requires c κs = (found (c .before .before), refl)
 
 turn-of-requires : tie.Need-turn-of-requires
-turn-of-requires c κs = (found (c .before .before .before), c .before .run-in .ensures)
+turn-of-requires c κs = let r = c .before .before .run-in .ensures in (found (c .before .before .before .before .before), r .0, r .1)
 
 slice-read-needed : tie.Need-slice-read-needed
 slice-read-needed c = omega (arith, holding-of (c .before) .head .long)
@@ -65,13 +65,14 @@ adds-requires c κs = search needs
 
 staff-requires : tie.Need-staff-requires
 staff-requires c κs =
-    let t = c .before .before .before .before .before in
-    added-well (buffer-of t) (notice-of t) (held t) (t .turn-of .result) (t .turn-of .ensures) (sym (c .before .before .adds .ensures) ∙ c .before .if2 .taken)
+    let t = c .before .before .before .before .before .before in
+    let w = added-well (buffer-of t) (notice-of t) (held t) (t .turn-of .result) (t .turn-of .ensures) (sym (c .before .before .before .adds .ensures) ∙ c .before .before .if2 .taken) in
+    (w, t .before .before .before .run-in .ensures .1 w)
 
 add-requires : tie.Need-add-requires
 add-requires c κs =
-    let t = c .before .before .before .before .before .before in
-    let n = free-place (buffer-of t) (notice-of t) (held t) (t .turn-of .result) (t .turn-of .ensures) (sym (c .before .before .before .adds .ensures) ∙ c .before .before .if2 .taken) in
+    let t = c .before .before .before .before .before .before .before in
+    let n = free-place (buffer-of t) (notice-of t) (held t) (t .turn-of .result) (t .turn-of .ensures) (sym (c .before .before .before .before .adds .ensures) ∙ c .before .before .before .if2 .taken) in
     (holding-of t .head .long, n, omega (arith, ap length (c .staff .ensures), staff-short (notice-of t)))
 
 answer-by-requires : tie.Need-answer-by-requires
@@ -82,7 +83,7 @@ settled : (c : tie.Joined2) → c .if2 .buffer ≡ bytesBy (c .before .before .b
 settled c =
     let t = c .before .before .before .before in
     ⊎-elim
-    (λ w. w .6 ∙ (w .3 .ensures ∙ (ap (addedTo (buffer-of t)) (w .2 .ensures) ∙ with-staff (t .turn-of .result) (buffer-of t) (staffOf (notice-of t)) (sym (c .before .adds .ensures) ∙ w .0 .taken))))
+    (λ w. w .7 ∙ (w .4 .ensures ∙ (ap (addedTo (buffer-of t)) (w .3 .ensures) ∙ with-staff (t .turn-of .result) (buffer-of t) (staffOf (notice-of t)) (sym (c .before .adds .ensures) ∙ w .0 .taken))))
     (λ w. w .1 ∙ without-staff (t .turn-of .result) (buffer-of t) (staffOf (notice-of t)) (sym (c .before .adds .ensures) ∙ w .0 .left))
     (c .if2 .came)
 
@@ -94,8 +95,8 @@ same-length-2 c =
 returns-2 : tie.Need-returns-2
 returns-2 c =
     let t = c .before .before .before .before .before in
-    let r = t .before .before .run-in in
-    shows-by (buffer-of t) (notice-of t) (held t) (t .turn-of .result) (t .turn-of .ensures) (r .result) _ _ (r .ensures) (c .answer-by .ensures) (settled (c .before))
+    let r = t .before .before .before .run-in in
+    shows-by (buffer-of t) (notice-of t) (held t) (t .turn-of .result) (t .turn-of .ensures) (r .result) _ _ (r .ensures .0) (c .answer-by .ensures) (settled (c .before))
 
 pub show-spec : {M : Type 1} → statement M
 show-spec =

@@ -35,7 +35,7 @@ right c =
     let o = c .before .before .before .before .before .before in
     let a = o .before .args in
     let i = c .before .loop in
-    mid-right (a .notice .now) (a .name .now) (bytes o) (o .before .pre .0) (i .low) (i .high) (i .inv) (omega arith) (a .starts .now) (o .before .pre .1)
+    mid-right (a .notice .now) (a .name .now) (bytes o) (o .before .pre .0) (i .low) (i .high) (i .inv) ((i .low + i .high) / 2) (omega arith) (omega arith) (a .starts .now) (o .before .pre .1)
 
 told : (c : tie.After-stands-to Inv-loop μ-loop) (r : Standing) → c .stands-to .result ≡ r
     → StandsTo (nameAt (c .before .before .before .before .before .before .before .before .before .args .notice .now) (getD (c .before .before .before .before .before .before .before .before .before .args .starts .now) ((c .before .before .before .loop .low + c .before .before .before .loop .high) / 2) 0)) (c .before .before .before .before .before .before .before .before .before .args .name .now) r
@@ -94,7 +94,7 @@ loop-again c =
     let o = c .before .before .before .before .before .before .before .before .before .before in
     let a = o .before .args in
     let i = c .before .before .before .before .before .loop in
-    from-mid (a .notice .now) (a .name .now) (bytes o) (o .before .pre .0) (i .low) (i .high) (i .inv) (omega arith) (a .starts .now) (o .before .pre .1) (told (c .before .before) Below (c .enum-told .given .1))
+    from-mid (a .notice .now) (a .name .now) (bytes o) (o .before .pre .0) (i .low) (i .high) (i .inv) ((i .low + i .high) / 2) (omega arith) (omega arith) (a .starts .now) (o .before .pre .1) (told (c .before .before) Below (c .enum-told .given .1))
 
 enum-told-2 : tie.Need-enum-told-2 Inv-loop μ-loop
 enum-told-2 c = search needs
@@ -111,7 +111,7 @@ returns-2 c =
     let a = o .before .args in
     let i = c .before .before .before .before .before .loop in
     rw (c .before .before .before .before .before .before .before .before .read-u16 .ensures)
-    (stops-mid (a .notice .now) (a .name .now) (bytes o) (o .before .pre .0) (i .low) (i .high) (i .inv) (omega arith) (a .starts .now) (o .before .pre .1) (told (c .before .before) Same (c .enum-told2 .given .1)))
+    (stops-mid (a .notice .now) (a .name .now) (bytes o) (o .before .pre .0) (i .low) (i .high) (i .inv) ((i .low + i .high) / 2) (omega arith) (omega arith) (a .starts .now) (o .before .pre .1) (told (c .before .before) Same (c .enum-told2 .given .1)))
 
 enum-told-3 : tie.Need-enum-told-3 Inv-loop μ-loop
 enum-told-3 c = search needs
@@ -124,7 +124,7 @@ loop-again-2 c =
     let o = c .before .before .before .before .before .before .before .before .before .before in
     let a = o .before .args in
     let i = c .before .before .before .before .before .loop in
-    to-mid (a .notice .now) (a .name .now) (bytes o) (o .before .pre .0) (i .low) (i .high) (i .inv) (omega arith) (a .starts .now) (o .before .pre .1) (told (c .before .before) Above (c .enum-told3 .given .1))
+    to-mid (a .notice .now) (a .name .now) (bytes o) (o .before .pre .0) (i .low) (i .high) (i .inv) ((i .low + i .high) / 2) (omega arith) (omega arith) (a .starts .now) (o .before .pre .1) (told (c .before .before) Above (c .enum-told3 .given .1))
 
 cast-t22 : tie.Need-cast-t22 Inv-loop μ-loop
 cast-t22 c = let f = few (c .before .before .before .before) in omega arith

@@ -24,7 +24,8 @@ staff-requires : tie.Need-staff-requires
 staff-requires c κs =
     let s = c .before .before .before .before .before .before in
     let a = s .args in
-    ran-well (tableOf (a .buffer .now)) (a .notice .now) (sym (ap (λ (x : Ran). x .number) (s .pre .1)) ∙ c .before .before .if1 .left)
+    let w = ran-well (tableOf (a .buffer .now)) (a .notice .now) (sym (ap (λ (x : Ran). x .number) (s .pre .1)) ∙ c .before .before .if1 .left) in
+    (w, s .pre .2 w)
 
 judge-requires : tie.Need-judge-requires
 judge-requires c κs = c .before .before .before .before .before .before .before .pre .0
