@@ -1,4 +1,5 @@
 pub mod Streams
+pub mod Marks
 pub mod Sound
 pub mod Fuel
 pub mod Laws

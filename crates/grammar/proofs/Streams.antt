@@ -13,10 +13,11 @@ use lib.Seq.{drop-cons, getD-drop}
 use borrow.Author.Tests.{eq-eqb, ne-eqb, lt-ltb, le-ltb, le-leb, lt-leb, leb-true}
 use Rattle.lexer.specs.Token.{Token, name, int32, int64, real, text, symbol, kindOf, nameAt, escapedAt, stringAt, integerAt, realAt}
 use Rattle.lexer.specs.Run.{takes, ends, runFrom, unescaped, bodyOf}
-use Rattle.grammar.specs.Grammar.{rank}
+use Rattle.common.proofs.Choice.{false-true}
+use Rattle.grammar.specs.Grammar.{rank, isPrefix}
 use Rattle.grammar.specs.Parse.{ended, tokenAt, kindAt}
 use Rattle.grammar.specs.Function.{functionOf, opOfName}
-use Rattle.grammar.specs.Nesting.{openAfter, rowAfter, deepFrom}
+use Rattle.grammar.specs.Nesting.{openAfter, rowAfter, isFlat, deepFrom}
 use Rattle.grammar.specs.Stream.{tokenOf, tokensIn}
 
 -- within a list the default does not matter
@@ -134,6 +135,15 @@ rank-high k h = (
 
 -- ---- refusal 6, token by token
 
+flat : (k opened row : ℕ) → isFlat k ≡ true → (openAfter k opened ≡ opened) × (rowAfter k row ≡ 0)
+flat k opened row e = go (eqb k 9) refl (eqb k 10) refl (isPrefix k) refl
+  where
+    go : (a : Bool) → eqb k 9 ≡ a → (b : Bool) → eqb k 10 ≡ b → (c : Bool) → isPrefix k ≡ c → (openAfter k opened ≡ opened) × (rowAfter k row ≡ 0)
+    go true f b g c h = false-true (rw f at e)
+    go false f true g c h = false-true (rw (f, g) at e)
+    go false f false g true h = false-true (rw (f, g, h) at e)
+    go false f false g false h = (rw (f, g), rw h)
+
 module _ (ks : List ℕ) (i opened row : ℕ) where
   pub deep-opened : i < length ks → 24 < openAfter (getD ks i 0) opened → true ≡ deepFrom opened row (drop i ks)
   unfolding deepFrom
@@ -147,6 +157,11 @@ module _ (ks : List ℕ) (i opened row : ℕ) where
       → deepFrom (openAfter (getD ks i 0) opened) (rowAfter (getD ks i 0) row) (drop (i + 1) ks) ≡ deepFrom opened row (drop i ks)
   unfolding deepFrom
   deep-on h a b = rw (add-one i, drop-cons ks i 0 h, le-ltb 24 (openAfter (getD ks i 0) opened) a, le-ltb 24 (rowAfter (getD ks i 0) row) b)
+
+  pub deep-flat : i < length ks → opened ≤ 24 → isFlat (getD ks i 0) ≡ true → deepFrom opened 0 (drop (i + 1) ks) ≡ deepFrom opened row (drop i ks)
+  deep-flat h o e =
+      let f = flat (getD ks i 0) opened row e in
+      rw (f .0, f .1) at (deep-on h (omega (arith, f .0)) (omega (arith, f .1)))
 
   pub deep-end : length ks ≤ i → false ≡ deepFrom opened row (drop i ks)
   unfolding deepFrom

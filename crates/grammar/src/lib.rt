@@ -13,6 +13,11 @@ pub fn too_deep(kinds: &[u8]) -> bool
     let mut i = 0;
     while i < kinds.len() {
         let k = kinds[i];
+        if stream::is_flat(k) {
+            row = 0;
+            i += 1;
+            continue;
+        }
         opened = stream::open_after(k, opened);
         row = stream::row_after(k, row);
         if 24 < opened {

@@ -5,7 +5,7 @@ ghost use Prim.Native.Nat.{_+_, _≤_, _<_};
 ghost use lib.ListN.{length, getD};
 ghost use Rattle.grammar.specs.Grammar.{isPrefix};
 ghost use Rattle.grammar.specs.Function.{changes, tests, matches, among, opOfName};
-ghost use Rattle.grammar.specs.Nesting.{openAfter, rowAfter};
+ghost use Rattle.grammar.specs.Nesting.{openAfter, rowAfter, isFlat};
 ghost use Rattle.lexer.specs.Token.{nameAt, escapedAt};
 ghost use Rattle.lexer.specs.Kind.{ending};
 
@@ -142,4 +142,17 @@ pub(crate) fn row_after(k: u8, row: usize) -> usize
     ensures { λ r. ⌜ r ≡ rowAfter k row ⌝ }
 {
     if is_prefix(k) { row + 1 } else { 0 }
+}
+
+// Most tokens open and close nothing and are no prefix operators.
+pub(crate) fn is_flat(k: u8) -> bool
+    ensures { λ r. ⌜ r ≡ isFlat k ⌝ }
+{
+    match k {
+        lexer::OPEN => false,
+        lexer::CLOSE => false,
+        opcode::NOT => false,
+        opcode::COMPLEMENT => false,
+        _ => true,
+    }
 }

@@ -18,21 +18,18 @@ fn put_refusal(number: u64, place: usize) {
     io::write_all(STDOUT_FILENO, b"\n");
 }
 
-fn put_sizes(sizes: &[u16], codes: &[u16], count: usize) {
-    if 512 < codes.len() {
-        return;
-    }
+fn put_sizes(sizes: &[u16], count: usize, j: Judged) {
     if 4096 < count {
         return;
     }
     put_number(0);
-    put_number(codes.len() as u64);
+    put_number(j.entries as u64);
     put_number(write::pool_length(sizes, count) as u64);
-    put_number(write::depth(codes) as u64);
+    put_number(j.depth as u64);
     io::write_all(STDOUT_FILENO, b"\n");
 }
 
-fn put_judged(sizes: &[u16], codes: &[u16], count: usize, patterns: bool, j: Judged) {
+fn put_judged(sizes: &[u16], count: usize, patterns: bool, j: Judged) {
     if !j.forms {
         put_refusal(4, 0);
         return;
@@ -45,12 +42,11 @@ fn put_judged(sizes: &[u16], codes: &[u16], count: usize, patterns: bool, j: Jud
         put_refusal(5, 0);
         return;
     }
-    let n = j.entries;
-    if codes.len() < n {
+    if 512 < j.entries {
         put_refusal(7, 0);
         return;
     }
-    put_sizes(sizes, &codes[0..n], count);
+    put_sizes(sizes, count, j);
 }
 
 fn judge(text: &[u8], marks: &[u8], sizes: &[u16], count: usize, patterns: bool)
@@ -59,7 +55,7 @@ fn judge(text: &[u8], marks: &[u8], sizes: &[u16], count: usize, patterns: bool)
     let mut codes = [0u16; 512];
     match postfix::parse(marks, &mut codes) {
         Parsed::Broken(p) => put_refusal(2, read::place(text, p)),
-        Parsed::Whole(j) => put_judged(sizes, &codes, count, patterns, j),
+        Parsed::Whole(j) => put_judged(sizes, count, patterns, j),
     }
 }
 

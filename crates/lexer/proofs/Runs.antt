@@ -8,13 +8,13 @@ use native.Mathlib.Numerals.{add-one}
 use native.Mathlib.Omega.{arith}
 use lib.Dec.{eqb, ltb}
 use lib.ListN.{length, getD, take, drop, set, drop-of-length-le, length-drop, length-append, List·getD-eq-default}
-use lib.Seq.{length-take-le, take-suc, drop-cons, append-snoc, drop-drop, getD-drop, sets, take-all, take-append-seam, drop-length}
+use lib.Seq.{length-take-le, take-suc, drop-cons, append-snoc, drop-drop, getD-drop, sets, set-set, set-comm, take-all, take-append-seam, drop-length}
 use borrow.Author.Tests.{eq-eqb, ne-eqb, ltb-true, eqb-true, eqb-false}
 use Rattle.common.proofs.Choice.{true-false, false-true}
-use Rattle.octets.specs.Octets.{folded, sameOf}
-use Rattle.octets.proofs.Theorems.{same, same-refl, not-folded}
+use Rattle.octets.specs.Octets.{folded, sameOf, beginsOf}
+use Rattle.octets.proofs.Theorems.{and-parts, not-folded}
 use Rattle.lexer.specs.Byte.{is, isDelimiter, isCommon}
-use Rattle.lexer.specs.Run.{takes, ends, runFrom, unescaped, Free, hasEscape, legalByte, legalName, Passes, GoesOn, isEmpty}
+use Rattle.lexer.specs.Run.{takes, ends, runFrom, unescaped, Free, hasEscape, legalByte, legalName, Passes, GoesOn, allCommon, isEmpty}
 use Rattle.lexer.proofs.Bytes.{common-ends-none, common-takes-none, common-plain}
 
 -- a place past the end
@@ -205,43 +205,6 @@ run-first q t (b ∷ s) = go (run-first q (takes t b) s) (not t && ends q b) ref
     go ih true e = rw e
     go ih false e = rw e (ap (λ (l : List ℕ). b ∷ l) ih)
 
--- what has no escape stays as it is; a run that is the same as a word has an escape where the word has one
-pub no-escapes : (s : List ℕ) → hasEscape s ≡ false → unescaped false s ≡ s
-no-escapes [] e = refl
-no-escapes (b ∷ s) e = go (no-escapes s) (eqb b 92) refl
-  where
-    go : (hasEscape s ≡ false → unescaped false s ≡ s) → (x : Bool) → eqb b 92 ≡ x → unescaped false (b ∷ s) ≡ b ∷ s
-    go ih true f = true-false (rw f at e)
-    go ih false f = let g = rw f at e in rw f (ap (λ (l : List ℕ). b ∷ l) (ih g))
-
-pub word-same : (run word : List ℕ) → sameOf (folded false run) (folded false word) ≡ true
-    → not (hasEscape word) ≡ (not (hasEscape run) && sameOf (unescaped false run) word)
-word-same run word e =
-    let a = not-folded run in
-    let b = not-folded word in
-    let z : run ≡ word = same run word .0 (rw (a, b) at e) in
-    rw z (go (hasEscape word) refl)
-  where
-    go : (x : Bool) → hasEscape word ≡ x → not (hasEscape word) ≡ (not (hasEscape word) && sameOf (unescaped false word) word)
-    go true f = rw f
-    go false f =
-        let u = no-escapes word f in
-        let r = same-refl word in
-        rw (f, u, r)
-
-pub word-differs : (run word : List ℕ) → sameOf (folded false run) (folded false word) ≡ false
-    → false ≡ (not (hasEscape run) && sameOf (unescaped false run) word)
-word-differs run word e = go (hasEscape run) refl
-  where
-    go : (x : Bool) → hasEscape run ≡ x → false ≡ (not (hasEscape run) && sameOf (unescaped false run) word)
-    go true f = rw f
-    go false f =
-        let u = no-escapes run f in
-        let a = not-folded run in
-        let b = not-folded word in
-        let z = rw (a, b) at e in
-        rw (f, u, z)
-
 -- a word whose first byte is not the one that stands first
 first-other : (s word : List ℕ) → 0 < length word → (getD s 0 0 ≡ getD word 0 0 → ⊥)
     → false ≡ (not (hasEscape (runFrom 0 false s)) && sameOf (unescaped false (runFrom 0 false s)) word)
@@ -253,6 +216,43 @@ first-other (b ∷ s) (w ∷ ws) h n = go (ends 0 b) (is "\\" b) refl refl
     go true e f g = rw f
     go false true f g = rw (f, g)
     go false false f g = rw (f, g, ne-eqb b w n) (sym (and-false (not (hasEscape (runFrom 0 false s)))))
+
+-- a word of bytes that most names have: it is the name where its bytes stand and nothing of a name after them
+word-there : (s word : List ℕ) → allCommon word ≡ true
+    → (isEmpty (runFrom 0 false (drop (length word) s)) && beginsOf s word) ≡ (not (hasEscape (runFrom 0 false s)) && sameOf (unescaped false (runFrom 0 false s)) word)
+word-there s [] e = rw (begins-none s) (left (runFrom 0 false s))
+  where
+    begins-none : (s : List ℕ) → beginsOf s [] ≡ true
+    begins-none [] = refl
+    begins-none (b ∷ s) = refl
+
+    left : (r : List ℕ) → (isEmpty r && true) ≡ (not (hasEscape r) && sameOf (unescaped false r) [])
+    left [] = refl
+    left (b ∷ r) = rw (ne-eqb (length (b ∷ r)) 0 (λ z. omega arith)) (go (is "\\" b) refl)
+      where
+        go : (x : Bool) → is "\\" b ≡ x → false ≡ (not (hasEscape (b ∷ r)) && sameOf (unescaped false (b ∷ r)) [])
+        go true f = rw f
+        go false f = rw f (sym (and-false (not (hasEscape r))))
+word-there [] (w ∷ ws) e = refl
+word-there (b ∷ s) (w ∷ ws) e = let p = and-parts (isCommon w) (allCommon ws) e in go (word-there s ws (p .1)) (p .0) (eqb b w) refl
+  where
+    go : (isEmpty (runFrom 0 false (drop (length ws) s)) && beginsOf s ws) ≡ (not (hasEscape (runFrom 0 false s)) && sameOf (unescaped false (runFrom 0 false s)) ws)
+        → isCommon w ≡ true → (x : Bool) → eqb b w ≡ x
+        → (isEmpty (runFrom 0 false (drop (length ws) s)) && beginsOf (b ∷ s) (w ∷ ws))
+        ≡ (not (hasEscape (runFrom 0 false (b ∷ s))) && sameOf (unescaped false (runFrom 0 false (b ∷ s))) (w ∷ ws))
+    go ih c true f =
+        let z : isCommon b ≡ true = ap isCommon (eqb-true b w f) ∙ c in
+        rw (common-ends-none b z, common-takes-none b z, f) ih
+    go ih c false f = (rw f (and-false (isEmpty (runFrom 0 false (drop (length ws) s))))) ∙ first-other (b ∷ s) (w ∷ ws) (omega arith) (eqb-false b w f)
+
+module _ (s word : List ℕ) (e : allCommon word ≡ true) where
+  pub word-begins : isEmpty (runFrom 0 false (drop (length word) s)) ≡ true
+      → beginsOf (folded false s) (folded false word) ≡ (not (hasEscape (runFrom 0 false s)) && sameOf (unescaped false (runFrom 0 false s)) word)
+  word-begins f = rw (not-folded s, not-folded word) (rw f at (word-there s word e))
+
+  pub word-goes-on : isEmpty (runFrom 0 false (drop (length word) s)) ≡ false
+      → false ≡ (not (hasEscape (runFrom 0 false s)) && sameOf (unescaped false (runFrom 0 false s)) word)
+  word-goes-on f = rw f at (word-there s word e)
 
 -- the test for it, as the code makes it
 told : (n a b : ℕ) → (ltb 0 n && not (eqb a b)) ≡ true → (0 < n) × (a ≡ b → ⊥)
@@ -268,3 +268,29 @@ pub word-other : (s word : List ℕ) (at a b : ℕ) → (ltb 0 (length word) && 
 word-other s word at a b t e f =
     let n = told (length word) a b t in
     first-other (drop at s) word (n .0) (λ g. n .1 (e ∙ sym (getD-drop at s 0 0 ∙ ap (λ (k : ℕ). getD s k 0) (add-zero at)) ∙ g ∙ sym f))
+
+-- ---- what stands first, stored in a part
+
+sets-snoc : (p : List ℕ) (i : ℕ) (xs : List ℕ) (b : ℕ) → sets p i (xs ++ (b ∷ [])) ≡ set (sets p i xs) (i + length xs) b
+sets-snoc p i [] b = let z : i ≡ i + 0 = omega arith in ap (λ (k : ℕ). set p k b) z
+sets-snoc p i (x ∷ xs) b = let z : suc i + length xs ≡ i + suc (length xs) = omega arith in sets-snoc (set p i x) (suc i) xs b ∙ ap (λ (k : ℕ). set (sets (set p i x) (suc i) xs) k b) z
+
+pub stored-on : (p s : List ℕ) (i : ℕ) → i < length s → set (sets p 0 (take i s)) i (getD s i 0) ≡ sets p 0 (take (i + 1) s)
+stored-on p s i h =
+    let z : 0 + length (take i s) ≡ i = omega (arith, length-take-le i s (omega arith)) in
+    ap (λ (k : ℕ). set (sets p 0 (take i s)) k (getD s i 0)) (sym z)
+    ∙ sym (sets-snoc p 0 (take i s) (getD s i 0))
+    ∙ ap (sets p 0) (sym (take-suc s i 0 h) ∙ ap (λ (k : ℕ). take k s) (sym (add-one i)))
+
+-- a store before others, and others that start as those before them
+sets-under : (p : List ℕ) (i j x : ℕ) (xs : List ℕ) → i < j → set (sets p j xs) i x ≡ sets (set p i x) j xs
+sets-under p i j x [] h = refl
+sets-under p i j x (y ∷ xs) h =
+    sets-under (set p j y) i (suc j) x xs (omega arith) ∙ ap (λ (l : List ℕ). sets l (suc j) xs) (set-comm p j i y x (λ z. omega arith))
+
+pub stored-again : (p : List ℕ) (i : ℕ) (xs ys : List ℕ) → sets (sets p i xs) i (xs ++ ys) ≡ sets p i (xs ++ ys)
+stored-again p i [] ys = refl
+stored-again p i (x ∷ xs) ys =
+    let q = set p i x in
+    let z : set (sets q (suc i) xs) i x ≡ sets q (suc i) xs = sets-under q i (suc i) x xs (omega arith) ∙ ap (λ (l : List ℕ). sets l (suc i) xs) (set-set p i x x) in
+    ap (λ (l : List ℕ). sets l (suc i) (xs ++ ys)) z ∙ stored-again q (suc i) xs ys

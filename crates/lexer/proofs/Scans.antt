@@ -2,19 +2,21 @@
 use mathlib.Core.Path.{_≡_, refl, sym, ap, _∙_}
 use mathlib.Core.Logic.{_⊎_, inl, inr}
 use mathlib.Core.Bool.{Bool, true, false, not, cond, _&&_, _||_}
-use mathlib.Core.List.{List, [], _∷_}
+use mathlib.Core.List.{List, [], _∷_, _++_}
 use Prim.Native.Nat.{ℕ, suc, _+_, _-_, _≤_, _<_}
 use native.Mathlib.Decide.{decLe}
+use native.Mathlib.Numerals.{add-one}
 use native.Mathlib.Omega.{arith}
-use lib.Dec.{eqb, leb}
+use lib.Dec.{eqb, leb, lit<}
 use lib.IntN.{ℤ}
-use lib.ListN.{length, getD, drop, length-drop, List·getD-eq-default}
-use lib.Seq.{length-take-le, drop-cons, drop-drop, drop-length}
-use borrow.Author.Tests.{leb-true, lt-ltb, eqb-true, eqb-false, ne-eqb, eq-eqb}
+use lib.ListN.{length, getD, drop, length-drop, length-append, List·getD-eq-default, List·getD-append}
+use lib.Seq.{length-take-le, drop-cons, drop-drop, drop-append-seam, getD-append-add}
+use borrow.Author.Tests.{leb-true, le-leb, lt-ltb, eqb-true, eqb-false, ne-eqb, eq-eqb}
 use Rattle.common.specs.Choice.{pick}
+use Rattle.number.specs.Integer.{signedOf}
 use Rattle.common.proofs.Choice.{false-true}
 use Rattle.octets.proofs.Theorems.{and-parts}
-use Rattle.lexer.specs.Byte.{within, startsName, startsNumber, isQuote}
+use Rattle.lexer.specs.Byte.{within, isCommon, startsName, startsNumber, isQuote}
 use Rattle.lexer.specs.Run.{runOf, unescaped, Passes, takes, hasEscape, legalName, nameFits, bodyOf, isEmpty, isClosed}
 use Rattle.lexer.specs.Digits.{isMinus, signLength, digitsOf, wholeOf, capped}
 use Rattle.lexer.specs.Integer.{baseOf, prefixLength, integerDigits, suffixAt, isLong, isInteger, integerFits, integerOf}
@@ -24,9 +26,9 @@ use Rattle.lexer.specs.Token.{Token, name, int32, int64, real, text, sym
 use Rattle.lexer.specs.Theorems.{StartsNoOther}
 use Rattle.lexer.specs.Answer.{scannedOf, Stand}
 use Rattle.lexer.specs.declared.Scanned.the-variants.{Good, Bad}
-use Rattle.lexer.proofs.Bytes.{range}
-use Rattle.lexer.proofs.Runs.{ends-quote, run-stop, run-end, byte-here, rest-later, passes-all, first-fits, run-first}
-use Rattle.lexer.proofs.Wholes.{digits-fit, digits-run, digits-again, first-digit}
+use Rattle.lexer.proofs.Bytes.{range, common-ends-none, common-takes-none}
+use Rattle.lexer.proofs.Runs.{ends-quote, run-stop, run-end, byte-here, rest-later, none-left, empty, passes-all, first-fits, run-first}
+use Rattle.lexer.proofs.Wholes.{digits-fit, digits-part, digits-again, digits-in-run, first-digit, lone-zero, suffix-byte}
 
 pub pick-yes : {A : Type 0} (b : Bool) (x y : Unit {0} → A) → b ≡ true → pick b x y ≡ x tt
 pick-yes b x y e = rw e
@@ -130,53 +132,129 @@ module _ (run : List ℕ) where
       kind-of : (b : Bool) → b ≡ false → 1 ≡ kindOf (cond b (int64 (integerOf run)) (int32 (integerOf run)))
       kind-of b e = rw e
 
--- decimal digits alone that do not start with `0`
-module _ (run : List ℕ) (all : digitsOf 10 run ≡ run) (m : isMinus run ≡ false) (z : eqb (getD run 0 0) 48 ≡ false) (h : 0 < length run) where
-  no-point : isReal run ≡ false
-  no-point =
-      let p : getD (fromPoint run) 0 0 ≡ 0 = rw (m, all, drop-length run) in
-      let e : eqb (getD (fromPoint run) 0 0) 46 ≡ false = rw p in
-      cut (not (isEmpty (wholeDigits run))) (eqb (getD (fromPoint run) 0 0) 46) (not (isEmpty (fractionDigits run))) (isEmpty (exponentPart run) || isExponent (exponentPart run)) e
+-- decimal digits that do not start with `0`, and what stands after them
+module _ (ds t : List ℕ) (all : digitsOf 10 (ds ++ t) ≡ ds) (m : isMinus (ds ++ t) ≡ false) (z : eqb (getD (ds ++ t) 0 0) 48 ≡ false) (h : 0 < length ds) where
+  no-point : eqb (getD t 0 0) 46 ≡ false → isReal (ds ++ t) ≡ false
+  no-point f =
+      let p : getD (fromPoint (ds ++ t)) 0 0 ≡ getD t 0 0 = rw (m, all, drop-append-seam ds t) in
+      let e : eqb (getD (fromPoint (ds ++ t)) 0 0) 46 ≡ false = ap (λ (b : ℕ). eqb b 46) p ∙ f in
+      cut (not (isEmpty (wholeDigits (ds ++ t)))) (eqb (getD (fromPoint (ds ++ t)) 0 0) 46) (not (isEmpty (fractionDigits (ds ++ t)))) (isEmpty (exponentPart (ds ++ t)) || isExponent (exponentPart (ds ++ t))) e
     where
       cut : (a b c d : Bool) → b ≡ false → (a && b && c && d) ≡ false
       cut true b c d e = rw e
       cut false b c d e = refl
 
-  digits-all : integerDigits run ≡ run
+  digits-all : integerDigits (ds ++ t) ≡ ds
   digits-all = rw (m, z) all
 
-  at-end : suffixAt run ≡ length run
+  at-end : suffixAt (ds ++ t) ≡ length ds
   at-end = rw (m, z, all) (omega arith)
 
-  no-suffix : isLong run ≡ false
-  no-suffix = let g : getD run (suffixAt run) 0 ≡ 0 = rw at-end (List·getD-eq-default run 0 (omega arith)) in rw g
+  suffix : getD (ds ++ t) (suffixAt (ds ++ t)) 0 ≡ getD t 0 0
+  suffix = let k : length ds + 0 ≡ suffixAt (ds ++ t) = omega (arith, at-end) in ap (λ (n : ℕ). getD (ds ++ t) n 0) (sym k) ∙ getD-append-add ds t 0 0
 
-  right-form : isInteger run ≡ true
-  right-form =
-      let l : length (drop (suffixAt run) run) ≡ 0 = length-drop (suffixAt run) run ∙ omega (arith, at-end) in
-      let i : isEmpty (integerDigits run) ≡ false = rw digits-all (ne-eqb (length run) 0 (λ y. omega arith)) in
-      rw (no-suffix, i, l)
+  right-form : cond (isLong (ds ++ t)) 1 0 ≡ length t → isInteger (ds ++ t) ≡ true
+  right-form n =
+      let l : length (drop (suffixAt (ds ++ t)) (ds ++ t)) ≡ length t = ap (λ (k : ℕ). length (drop k (ds ++ t))) at-end ∙ ap length (drop-append-seam ds t) in
+      let i : isEmpty (integerDigits (ds ++ t)) ≡ false = rw digits-all (ne-eqb (length ds) 0 (λ y. omega arith)) in
+      rw i (eq-eqb (length (drop (suffixAt (ds ++ t)) (ds ++ t))) (cond (isLong (ds ++ t)) 1 0) (l ∙ sym n))
 
-  in-limits : wholeOf 10 run < 2147483648 → integerFits run ≡ true
-  in-limits v = rw (no-suffix, m, z, all) (lt-ltb (wholeOf 10 run) 2147483648 v)
+  no-suffix : t ≡ [] → isLong (ds ++ t) ≡ false
+  no-suffix e = let g : getD (ds ++ t) (suffixAt (ds ++ t)) 0 ≡ 0 = suffix ∙ ap (λ (l : List ℕ). getD l 0 0) e in rw g
 
-  digits-only : wholeOf 10 run < 2147483648 → Good 1 (length run) ≡ scannedOf (scanRun run)
-  digits-only v = short-legal run right-form (in-limits v) no-suffix ∙ ap scannedOf (sym (scan-integer run no-point))
+  digits-only : t ≡ [] → wholeOf 10 ds < 2147483648 → Good 1 (length (ds ++ t)) ≡ scannedOf (scanRun (ds ++ t))
+  digits-only e v =
+      let s = no-suffix e in
+      let fits : integerFits (ds ++ t) ≡ true = rw (s, m, z, all) (lt-ltb (wholeOf 10 ds) 2147483648 v) in
+      short-legal (ds ++ t) (right-form (rw (s, e))) fits s ∙ ap scannedOf (sym (scan-integer (ds ++ t) (no-point (rw e))))
 
-pub plain-number : (s : List ℕ) (at e v : ℕ) → at < length s → e ≡ at + length (digitsOf 10 (drop at s)) → v ≡ capped (wholeOf 10 (digitsOf 10 (drop at s)))
-    → within 49 57 (getD s at 0) ≡ true → v < 2147483648 → isEmpty (runOf 0 (drop e s)) ≡ true → Good 1 (e - at) ≡ scannedOf (scanNumber (drop at s))
-plain-number s at e v h d w b l n =
-    let t = drop at s in
-    let run = digitsOf 10 t in
+  digits-long : (x : ℕ) → t ≡ x ∷ [] → (eqb x 108 || eqb x 76) ≡ true → wholeOf 10 ds < 9223372036854775808 → Good 2 (length (ds ++ t)) ≡ scannedOf (scanRun (ds ++ t))
+  digits-long x e l v =
+      let g : getD (ds ++ t) (suffixAt (ds ++ t)) 0 ≡ x = suffix ∙ ap (λ (l : List ℕ). getD l 0 0) e in
+      let s : isLong (ds ++ t) ≡ true = rw g l in
+      let fits : integerFits (ds ++ t) ≡ true = rw (s, m, z, all) (lt-ltb (wholeOf 10 ds) 9223372036854775808 v) in
+      let p : eqb (getD t 0 0) 46 ≡ false = rw e (ne-eqb x 46 (λ y. false-true (rw y at l))) in
+      long-legal (ds ++ t) (right-form (rw (s, e))) fits s ∙ ap scannedOf (sym (scan-integer (ds ++ t) (no-point p)))
+
+-- a byte that is not 0 is there
+pub is-there : (s : List ℕ) (i : ℕ) → (getD s i 0 ≡ 0 → ⊥) → i < length s
+is-there s i f = go (decLe (length s) i)
+  where
+    go : Dec (length s ≤ i) → i < length s
+    go (yes h) = absurd (f (List·getD-eq-default s 0 h))
+    go (no h) = omega arith
+
+-- a number of a text from a place on, by where its decimal digits end
+module _ (s : List ℕ) (at e v : ℕ) (h : at < length s) (d : e ≡ at + length (digitsOf 10 (drop at s))) (w : v ≡ capped (wholeOf 10 (digitsOf 10 (drop at s)))) where
+  count : e - at ≡ length (digitsOf 10 (drop at s))
+  count = omega (arith, d)
+
+  parts : runOf 0 (drop at s) ≡ digitsOf 10 (drop at s) ++ runOf 0 (drop e s)
+  parts =
+      let k : drop (length (digitsOf 10 (drop at s))) (drop at s) ≡ drop e s = drop-drop (length (digitsOf 10 (drop at s))) at s ∙ ap (λ (k : ℕ). drop k s) (sym d) in
+      digits-part (drop at s) ∙ ap (λ (l : List ℕ). digitsOf 10 (drop at s) ++ runOf 0 l) k
+
+  module _ (b : within 49 57 (getD s at 0) ≡ true) where
+    leading : (t : List ℕ) → (getD (digitsOf 10 (drop at s) ++ t) 0 0 ≡ getD s at 0) × (0 < length (digitsOf 10 (drop at s)))
+    leading t =
+        let f : (getD (digitsOf 10 (drop at s)) 0 0 ≡ getD s at 0) × (0 < length (digitsOf 10 (drop at s))) = rw (drop-cons s at 0 h) (first-digit (getD s at 0) (drop (suc at) s) b) in
+        (List·getD-append (digitsOf 10 (drop at s)) t 0 0 (f .1) ∙ f .0, f .1)
+
+    other : (t : List ℕ) (k : ℕ) → k < 49 → eqb (getD (digitsOf 10 (drop at s) ++ t) 0 0) k ≡ false
+    other t k l = let y = range 49 57 (getD s at 0) b in ne-eqb _ k (λ q. omega (arith, y .0, leading t .0, q))
+
+    plain-number : v < 2147483648 → isEmpty (runOf 0 (drop e s)) ≡ true → Good 1 (e - at) ≡ scannedOf (scanNumber (drop at s))
+    plain-number l n =
+        let t = runOf 0 (drop e s) in
+        let ds = digitsOf 10 (drop at s) in
+        let z = none-left t (empty t n) in
+        let c : e - at ≡ length (ds ++ t) = omega (arith, count, length-append ds t, ap length z) in
+        let all : digitsOf 10 (ds ++ t) ≡ ds = digits-again 10 (drop at s) t (ap (digitsOf 10) z) in
+        ap (λ (k : ℕ). Good 1 k) c
+        ∙ digits-only ds t all (other t 45 (lit< tt)) (other t 48 (lit< tt)) (leading t .1) z (omega (arith, w, l))
+        ∙ ap (λ l. scannedOf (scanRun l)) (sym parts)
+
+    pub long-number : (eqb (getD s e 0) 108 || eqb (getD s e 0) 76) ≡ true → v < 9223372036854775808 → isEmpty (runOf 0 (drop (e + 1) s)) ≡ true
+        → Good 2 (e - at + 1) ≡ scannedOf (scanNumber (drop at s))
+    long-number x l n =
+        let t = runOf 0 (drop e s) in
+        let ds = digitsOf 10 (drop at s) in
+        let q = suffix-byte (getD s e 0) x in
+        let i = is-there s e (λ y. false-true (rw y at x)) in
+        let none = ap (λ (k : ℕ). runOf 0 (drop k s)) (sym (add-one e)) ∙ none-left (runOf 0 (drop (e + 1) s)) (empty (runOf 0 (drop (e + 1) s)) n) in
+        let z : t ≡ getD s e 0 ∷ [] = rw (drop-cons s e 0 i, common-ends-none _ (q .0), common-takes-none _ (q .0)) (ap (λ (l : List ℕ). getD s e 0 ∷ l) none) in
+        let c : e - at + 1 ≡ length (ds ++ t) = omega (arith, count, length-append ds t, ap length z) in
+        let all : digitsOf 10 (ds ++ t) ≡ ds = digits-again 10 (drop at s) t (ap (digitsOf 10) z ∙ rw (q .1)) in
+        ap (λ (k : ℕ). Good 2 k) c
+        ∙ digits-long ds t all (other t 45 (lit< tt)) (other t 48 (lit< tt)) (leading t .1) (getD s e 0) z x (omega (arith, w, l))
+        ∙ ap (λ l. scannedOf (scanRun l)) (sym parts)
+
+  -- one digit, which may be `0`, or digits that do not start with it
+  pub short-number : (within 49 57 (getD s at 0) || eqb (e - at) 1) ≡ true → v < 2147483648 → isEmpty (runOf 0 (drop e s)) ≡ true → Good 1 (e - at) ≡ scannedOf (scanNumber (drop at s))
+  short-number b l n = go (within 49 57 (getD s at 0)) refl
+    where
+      go : (x : Bool) → within 49 57 (getD s at 0) ≡ x → Good 1 (e - at) ≡ scannedOf (scanNumber (drop at s))
+      go true f = plain-number f l n
+      go false f =
+          let t = runOf 0 (drop e s) in
+          let one : e - at ≡ 1 = eqb-true (e - at) 1 (rw f at b) in
+          let k = drop-cons s at 0 h in
+          let z : digitsOf 10 (drop at s) ≡ 48 ∷ [] =
+          ap (digitsOf 10) k ∙ lone-zero (getD s at 0) (drop (suc at) s) (ap (λ (l : List ℕ). length (digitsOf 10 l)) (sym k) ∙ sym count ∙ one) f in
+          let r : runOf 0 (drop at s) ≡ 48 ∷ [] = parts ∙ ap (λ (l : List ℕ). l ++ t) z ∙ ap (λ (l : List ℕ). 48 ∷ l) (none-left t (empty t n)) in
+          rw (one, r)
+
+-- the value of an integer that starts with 1..9, by the digits of the text
+pub leading-integer : (s : List ℕ) (at : ℕ) → at < length s → within 49 57 (getD s at 0) ≡ true
+    → signedOf false (wholeOf 10 (digitsOf 10 (drop at s))) ≡ integerOf (runOf 0 (drop at s))
+leading-integer s at h b =
     let x = getD s at 0 in
     let y = range 49 57 x b in
-    let k : drop (length run) t ≡ drop e s = drop-drop (length run) at s ∙ ap (λ (k : ℕ). drop k s) (sym d) in
-    let r : runOf 0 t ≡ run = digits-run t (ap (λ l. isEmpty (runOf 0 l)) k ∙ n) in
-    let f : (getD run 0 0 ≡ x) × (0 < length run) = rw (drop-cons s at 0 h) (first-digit x (drop (suc at) s) b) in
-    let i : e - at ≡ length run = omega (arith, d) in
-    let m : isMinus run ≡ false = rw (f .0) (ne-eqb x 45 (λ q. omega (arith, y .0))) in
-    let o : eqb (getD run 0 0) 48 ≡ false = rw (f .0) (ne-eqb x 48 (λ q. omega (arith, y .0))) in
-    ap (λ (k : ℕ). Good 1 k) i ∙ digits-only run (digits-again 10 t) m o (f .1) (omega (arith, w, l)) ∙ ap (λ l. scannedOf (scanRun l)) (sym r)
+    let c : isCommon x ≡ true = rw (le-leb 45 x (omega (arith, y .0)), le-leb x 90 (omega (arith, y .1))) in
+    let f : getD (runOf 0 (drop at s)) 0 0 ≡ x = rw (drop-cons s at 0 h, common-ends-none x c) in
+    let m : isMinus (runOf 0 (drop at s)) ≡ false = ap (λ (k : ℕ). eqb k 45) f ∙ ne-eqb x 45 (λ q. omega (arith, y .0)) in
+    let z : eqb (getD (runOf 0 (drop at s)) 0 0) 48 ≡ false = ap (λ (k : ℕ). eqb k 48) f ∙ ne-eqb x 48 (λ q. omega (arith, y .0)) in
+    rw (m, z, digits-in-run (drop at s))
 
 -- What stands first is judged by its form and its limits, whatever its class; it is no symbol, or the text starts nothing else.
 abbrev pub isSymbol : Token → Bool
@@ -364,14 +442,6 @@ string-fit : (s : List ℕ) → Fit (length s) (scanString s)
 string-fit s =
     judged-fit (length s) (isClosed s) true _ (length (bodyOf s) + 2)
     (λ e f. (omega arith, omega (arith, not-empty (drop (length (bodyOf s) + 1) s) e, length-drop (length (bodyOf s) + 1) s)))
-
--- a byte that is not 0 is there
-pub is-there : (s : List ℕ) (i : ℕ) → (getD s i 0 ≡ 0 → ⊥) → i < length s
-is-there s i f = go (decLe (length s) i)
-  where
-    go : Dec (length s ≤ i) → i < length s
-    go (yes h) = absurd (f (List·getD-eq-default s 0 h))
-    go (no h) = omega arith
 
 pub two-none : (a : ℕ) → twoBytes a 0 ≡ 0
 two-none a = go (eqb a 0) refl

@@ -1,21 +1,23 @@
 -- Digits that stand first, and the whole numbers that they form. Assumes nothing.
 use mathlib.Core.Path.{_≡_, refl, sym, ap, _∙_}
-use mathlib.Core.Bool.{Bool, true, false}
-use mathlib.Core.List.{List, [], _∷_}
+use mathlib.Core.Bool.{Bool, true, false, _||_}
+use mathlib.Core.List.{List, [], _∷_, _++_}
 use Prim.Native.Nat.{ℕ, _+_, _-_, _*_, _/_, _≤_, _<_}
 use native.Mathlib.Nat.{le-div-iff-mul-le, div-lt-iff-lt-mul, le-mul-of-pos-right, mul-le-mul-left}
 use native.Mathlib.Decide.{decLe}
 use native.Mathlib.Numerals.{add-one}
 use native.Mathlib.Omega.{arith}
+use lib.Dec.{eqb}
 use lib.ListN.{length, getD, drop, drop-of-length-le, length-drop}
 use lib.Seq.{drop-cons}
-use borrow.Author.Tests.{le-leb, lt-ltb, le-ltb}
-use Rattle.lexer.specs.Byte.{within, digitOf, isDigitIn}
-use Rattle.lexer.specs.Run.{runFrom, isEmpty}
+use borrow.Author.Tests.{le-leb, lt-ltb, le-ltb, eqb-true}
+use Rattle.common.proofs.Choice.{false-true}
+use Rattle.lexer.specs.Byte.{within, isCommon, digitOf, isDigitIn}
+use Rattle.lexer.specs.Run.{ends, runFrom}
 use Rattle.lexer.specs.Digits.{signLength, digitsOf, wholeFrom, capped}
 use Rattle.lexer.specs.Integer.{isHex, baseOf, prefixLength}
 use Rattle.lexer.proofs.Bytes.{range, common-ends-none, common-takes-none, decimal, digit-common}
-use Rattle.lexer.proofs.Runs.{none-left, empty, First, first-fits}
+use Rattle.lexer.proofs.Runs.{none-left, First, first-fits}
 
 module _ (s : List ℕ) (i base : ℕ) where
   pub digits-stop : i < length s → base ≤ digitOf (getD s i 0) → digitsOf base (drop i s) ≡ []
@@ -94,26 +96,37 @@ decimal-prefix run e = go (isHex run) refl
     go true f = let z = rw f at e in absurd (omega (arith, z))
     go false f = rw f (omega arith)
 
--- Digits are all of a run where nothing of it is left after them.
-pub digits-run : (s : List ℕ) → isEmpty (runFrom 0 false (drop (length (digitsOf 10 s)) s)) ≡ true → runFrom 0 false s ≡ digitsOf 10 s
-digits-run [] e = refl
-digits-run (b ∷ s) e = go (digits-run s) (isDigitIn 10 b) refl
+-- A run that starts with digits is these and what is left of it after them.
+pub digits-part : (s : List ℕ) → runFrom 0 false s ≡ digitsOf 10 s ++ runFrom 0 false (drop (length (digitsOf 10 s)) s)
+digits-part [] = refl
+digits-part (b ∷ s) = go (digits-part s) (isDigitIn 10 b) refl
   where
-    go : (isEmpty (runFrom 0 false (drop (length (digitsOf 10 s)) s)) ≡ true → runFrom 0 false s ≡ digitsOf 10 s)
-        → (x : Bool) → isDigitIn 10 b ≡ x → runFrom 0 false (b ∷ s) ≡ digitsOf 10 (b ∷ s)
-    go ih true f =
-        let c = digit-common b f in
-        let g = rw f at e in
-        rw (f, common-ends-none b c, common-takes-none b c) (ap (λ (l : List ℕ). b ∷ l) (ih g))
-    go ih false f = let g = rw f at e in rw f (none-left (runFrom 0 false (b ∷ s)) (empty (runFrom 0 false (b ∷ s)) g))
+    go : runFrom 0 false s ≡ digitsOf 10 s ++ runFrom 0 false (drop (length (digitsOf 10 s)) s)
+        → (x : Bool) → isDigitIn 10 b ≡ x → runFrom 0 false (b ∷ s) ≡ digitsOf 10 (b ∷ s) ++ runFrom 0 false (drop (length (digitsOf 10 (b ∷ s))) (b ∷ s))
+    go ih true f = let c = digit-common b f in rw (f, common-ends-none b c, common-takes-none b c) (ap (λ (l : List ℕ). b ∷ l) ih)
+    go ih false f = rw f
 
-pub digits-again : (base : ℕ) (s : List ℕ) → digitsOf base (digitsOf base s) ≡ digitsOf base s
-digits-again base [] = refl
-digits-again base (b ∷ s) = go (digits-again base s) (isDigitIn base b) refl
+-- they are its digits where no other digit comes next
+pub digits-again : (base : ℕ) (s t : List ℕ) → digitsOf base t ≡ [] → digitsOf base (digitsOf base s ++ t) ≡ digitsOf base s
+digits-again base [] t n = n
+digits-again base (b ∷ s) t n = go (digits-again base s t n) (isDigitIn base b) refl
   where
-    go : digitsOf base (digitsOf base s) ≡ digitsOf base s → (x : Bool) → isDigitIn base b ≡ x → digitsOf base (digitsOf base (b ∷ s)) ≡ digitsOf base (b ∷ s)
+    go : digitsOf base (digitsOf base s ++ t) ≡ digitsOf base s → (x : Bool) → isDigitIn base b ≡ x → digitsOf base (digitsOf base (b ∷ s) ++ t) ≡ digitsOf base (b ∷ s)
     go ih true e = rw (e, e) (ap (λ (l : List ℕ). b ∷ l) ih)
-    go ih false e = rw e
+    go ih false e = rw e n
+
+-- those of a run are those of the text
+pub digits-in-run : (s : List ℕ) → digitsOf 10 (runFrom 0 false s) ≡ digitsOf 10 s
+digits-in-run [] = refl
+digits-in-run (b ∷ s) = go (digits-in-run s) (isDigitIn 10 b) refl
+  where
+    stop : isDigitIn 10 b ≡ false → (x : Bool) → ends 0 b ≡ x → digitsOf 10 (runFrom 0 false (b ∷ s)) ≡ []
+    stop f true e = rw e
+    stop f false e = rw (e, f)
+
+    go : digitsOf 10 (runFrom 0 false s) ≡ digitsOf 10 s → (x : Bool) → isDigitIn 10 b ≡ x → digitsOf 10 (runFrom 0 false (b ∷ s)) ≡ digitsOf 10 (b ∷ s)
+    go ih true f = let c = digit-common b f in rw (common-ends-none b c, common-takes-none b c, f) (ap (λ (l : List ℕ). b ∷ l) ih)
+    go ih false f = stop f (ends 0 b) refl ∙ sym (rw f)
 
 -- the first of them, which is not `0`
 pub first-digit : (b : ℕ) (s : List ℕ) → within 49 57 b ≡ true → (getD (digitsOf 10 (b ∷ s)) 0 0 ≡ b) × (0 < length (digitsOf 10 (b ∷ s)))
@@ -121,3 +134,28 @@ first-digit b s e =
     let r = range 49 57 b e in
     let f : isDigitIn 10 b ≡ true = sym (decimal b) ∙ rw (le-leb 48 b (omega arith), le-leb b 57 (r .1)) in
     rw f (refl, omega arith)
+
+-- one digit alone that is none of 1..9
+pub lone-zero : (b : ℕ) (s : List ℕ) → length (digitsOf 10 (b ∷ s)) ≡ 1 → within 49 57 b ≡ false → digitsOf 10 (b ∷ s) ≡ 48 ∷ []
+lone-zero b s l n = go (isDigitIn 10 b) refl
+  where
+    go : (x : Bool) → isDigitIn 10 b ≡ x → digitsOf 10 (b ∷ s) ≡ 48 ∷ []
+    go false f = let z = rw f at l in absurd (omega (arith, z))
+    go true f =
+        let r = range 48 57 b (decimal b ∙ f) in
+        let low : b < 49 = under (decLe 49 b) in
+        let k : b ≡ 48 = omega (arith, r .0) in
+        let m : length (digitsOf 10 s) ≡ 0 = omega (arith, rw f at l) in
+        rw f (ap (λ (x : ℕ). x ∷ digitsOf 10 s) k ∙ ap (λ (t : List ℕ). 48 ∷ t) (none-left (digitsOf 10 s) m))
+      where
+        under : Dec (49 ≤ b) → b < 49
+        under (yes h) = let r = range 48 57 b (decimal b ∙ f) in false-true (sym n ∙ rw (le-leb 49 b h, le-leb b 57 (r .1)))
+        under (no h) = omega arith
+
+-- the suffix of an int64
+pub suffix-byte : (b : ℕ) → (eqb b 108 || eqb b 76) ≡ true → (isCommon b ≡ true) × (isDigitIn 10 b ≡ false)
+suffix-byte b e = go (eqb b 108) refl
+  where
+    go : (x : Bool) → eqb b 108 ≡ x → (isCommon b ≡ true) × (isDigitIn 10 b ≡ false)
+    go true f = let z = eqb-true b 108 f in (rw z, rw z)
+    go false f = let z = eqb-true b 76 (rw f at e) in (rw z, rw z)

@@ -6,7 +6,7 @@ use mathlib.Core.Bool.{Bool, true, false, not, cond, _&&_, _||_}
 use mathlib.Core.List.{List, [], _∷_, _++_}
 use lib.Dec.{eqb}
 use lib.ListN.{length, getD, take, drop}
-use Rattle.lexer.specs.Byte.{is, within, isDelimiter, isPlain}
+use Rattle.lexer.specs.Byte.{is, within, isDelimiter, isPlain, isCommon}
 
 -- "A backslash takes the next byte": a byte is such a backslash if it is not taken itself
 abbrev pub takes : Bool → ℕ → Bool
@@ -58,6 +58,11 @@ legalName taken (b ∷ s) = legalByte taken b && legalName (takes taken b) s
 -- Inside the code: the name that stands first in s is as legal as what is left of it after n bytes, which end nothing and take nothing.
 abbrev pub GoesOn : List ℕ → ℕ → Type 0
 GoesOn s n = Passes 0 s n × (legalName false (runOf 0 (drop n s)) ≡ legalName false (runOf 0 s))
+
+-- Inside the code: a word of bytes that most names have.
+abbrev pub allCommon : List ℕ → Bool
+allCommon [] = true
+allCommon (b ∷ s) = isCommon b && allCommon s
 
 -- "After removing escapes 1..64 bytes."
 abbrev pub nameFits : List ℕ → Bool

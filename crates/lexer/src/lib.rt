@@ -4,11 +4,12 @@ ghost use mathlib.Core.Bool.{true};
 ghost use Prim.Native.Nat.{_+_, _-_, _≤_, _<_};
 ghost use lib.ListN.{length, getD, drop};
 ghost use lib.Seq.{sets};
-ghost use Rattle.lexer.specs.Byte.{isQuote};
-ghost use Rattle.lexer.specs.Run.{GoesOn};
+ghost use Rattle.lexer.specs.Byte.{isQuote, startsNumber};
+ghost use Rattle.lexer.specs.Run.{GoesOn, allCommon};
 ghost use Rattle.lexer.specs.Digits.{signLength};
-ghost use Rattle.lexer.specs.Token.{scanName, scanInteger, scanNumber, scanString, scanSymbol, scanOf, tokensOf, kindsOf, startsOf, nameAt, escapedAt, nameIs, stringAt, integerAt, realAt};
+ghost use Rattle.lexer.specs.Token.{scanName, scanInteger, scanNumber, scanString, scanOf, tokensOf, kindsOf, startsOf, nameAt, escapedAt, nameIs, stringAt, integerAt, realAt};
 ghost use Rattle.lexer.specs.Answer.{lexingOf, scannedOf, Reads, Stand};
+ghost use Rattle.lexer.specs.declared.Scanned.the-variants.{Good};
 
 mod byte;
 mod digits;
@@ -17,10 +18,10 @@ mod real;
 mod run;
 mod symbol;
 
+use byte::is_decimal;
 use byte::is_quote;
 use byte::is_space;
 use byte::starts_name;
-use byte::starts_number;
 use digits::Numeral;
 use integer::integer_digits;
 use integer::integer_fits;
@@ -33,6 +34,7 @@ use real::whole_digits;
 use run::body;
 use run::byte_at;
 use run::common_end;
+use run::copy_common;
 use run::copy_plain;
 use run::ended;
 use run::has_escape;
@@ -41,8 +43,7 @@ use run::plain_length;
 use run::rest;
 use run::run;
 use run::unquoted_end;
-use symbol::symbol;
-use symbol::symbol_length;
+use symbol::scan_symbol;
 
 // The kinds of tokens by number: the op of "Table" where there is one, which an operator has too.
 pub const INT32: u8 = opcode::INT32;
@@ -137,18 +138,60 @@ fn scan_odd_number(text: &[u8], at: usize) -> Scanned
     Scanned::Bad(3)
 }
 
-// Decimal digits alone that do not start with `0` and whose value fits are an int32; else all forms are tried.
+// The length of a real of digits, a point and digits alone that is within its limits; else 0. The caller has read the digits before the point.
+fn plain_real(text: &[u8], at: usize, whole: Numeral) -> usize
+    requires { ⌜ (length (now text) ≤ 4096) × (at < length (now text)) × (getD (now text) (whole .end) 0 ≡ 46) × Reads 10 0 at (now text) whole ⌝ }
+    ensures { λ r. ⌜ ((r ≡ 0 → ⊥) → Good 3 r ≡ scannedOf (scanNumber (drop at (now (text .entry))))) ⌝ }
+{
+    let point = whole.end;
+    let all = digits::digits(text, point + 1, 10, whole.value);
+    let n = all.end - point;
+    if ((at < point) & ((2 <= n) & (n <= 23)))
+        & (all.value < 1_000_000_000_000_000)
+        & ended(text, all.end)
+    {
+        return all.end - at;
+    }
+    0
+}
+
+// The same answer, made anew: one that a call leaves in memory would keep all of them there.
+fn again(r: Scanned) -> Scanned
+    ensures { λ x. ⌜ x ≡ r ⌝ }
+{
+    match r {
+        Scanned::Good(kind, length) => Scanned::Good(kind, length),
+        Scanned::Bad(number) => Scanned::Bad(number),
+    }
+}
+
+// Decimal digits alone whose value fits, without a leading zero, are an int32, and an int64 with its suffix; else, and where they are no plain real, all forms are tried, which is called for at two places and so not laid in line.
 fn scan_number(text: &[u8], at: usize) -> Scanned
-    requires { ⌜ at < length (now text) ⌝ }
+    requires { ⌜ (length (now text) ≤ 4096) × (at < length (now text)) ⌝ }
     ensures { λ r. ⌜ r ≡ scannedOf (scanNumber (drop at (now (text .entry)))) ⌝ }
 {
     let d = digits::digits(text, at, 10, 0);
-    let end = d.end;
     let a = text[at];
-    if ((b'1' <= a) & (a <= b'9')) & (d.value < 0x8000_0000) & ended(text, end) {
-        return Scanned::Good(INT32, end - at);
+    let n = d.end - at;
+    let leads = (b'1' <= a) & (a <= b'9');
+    if (leads | (n == 1)) & (d.value < 0x8000_0000) & ended(text, d.end) {
+        return Scanned::Good(INT32, n);
     }
-    scan_odd_number(text, at)
+    let b = byte_at(text, d.end);
+    if (leads & ((b == b'l') | (b == b'L')))
+        & (d.value < 0x8000_0000_0000_0000)
+        & ended(text, d.end + 1)
+    {
+        return Scanned::Good(INT64, n + 1);
+    }
+    if b == b'.' {
+        let length = plain_real(text, at, d);
+        if length != 0 {
+            return Scanned::Good(REAL64, length);
+        }
+        return again(scan_odd_number(text, at));
+    }
+    again(scan_odd_number(text, at))
 }
 
 // A string with escapes.
@@ -180,18 +223,15 @@ fn scan_string(text: &[u8], at: usize) -> Scanned
     scan_odd_string(rest(text, at))
 }
 
-fn scan_symbol(text: &[u8], at: usize) -> Scanned
-    requires { ⌜ (length (now text) ≤ 4096) × (at < length (now text)) ⌝ }
-    ensures { λ r. ⌜ r ≡ scannedOf (scanSymbol (drop at (now (text .entry)))) ⌝ }
+// "A `-` before a digit always starts a literal": the byte after a `-` alone is read.
+fn starts_number(text: &[u8], at: usize, a: u8) -> bool
+    requires { ⌜ at ≤ 4096 ⌝ }
+    ensures { λ r. ⌜ r ≡ startsNumber a (getD (now (text .entry)) (at + 1) 0) ⌝ }
 {
-    let a = text[at];
-    let b = byte_at(text, at + 1);
-    let c = byte_at(text, at + 2);
-    let kind = symbol(a, b, c);
-    if kind == 0 {
-        return Scanned::Bad(1);
+    if a == b'-' {
+        return is_decimal(byte_at(text, at + 1));
     }
-    Scanned::Good(kind, symbol_length(a, b, c))
+    is_decimal(a)
 }
 
 // By the first byte, and the second after a `-`.
@@ -203,7 +243,7 @@ fn scan(text: &[u8], at: usize) -> Scanned
     if starts_name(a) {
         return scan_name(text, at);
     }
-    if starts_number(a, byte_at(text, at + 1)) {
+    if starts_number(text, at, a) {
         return scan_number(text, at);
     }
     if is_quote(a) {
@@ -253,6 +293,10 @@ pub fn lex(text: &[u8], kinds: &mut [u8], starts: &mut [u16]) -> Lexing
 pub fn name_length(text: &[u8], at: usize) -> usize
     ensures { λ r. ⌜ r ≡ length (nameAt (now (text .entry)) at) ⌝ }
 {
+    let end = common_end(text, at);
+    if ended(text, end) {
+        return end - at;
+    }
     plain_length(rest(text, at), 0)
 }
 
@@ -267,21 +311,29 @@ pub fn copy_name(text: &[u8], at: usize, part: &mut [u8]) -> usize
     ensures { λ r. ⌜ r ≡ length (nameAt (now (text .entry)) at) ⌝ }
     ensures { λ _. ⌜ now (part .exit) ≡ sets (now (part .entry)) 0 (nameAt (now (text .entry)) at) ⌝ }
 {
-    copy_plain(rest(text, at), 0, part)
+    let from = rest(text, at);
+    let n = copy_common(from, part);
+    if ended(from, n) {
+        return n;
+    }
+    copy_plain(from, 0, part)
 }
 
-// Whether the name is the word, with no escape.
+// Whether the name is the word, with no escape: its bytes stand there, and nothing of a name after them.
 fn spells(text: &[u8], at: usize, word: &[u8]) -> bool
+    requires { ⌜ allCommon (now word) ≡ true ⌝ }
     ensures { λ r. ⌜ r ≡ nameIs (now (text .entry)) at (now (word .entry)) ⌝ }
 {
-    if octets::same(run(text, at, 0), false, word, false) {
-        return !has_escape(word);
+    let from = rest(text, at);
+    if ended(from, word.len()) {
+        return octets::begins(from, false, word, false);
     }
     false
 }
 
-// The same. Most words differ from a name in the first byte, which is told before the name's end is looked for, in a function that is small enough to be laid in line.
+// The same. Most words differ from a name in the first byte, which is told before the rest, in a function that is small enough to be laid in line.
 pub fn name_is(text: &[u8], at: usize, word: &[u8]) -> bool
+    requires { ⌜ allCommon (now word) ≡ true ⌝ }
     ensures { λ r. ⌜ r ≡ nameIs (now (text .entry)) at (now (word .entry)) ⌝ }
 {
     if (0 < word.len()) & (byte_at(text, at) != byte_at(word, 0)) {
@@ -334,6 +386,10 @@ pub fn copy_string(text: &[u8], at: usize, part: &mut [u8]) -> usize
 pub fn int_value(text: &[u8], at: usize) -> i64
     ensures { λ r. ⌜ r ≡ integerAt (now (text .entry)) at ⌝ }
 {
+    let a = byte_at(text, at);
+    if (b'1' <= a) & (a <= b'9') {
+        return integer::leading_value(text, at);
+    }
     integer::integer_value(run(text, at, 0))
 }
 

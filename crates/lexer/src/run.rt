@@ -4,7 +4,7 @@ ghost use mathlib.Core.Path.{_≡_};
 ghost use mathlib.Core.Bool.{false};
 ghost use mathlib.Core.List.{[]};
 ghost use Prim.Native.Nat.{_-_, _≤_};
-ghost use lib.ListN.{length, getD, drop, set};
+ghost use lib.ListN.{length, getD, take, drop, set};
 ghost use lib.Seq.{sets};
 ghost use Rattle.lexer.specs.Run.{takes as takesOf, ends as endsOf, runOf, unescaped, Free, Passes, hasEscape, legalByte, legalName, GoesOn, bodyOf, isEmpty};
 use crate::byte::is_common;
@@ -190,6 +190,38 @@ pub fn copy_plain(s: &[u8], quote: u8, part: &mut [u8]) -> usize
         n += 1;
     }
     n
+}
+
+fn least(a: usize, b: usize) -> usize
+    ensures { λ r. ⌜ (r ≤ a) × (r ≤ b) ⌝ }
+{
+    if a < b { a } else { b }
+}
+
+// Copies the bytes that most names have, as far as they stand first and the part goes, to the start of the part, and answers how many they are.
+pub fn copy_common(s: &[u8], part: &mut [u8]) -> usize
+    ensures { λ r. ⌜ GoesOn (now (s .entry)) r ⌝ }
+    ensures { λ r. ⌜ now (part .exit) ≡ sets (now (part .entry)) 0 (take r (now (s .entry))) ⌝ }
+{
+    let most = least(s.len(), part.len());
+    let mut i = 0;
+    while i < most {
+        let b = s[i];
+        if b < b'^' {
+            if !is_common(b) {
+                return i;
+            }
+            part[i] = b;
+            i += 1;
+            continue;
+        }
+        if b'~' < b {
+            return i;
+        }
+        part[i] = b;
+        i += 1;
+    }
+    i
 }
 
 // "A backslash takes the next byte, which must be 32..126. Unescaped bytes must be 33..126 and none of `[ ] ' "`."

@@ -1,103 +1,85 @@
 // Operators, parentheses and the comma, by their kind numbers. Document 01, "Tokens": "Operators take the longest match".
+// The bytes after the first are read only where a longer symbol begins with it.
 ghost use mathlib.Core.Path.{_≡_};
-ghost use Rattle.lexer.specs.Symbol.{threeBytes, withEqual, doubled as doubledOf, twoBytes, oneByte, symbolOf, symbolLength};
+ghost use mathlib.Core.Bool.{cond};
+ghost use Prim.Native.Nat.{_+_, _≤_, _<_};
+ghost use lib.Dec.{eqb};
+ghost use lib.ListN.{length, getD, drop};
+ghost use Rattle.lexer.specs.Token.{scanBytes, scanSymbol};
+ghost use Rattle.lexer.specs.Answer.{scannedOf};
+ghost use Rattle.lexer.specs.declared.Scanned.the-variants.{Good};
+use crate::Scanned;
+use crate::run::byte_at;
 
-// `>>>`
-fn three_bytes(a: u8, b: u8, c: u8) -> u8
-    ensures { λ r. ⌜ r ≡ threeBytes a b c ⌝ }
+// A symbol of two bytes where the second one is there, else of one.
+fn either(text: &[u8], at: usize, second: u8, two: u8, one: u8) -> Scanned
+    requires { ⌜ at ≤ 4096 ⌝ }
+    ensures { λ r. ⌜ r ≡ cond (eqb (getD (now (text .entry)) (at + 1) 0) second) (Good two 2) (Good one 1) ⌝ }
 {
-    if (a == b'>') & (b == b'>') & (c == b'>') {
-        opcode::SHIFT_RIGHT_ZERO
-    } else {
-        0
+    if byte_at(text, at + 1) == second {
+        return Scanned::Good(two, 2);
     }
+    Scanned::Good(one, 1)
 }
 
-// A byte and `=`.
-fn with_equal(a: u8) -> u8
-    ensures { λ r. ⌜ r ≡ withEqual a ⌝ }
+// What starts with `=`, which is no symbol by itself.
+fn equal(text: &[u8], at: usize) -> Scanned
+    requires { ⌜ at ≤ 4096 ⌝ }
+    ensures { λ r. ⌜ r ≡ scannedOf (scanBytes 61 (getD (now (text .entry)) (at + 1) 0) 0) ⌝ }
 {
+    if byte_at(text, at + 1) == b'=' {
+        return Scanned::Good(opcode::EQUAL, 2);
+    }
+    Scanned::Bad(1)
+}
+
+// What starts with `<`.
+fn less(text: &[u8], at: usize) -> Scanned
+    requires { ⌜ at ≤ 4096 ⌝ }
+    ensures { λ r. ⌜ r ≡ scannedOf (scanBytes 60 (getD (now (text .entry)) (at + 1) 0) 0) ⌝ }
+{
+    if byte_at(text, at + 1) == b'<' {
+        return Scanned::Good(opcode::SHIFT_LEFT, 2);
+    }
+    either(text, at, b'=', opcode::LESS_EQUAL, opcode::LESS)
+}
+
+// What starts with `>`.
+fn greater(text: &[u8], at: usize) -> Scanned
+    requires { ⌜ at ≤ 4096 ⌝ }
+    ensures { λ r. ⌜ r ≡ scannedOf (scanBytes 62 (getD (now (text .entry)) (at + 1) 0) (getD (now (text .entry)) (at + 2) 0)) ⌝ }
+{
+    if byte_at(text, at + 1) != b'>' {
+        return either(text, at, b'=', opcode::GREATER_EQUAL, opcode::GREATER);
+    }
+    if byte_at(text, at + 2) == b'>' {
+        return Scanned::Good(opcode::SHIFT_RIGHT_ZERO, 3);
+    }
+    Scanned::Good(opcode::SHIFT_RIGHT, 2)
+}
+
+pub fn scan_symbol(text: &[u8], at: usize) -> Scanned
+    requires { ⌜ (length (now text) ≤ 4096) × (at < length (now text)) ⌝ }
+    ensures { λ r. ⌜ r ≡ scannedOf (scanSymbol (drop at (now (text .entry)))) ⌝ }
+{
+    let a = text[at];
     match a {
-        b'=' => opcode::EQUAL,
-        b'!' => opcode::NOT_EQUAL,
-        b'<' => opcode::LESS_EQUAL,
-        b'>' => opcode::GREATER_EQUAL,
-        _ => 0,
+        b'(' => Scanned::Good(crate::OPEN, 1),
+        b')' => Scanned::Good(crate::CLOSE, 1),
+        b',' => Scanned::Good(crate::COMMA, 1),
+        b'~' => Scanned::Good(opcode::COMPLEMENT, 1),
+        b'*' => Scanned::Good(opcode::MUL, 1),
+        b'/' => Scanned::Good(opcode::DIV, 1),
+        b'%' => Scanned::Good(opcode::REM, 1),
+        b'+' => Scanned::Good(opcode::ADD, 1),
+        b'-' => Scanned::Good(opcode::SUB, 1),
+        b'&' => either(text, at, b'&', opcode::AND, opcode::BIT_AND),
+        b'^' => either(text, at, b'^', opcode::XOR, opcode::BIT_XOR),
+        b'|' => either(text, at, b'|', opcode::OR, opcode::BIT_OR),
+        b'!' => either(text, at, b'=', opcode::NOT_EQUAL, opcode::NOT),
+        b'=' => equal(text, at),
+        b'<' => less(text, at),
+        b'>' => greater(text, at),
+        _ => Scanned::Bad(1),
     }
-}
-
-// A byte twice.
-fn doubled(a: u8) -> u8
-    ensures { λ r. ⌜ r ≡ doubledOf a ⌝ }
-{
-    match a {
-        b'<' => opcode::SHIFT_LEFT,
-        b'>' => opcode::SHIFT_RIGHT,
-        b'&' => opcode::AND,
-        b'^' => opcode::XOR,
-        b'|' => opcode::OR,
-        _ => 0,
-    }
-}
-
-fn two_bytes(a: u8, b: u8) -> u8
-    ensures { λ r. ⌜ r ≡ twoBytes a b ⌝ }
-{
-    if b == b'=' {
-        return with_equal(a);
-    }
-    if a == b {
-        return doubled(a);
-    }
-    0
-}
-
-fn one_byte(a: u8) -> u8
-    ensures { λ r. ⌜ r ≡ oneByte a ⌝ }
-{
-    match a {
-        b'~' => opcode::COMPLEMENT,
-        b'(' => crate::OPEN,
-        b')' => crate::CLOSE,
-        b',' => crate::COMMA,
-        b'&' => opcode::BIT_AND,
-        b'^' => opcode::BIT_XOR,
-        b'|' => opcode::BIT_OR,
-        b'*' => opcode::MUL,
-        b'/' => opcode::DIV,
-        b'%' => opcode::REM,
-        b'+' => opcode::ADD,
-        b'-' => opcode::SUB,
-        b'<' => opcode::LESS,
-        b'>' => opcode::GREATER,
-        b'!' => opcode::NOT,
-        _ => 0,
-    }
-}
-
-// "the longest match" of three bytes, 0 for none.
-pub fn symbol(a: u8, b: u8, c: u8) -> u8
-    ensures { λ r. ⌜ r ≡ symbolOf a b c ⌝ }
-{
-    let three = three_bytes(a, b, c);
-    if three != 0 {
-        return three;
-    }
-    let two = two_bytes(a, b);
-    if two != 0 {
-        return two;
-    }
-    one_byte(a)
-}
-
-pub fn symbol_length(a: u8, b: u8, c: u8) -> usize
-    ensures { λ r. ⌜ r ≡ symbolLength a b c ⌝ }
-{
-    if three_bytes(a, b, c) == 0 {
-        if two_bytes(a, b) == 0 {
-            return 1;
-        }
-        return 2;
-    }
-    3
 }

@@ -19,7 +19,8 @@ use Rattle.grammar.specs.Marks.{markAt, marksOf, isOperand, operandsFrom, opera
 use Rattle.grammar.proofs.Streams.{within, kind-in, token-at}
 use Rattle.operands.specs.Gather.{eachFrom, each, placeAt, sizeAt}
 use Rattle.operands.specs.Theorems.{Stands}
-use Rattle.operands.proofs.Marks.{no-operand, length-marks, mark-get, Marked, plainly, by-call, marked}
+use Rattle.grammar.proofs.Marks.{length-marks, mark-at}
+use Rattle.operands.proofs.Marks.{no-operand, Marked, plainly, by-call, marked}
 
 -- ---- one token
 
@@ -160,7 +161,7 @@ module _ (s kinds starts : List ℕ) where
       → eachFrom f (marksOf ks) i n ≡ map g (operandsFrom ks i n)
   unfolding eachFrom operandsFrom
   each-map f g p zero i = refl
-  each-map {A} f g p (suc n) i = rw (mark-get ks i) (go (isOperand (markAt ks i)) refl (each-map f g p n (i + 1)))
+  each-map {A} f g p (suc n) i = rw (mark-at ks i) (go (isOperand (markAt ks i)) refl (each-map f g p n (i + 1)))
     where
       go : (b : Bool) → isOperand (markAt ks i) ≡ b → eachFrom f (marksOf ks) (i + 1) n ≡ map g (operandsFrom ks (i + 1) n)
           → cond b (f i ∷ eachFrom f (marksOf ks) (i + 1) n) (eachFrom f (marksOf ks) (i + 1) n) ≡ map g (cond b (tokenAt ks i ∷ operandsFrom ks (i + 1) n) (operandsFrom ks (i + 1) n))
@@ -170,7 +171,7 @@ module _ (s kinds starts : List ℕ) where
   places-stand : (n i : ℕ) → tokensIn s (map kindOf (operandsFrom ks i n)) (eachFrom (placeAt starts) (marksOf ks) i n) ≡ operandsFrom ks i n
   unfolding eachFrom operandsFrom tokensIn
   places-stand zero i = refl
-  places-stand (suc n) i = rw (mark-get ks i) (go (isOperand (markAt ks i)) refl (places-stand n (i + 1)))
+  places-stand (suc n) i = rw (mark-at ks i) (go (isOperand (markAt ks i)) refl (places-stand n (i + 1)))
     where
       go : (b : Bool) → isOperand (markAt ks i) ≡ b → tokensIn s (map kindOf (operandsFrom ks (i + 1) n)) (eachFrom (placeAt starts) (marksOf ks) (i + 1) n) ≡ operandsFrom ks (i + 1) n
           → tokensIn s (map kindOf (cond b (tokenAt ks i ∷ operandsFrom ks (i + 1) n) (operandsFrom ks (i + 1) n))) (cond b (getD starts i 0 ∷ eachFrom (placeAt starts) (marksOf ks) (i + 1) n) (eachFrom (placeAt starts) (marksOf ks) (i + 1) n))
@@ -182,11 +183,11 @@ module _ (s kinds starts : List ℕ) where
   stands =
       let n = length-marks ks in
       record {
-        kinds-are = rw n (each-map (λ i. getD (marksOf ks) i 99) kindOf (λ i e. mark-get ks i ∙ operand-kind i e) (length ks) 0);
+        kinds-are = rw n (each-map (λ i. getD (marksOf ks) i 99) kindOf (λ i e. mark-at ks i ∙ operand-kind i e) (length ks) 0);
         places-are = rw n (places-stand (length ks) 0);
-        sizes-are = rw n (each-map (sizeAt s (marksOf ks) starts) poolBytes (λ i e. rw (mark-get ks i) (ap poolBytes (operand-token i e))) (length ks) 0);
+        sizes-are = rw n (each-map (sizeAt s (marksOf ks) starts) poolBytes (λ i e. rw (mark-at ks i) (ap poolBytes (operand-token i e))) (length ks) 0);
         as-many =
             rw n (each-length (placeAt starts) (λ i. getD (marksOf ks) i 99) (marksOf ks) 0 (length ks)
-            ∙ ap length (each-map (λ i. getD (marksOf ks) i 99) kindOf (λ i e. mark-get ks i ∙ operand-kind i e) (length ks) 0)
+            ∙ ap length (each-map (λ i. getD (marksOf ks) i 99) kindOf (λ i e. mark-at ks i ∙ operand-kind i e) (length ks) 0)
             ∙ length-map (operandsIn ks) kindOf);
       }

@@ -23,7 +23,8 @@ use Rattle.grammar.specs.Marks.{markAt, marksOf}
 use Rattle.grammar.proofs.Sound.{at-kind, at-rank, at-prefix, at-literal}
 use Rattle.grammar.proofs.Streams.{kind-in, token-at}
 use Rattle.operands.specs.Patterns.{markBefore, digitOf, functionBy, opensAfter, rightAt, patternsFrom, patternsBy}
-use Rattle.operands.proofs.Marks.{length-marks, mark-get, mark-called, mark-plain, mark-kind, Marked, plainly, by-call, marked}
+use Rattle.grammar.proofs.Marks.{length-marks, mark-at}
+use Rattle.operands.proofs.Marks.{mark-called, mark-plain, mark-kind, Marked, plainly, by-call, marked}
 use Rattle.operands.proofs.Passes.{digit-small, digit-test}
 use Rattle.operands.proofs.Leaves.{literal-kind, prefix-kind, rank-kind}
 use Rattle.operands.proofs.Parts.{Parts, by-parts}
@@ -99,10 +100,10 @@ module _ (s kinds starts : List ℕ) where
   step opens i h = let l = length-marks ks in let e : length ms - i ≡ suc (length ms - (i + 1)) = omega arith in rw e
 
   before-is : (i : ℕ) → markBefore ms (i + 1) ≡ markAt ks i
-  before-is i = ap (markBefore ms) (add-one i) ∙ mark-get ks i
+  before-is i = ap (markBefore ms) (add-one i) ∙ mark-at ks i
 
   other : (opens i : ℕ) → (kindAt ks i ≡ 4 → ⊥) → rightAt s ms starts opens i ≡ true
-  other opens i c = right-no-text s ms starts opens i (λ q. c (go (sym (mark-get ks i) ∙ q) (marked ks i)))
+  other opens i c = right-no-text s ms starts opens i (λ q. c (go (sym (mark-at ks i) ∙ q) (marked ks i)))
     where
       go : markAt ks i ≡ 4 → Marked ks i → kindAt ks i ≡ 4
       go q (plainly e) = sym e ∙ q
@@ -110,10 +111,10 @@ module _ (s kinds starts : List ℕ) where
 
   -- a token that is no parenthesis; one that is no string either; and `)`
   keeps : (opens i : ℕ) {m : ℕ} → i < length ks → markAt ks i ≡ m → (m ≡ 9 → ⊥) → (m ≡ 10 → ⊥) → rest opens i ≡ (rightAt s ms starts opens i && rest opens (i + 1))
-  keeps opens i h e a b = step opens i h ∙ ap (λ (o : ℕ). rightAt s ms starts opens i && rest o (i + 1)) (opens-same (getD ms i 99) (markBefore ms i) opens (λ q. a (sym e ∙ sym (mark-get ks i) ∙ q)) (λ q. b (sym e ∙ sym (mark-get ks i) ∙ q)))
+  keeps opens i h e a b = step opens i h ∙ ap (λ (o : ℕ). rightAt s ms starts opens i && rest o (i + 1)) (opens-same (getD ms i 99) (markBefore ms i) opens (λ q. a (sym e ∙ sym (mark-at ks i) ∙ q)) (λ q. b (sym e ∙ sym (mark-at ks i) ∙ q)))
 
   no-text : (opens i : ℕ) {m : ℕ} → markAt ks i ≡ m → (m ≡ 4 → ⊥) → rightAt s ms starts opens i ≡ true
-  no-text opens i e c = right-no-text s ms starts opens i (λ q. c (sym e ∙ sym (mark-get ks i) ∙ q))
+  no-text opens i e c = right-no-text s ms starts opens i (λ q. c (sym e ∙ sym (mark-at ks i) ∙ q))
 
   no-comma : (opens i : ℕ) {m : ℕ} → markAt ks i ≡ m → (m ≡ 11 → ⊥) → rightAt s ms starts opens (i + 1) ≡ true
   no-comma opens i e c = right-no-comma s ms starts opens (i + 1) (λ q. c (sym e ∙ sym (before-is i) ∙ q))
@@ -123,12 +124,12 @@ module _ (s kinds starts : List ℕ) where
 
   opens-with : (opens i : ℕ) → kindAt ks i ≡ 9 → rest opens i ≡ rest (4 * opens + digitOf (markBefore ms i - 128)) (i + 1)
   opens-with opens i k =
-      let m : getD ms i 99 ≡ 9 = mark-get ks i ∙ mark-kind ks i k (λ q. omega arith) in
+      let m : getD ms i 99 ≡ 9 = mark-at ks i ∙ mark-kind ks i k (λ q. omega arith) in
       step opens i (at-kind ks i 9 k (omega arith)) ∙ rw (right-no-text s ms starts opens i (λ q. omega (arith, sym m ∙ q)), m)
 
   closes : (opens d i : ℕ) → d < 4 → kindAt ks i ≡ 10 → rest (4 * opens + d) i ≡ rest opens (i + 1)
   closes opens d i h k =
-      let m : getD ms i 99 ≡ 10 = mark-get ks i ∙ mark-kind ks i k (λ q. omega arith) in
+      let m : getD ms i 99 ≡ 10 = mark-at ks i ∙ mark-kind ks i k (λ q. omega arith) in
       step (4 * opens + d) i (at-kind ks i 10 k (omega arith)) ∙ rw (right-no-text s ms starts (4 * opens + d) i (λ q. omega (arith, sym m ∙ q)), m) (ap (λ (o : ℕ). rest o (i + 1)) (opens-back opens d h))
 
   -- ---- the tree
@@ -223,7 +224,7 @@ module _ (s kinds starts : List ℕ) where
       ends n en ej = ⊎-elim (λ x. inl (mark x (λ z. omega arith))) (λ x. inr (mark x (λ z. omega arith))) e
         where
           mark : {k : ℕ} → kindAt ks j ≡ k → (k ≡ 5 → ⊥) → getD ms n 99 ≡ k
-          mark x ne = rw (en ∙ sym ej) (mark-get ks j ∙ mark-kind ks j x ne)
+          mark x ne = rw (en ∙ sym ej) (mark-at ks j ∙ mark-kind ks j x ne)
 
       go : ((markBefore ms i ≡ 9) × (countOf ts ≡ 0)) ⊎ ((markBefore ms i ≡ 11) × (0 < countOf ts)) → Shape ks i t j → rightAt s ms starts (inside c opens) i ≡ laterRight f (countOf ts) t
       go (inl (b, n)) shape = right-no-comma s ms starts (inside c opens) i (λ z. omega arith) ∙ sym (rw n)
@@ -233,7 +234,7 @@ module _ (s kinds starts : List ℕ) where
           longer-right (no z) = other (inside c opens) i z
           longer-right (yes z) =
               let k = rank-kind (kindAt ks (i + 1)) (r z) in
-              let m = mark-get ks (i + 1) ∙ mark-plain ks (i + 1) (λ x _. omega arith) in
+              let m = mark-at ks (i + 1) ∙ mark-plain ks (i + 1) (λ x _. omega arith) in
               right-no-end s ms starts (inside c opens) i (λ x. omega (arith, m, x)) (λ x. omega (arith, m, x))
       go (inr (b, n)) (alone et ej) = alone-right (ℕ-discrete (kindAt ks i) 4) ∙ sym (rw (lt-ltb 0 (countOf ts) n, et))
         where
@@ -241,7 +242,7 @@ module _ (s kinds starts : List ℕ) where
           alone-right (no z) = other (inside c opens) i z ∙ sym (literal-other f (tokenAt ks i) z)
           alone-right (yes z) =
               let token = token-at s kinds starts i 4 (sym (kind-in s kinds starts i) ∙ z) (omega arith) in
-              right-later s ms starts (inside c opens) i (mark-get ks i ∙ mark-kind ks i z (λ x. omega arith)) b (ends (i + 1) refl ej)
+              right-later s ms starts (inside c opens) i (mark-at ks i ∙ mark-kind ks i z (λ x. omega arith)) b (ends (i + 1) refl ej)
               ∙ ap (λ (d : ℕ). patternTest (functionBy d) (stringAt s (getD starts i 0))) (opens-top opens (digitOf f) (digit-small f))
               ∙ digit-test f (stringAt s (getD starts i 0))
               ∙ sym (ap (literalRight f) token)

@@ -2,13 +2,12 @@
 use Prim.Native.Nat.{ℕ, zero, suc, _+_, _-_, _≤_, _<_}
 use native.Mathlib.Omega.{arith}
 use native.Mathlib.Numerals.{add-one}
-use native.Mathlib.Decide.{decLt}
 use mathlib.Core.Path.{_≡_, refl, sym, ap, _∙_}
 use mathlib.Core.Bool.{Bool, true, false, cond, not, _&&_, _||_, or-assoc, or-false}
 use mathlib.Core.List.{List, [], _∷_, _++_, append-nil}
 use lib.Dec.{eqb, leb}
 use lib.ListN.{length, getD, drop, set, length-set, drop-of-length-le, List·getD-eq-default}
-use lib.Seq.{sets, sets-eq, getD-drop, drop-set-lt, drop-drop, drop-cons}
+use lib.Seq.{sets, sets-eq, set-getD, getD-drop, drop-set-lt, drop-drop, drop-cons}
 use borrow.Author.Tests.{eqb-true, ne-eqb, le-leb, lt-leb}
 use Rattle.common.specs.Each.{Each}
 use Rattle.octets.specs.Octets.{sameOf}
@@ -20,6 +19,7 @@ use Rattle.grammar.specs.Judge.{takesPatterns}
 use Rattle.grammar.specs.Nesting.{openAfter, rowAfter, deepFrom, tooDeep}
 use Rattle.grammar.specs.Stream.{tokenOf, tokensIn}
 use Rattle.grammar.specs.Marks.{calling, markAt, marksFrom, marksOf, isOperand}
+use Rattle.grammar.proofs.Marks.{length-marks}
 use Rattle.grammar.proofs.Streams.{within, length-tokens, token-in, kind-in, function-is}
 use Rattle.operands.specs.Patterns.{asksPatterns}
 
@@ -34,31 +34,6 @@ no-operand m h = go (leb 1 m) (lt-leb m 5 h)
     go : (a : Bool) {b : Bool} → b ≡ false → (a && b) ≡ false
     go true e = e
     go false e = refl
-
--- ---- the marks by index, past the last one too
-
-length-from : (ks : List Token) (i n : ℕ) → length (marksFrom ks i n) ≡ n
-unfolding marksFrom
-length-from ks i zero = refl
-length-from ks i (suc n) = ap suc (length-from ks (i + 1) n)
-
-pub length-marks : (ks : List Token) → length (marksOf ks) ≡ length ks
-length-marks ks = length-from ks 0 (length ks)
-
-from-get : (ks : List Token) (i n j : ℕ) → j < n → getD (marksFrom ks i n) j 99 ≡ markAt ks (i + j)
-unfolding marksFrom
-from-get ks i zero j h = absurd (omega arith)
-from-get ks i (suc n) zero h = let e : i ≡ i + 0 = omega arith in ap (markAt ks) e
-from-get ks i (suc n) (suc j) h = let e : i + 1 + j ≡ i + suc j = omega arith in from-get ks (i + 1) n j (omega arith) ∙ ap (markAt ks) e
-
-pub mark-get : (ks : List Token) (i : ℕ) → getD (marksOf ks) i 99 ≡ markAt ks i
-mark-get ks i = go (decLt i (length ks))
-  where
-    go : Dec (i < length ks) → getD (marksOf ks) i 99 ≡ markAt ks i
-    go (yes h) = let e : 0 + i ≡ i = omega arith in from-get ks 0 (length ks) i h ∙ ap (markAt ks) e
-    go (no h) =
-        let out : length (marksOf ks) ≤ i = rw (length-marks ks) (omega arith) in
-        List·getD-eq-default (marksOf ks) 99 out ∙ sym (rw (List·getD-eq-default ks ended {n = i} (omega arith)))
 
 -- ---- a mark by the kinds
 
@@ -204,6 +179,19 @@ module _ {s starts was now : List ℕ} {asks : Bool} {i : ℕ} (g : Marking s st
             ∙ ap (λ (x : List ℕ). asks || asksPatterns x) (sym (next-is in-was))
             ∙ g .asked;
       }
+
+  -- a mark below those of calls is the kind that stands there
+  pub marking-past : {m : ℕ} → i < length now → m ≡ markAt (tokensIn s now starts) i → m < 128 → Marking s starts was now asks (i + 1)
+  marking-past {m} h e l =
+      let k : getD now i 0 ≡ m = go (marked (tokensIn s now starts) i) in
+      let z : m - 128 ≡ 0 = omega arith in
+      let kept : set now i m ≡ now = ap (set now i) (sym k) ∙ set-getD now i 0 in
+      let none : (asks || takesPatterns (m - 128)) ≡ asks = ap (λ (x : ℕ). asks || takesPatterns x) z ∙ or-false asks in
+      rw (kept, none) at (marking-on h e refl refl)
+    where
+      go : Marked (tokensIn s now starts) i → getD now i 0 ≡ m
+      go (plainly q) = sym (within now i 99 0 h) ∙ sym (kind-in s now starts i) ∙ sym q ∙ sym e
+      go (by-call _ q) = absurd (omega (arith, e, q))
 
   nothing-left : length now ≤ i → left s starts was i ≡ []
   unfolding marksFrom

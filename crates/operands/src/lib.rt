@@ -43,7 +43,7 @@ fn mark_at(text: &[u8], kinds: &[u8], starts: &[u16], i: usize) -> u8
 }
 
 // Puts the mark of each token in the place of its kind, and answers whether some function that takes patterns is called.
-// In place, from the front: a mark needs the kinds of its own token and of the next, which are not marked yet.
+// In place, from the front: a mark needs the kinds of its own token and of the next, which are not marked yet. Most marks are the kinds that stand there.
 pub fn mark(text: &[u8], kinds: &mut [u8], starts: &[u16]) -> bool
     ensures { λ r. ⌜ r ≡ asksPatterns (marksOf (tokensIn (now (text .entry)) (now (kinds .entry)) (now (starts .entry)))) ⌝ }
     ensures { λ _. ⌜ now (kinds .exit) ≡ marksOf (tokensIn (now (text .entry)) (now (kinds .entry)) (now (starts .entry))) ⌝ }
@@ -52,6 +52,10 @@ pub fn mark(text: &[u8], kinds: &mut [u8], starts: &[u16]) -> bool
     let mut i = 0;
     while i < kinds.len() {
         let m = mark_at(text, kinds, starts, i);
+        if m < CALLING {
+            i += 1;
+            continue;
+        }
         kinds[i] = m;
         asks = asks | takes_patterns(called(m));
         i += 1;

@@ -3,18 +3,21 @@ use Prim.Native.Nat.{ℕ, _+_, _-_, _*_, _≤_, _<_}
 use native.Mathlib.Omega.{arith}
 use native.Mathlib.Decide.{ℕ-discrete, decLt}
 use mathlib.Core.Path.{_≡_, refl, sym, ap, _∙_, subst}
-use mathlib.Core.Bool.{cond}
+use mathlib.Core.Bool.{Bool, true, false, cond, _||_}
 use mathlib.Core.List.{List}
+use lib.Dec.{leb, ltb}
 use lib.ListN.{length, getD}
 use lib.Seq.{length-sets}
+use borrow.Author.Tests.{ne-eqb, ltb-true, leb-true}
+use Rattle.common.proofs.Choice.{false-true}
 use Rattle.lexer.specs.Kind.{opening, closing, comma, ending}
 use Rattle.lexer.specs.Token.{Token}
-use Rattle.grammar.specs.Tree.{Tree, binary, call, Trees, none, _then_}
-use Rattle.grammar.specs.Grammar.{rank}
+use Rattle.grammar.specs.Tree.{Tree, leaf, binary, call, Trees, none, _then_}
+use Rattle.grammar.specs.Grammar.{rank, isPrefix}
 use Rattle.grammar.specs.Parse.{Result, ok, bad, andThen, tokenAt, kindAt, levelOf, prefixOf, operandOf, argumentsOf}
 use Rattle.grammar.specs.Function.{functionOf}
 use Rattle.grammar.specs.Size.{skips, entriesOf}
-use Rattle.grammar.specs.Marks.{calling}
+use Rattle.grammar.specs.Marks.{calling, isOperand}
 use Rattle.grammar.specs.Code.{codesIn}
 use Rattle.grammar.proofs.Sound.{at-kind, at-rank}
 use Rattle.grammar.proofs.Streams.{rank-high}
@@ -22,14 +25,14 @@ use Rattle.grammar.proofs.Laws.{operator-entries}
 use Rattle.grammar.proofs.Climb.{Spine, spine-start, spine-bad, stops-below, stops-above, spine-broken, spine-on}
 use Rattle.grammar.proofs.Laws.{prefix-plain, operand-group, operand-call, operand-call-none, args-comma, args-close, args-other, args-bad}
 use Rattle.postfix.specs.Marked.{Marked}
-use Rattle.postfix.specs.Packed.{packed, nextIn, endIn, broken, knownOf, noneKnown, markAfter, markBefore, rightStart, binaryPart, binaryCodes, groupPart, morePart, callPart, callCodes}
+use Rattle.postfix.specs.Packed.{packed, nextIn, endIn, broken, knownOf, noneKnown, markAfter, markBefore, rightStart, binaryPart, binaryCodes, groupPart, leafPart, leafCodes, morePart, callPart, callCodes}
 use Rattle.postfix.specs.Answer.{Answered, Run}
 use Rattle.postfix.proofs.Marks.{is-called, is-plain, kind-of, mark-of, same-rank, same-prefix}
 use Rattle.postfix.proofs.Bounds.{Spans, Bounded, Holding, spans-binary, none-held, one-held, bounded-level, bounded-prefix}
 use Rattle.postfix.proofs.Codes.{skip-entries}
 use Rattle.postfix.proofs.Reading.{view-tree, Parts, parts, broken-is, whole-is}
 use Rattle.postfix.proofs.Prefixes.{prefix-within}
-use Rattle.postfix.proofs.Steps.{small, kept, right-starts, binary-answered, group-answered, Args, no-args, args-parts, args-more, before-is, call-closed, call-other, before-broken, call-broken}
+use Rattle.postfix.proofs.Steps.{both, small, kept, leaf-operand, leaf-answered, right-starts, binary-answered, group-answered, Args, no-args, args-parts, args-more, before-is, call-closed, call-other, before-broken, call-broken}
 
 -- ---- a level
 
@@ -276,6 +279,40 @@ module _ {ms : List ℕ} {ks : List Token} (m : Marked ms ks) (few : length ks �
       let w = at-kind ks at opening k (omega arith) in
       let s = small ks (at + 1) i (levelOf ks (at + 1) 0) few (omega arith) (bounded-level ks (at + 1) 0 (omega arith) (omega arith)) in
       rw (operand-group ks at k) (group-answered m (levelOf ks (at + 1) 0) i s h er)
+
+-- a literal or a name that stands first
+module _ {ms : List ℕ} {ks : List Token} (m : Marked ms ks) (at : ℕ) {k : ℕ} (ek : k ≡ getD ms at ending) (o : isOperand k ≡ true) where
+  few-kinds : (1 ≤ k) × (k ≤ 5)
+  few-kinds = both 1 k 5 o
+
+  no-prefix : isPrefix (kindAt ks at) ≡ false
+  no-prefix = sym (same-prefix m at) ∙ ap isPrefix (sym ek) ∙ rw (ne-eqb k 40 (λ q. omega (arith, few-kinds .1)), ne-eqb k 8 (λ q. omega (arith, few-kinds .1)))
+
+  module _ {i r : ℕ} {was now : List ℕ} (er : r ≡ leafPart k at i) (ec : now ≡ leafCodes k i was) where
+    pub leaf-first : Answered (prefixOf ks at) i was now r
+    leaf-first = rw (prefix-plain ks at no-prefix) (leaf-answered m at k ek (omega (arith, few-kinds .1)) i was now r (λ q. omega (arith, few-kinds .1)) er ec)
+
+    -- and nothing of the level follows it
+    pub leaf-alone : (l : ℕ) → length ks ≤ 4096 → i ≤ 2 * at → at ≤ length ks → l ≤ 11 → (ltb (rank (getD ms (at + 1) ending)) l || leb 11 (rank (getD ms (at + 1) ending))) ≡ true
+        → Answered (levelOf ks at l) i was now r
+    leaf-alone l few room within le e = go (ltb (rank next) l) (leb 11 (rank next)) refl refl e
+      where
+        next : ℕ
+        next = getD ms (at + 1) ending
+
+        whole : prefixOf ks at ≡ ok (leaf (tokenAt ks at)) (at + 1)
+        whole = prefix-plain ks at no-prefix ∙ leaf-operand m at k ek (omega (arith, few-kinds .1)) o
+
+        after : next ≡ markAfter ms r
+        after = sym (mark-after m few at l i room (subst (Bounded ks at) whole (bounded-prefix ks at within)) (subst (λ (x : Result). Answered x i was now r) whole leaf-first))
+
+        start : Climbing ks at l i was now r
+        start = climb-start ks at l i le within leaf-first
+
+        go : (a b : Bool) → ltb (rank next) l ≡ a → leb 11 (rank next) ≡ b → (a || b) ≡ true → Answered (levelOf ks at l) i was now r
+        go true b f g q = climb-below m few at l i room start next (rank next) after refl (ltb-true (rank next) l f)
+        go false true f g q = climb-above m few at l i room start next (rank next) after refl (leb-true 11 (rank next) g)
+        go false false f g q = false-true q
 
 pub run-within : {ms : List ℕ} {at first : ℕ} → Run ms at first → at ≤ length ms → first ≤ length ms
 run-within {ms} {at} {first} r h = go (decLt at first)

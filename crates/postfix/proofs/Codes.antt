@@ -61,11 +61,11 @@ mutual
 
 -- ---- runs of stores
 
-set-sets : (ys l : List ℕ) (i j a : ℕ) → i < j → set (sets l j ys) i a ≡ sets (set l i a) j ys
+pub set-sets : (ys l : List ℕ) (i j a : ℕ) → i < j → set (sets l j ys) i a ≡ sets (set l i a) j ys
 set-sets [] l i j a h = refl
 set-sets (y ∷ ys) l i j a h = set-sets ys (set l j y) i (suc j) a (omega arith) ∙ ap (λ (m : List ℕ). sets m (suc j) ys) (set-comm l j i y a (λ e. omega arith))
 
-sets-swap : (xs ys l : List ℕ) (i j : ℕ) → i + length xs ≤ j → sets (sets l j ys) i xs ≡ sets (sets l i xs) j ys
+pub sets-swap : (xs ys l : List ℕ) (i j : ℕ) → i + length xs ≤ j → sets (sets l j ys) i xs ≡ sets (sets l i xs) j ys
 sets-swap [] ys l i j h = refl
 sets-swap (x ∷ xs) ys l i j h = ap (λ (m : List ℕ). sets m (suc i) xs) (set-sets ys l i j x (omega arith)) ∙ sets-swap xs ys (set l i x) (suc i) j (omega arith)
 

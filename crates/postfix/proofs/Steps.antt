@@ -1,5 +1,5 @@
 -- What each part of an expression answers, from what its own parts answer. Assumes nothing.
-use Prim.Native.Nat.{ℕ, _+_, _-_, _*_, _<_, _≤_}
+use Prim.Native.Nat.{ℕ, _+_, _-_, _*_, _<_, _≤_, min, max}
 use native.Mathlib.Omega.{arith}
 use native.Mathlib.Decide.{ℕ-discrete}
 use mathlib.Core.Path.{_≡_, refl, sym, ap, ap₂, _∙_}
@@ -17,13 +17,13 @@ use Rattle.grammar.specs.Tree.{Tree, leaf, group, unary, binary, call, Trees, n
 use Rattle.grammar.specs.Grammar.{isLiteral}
 use Rattle.grammar.specs.Parse.{Result, ok, bad, andThen, tokenAt, kindAt, is, operandOf}
 use Rattle.grammar.specs.Function.{functionOf}
-use Rattle.grammar.specs.Size.{countOf, skips, entriesOf, entriesIn}
+use Rattle.grammar.specs.Size.{countOf, skips, entriesOf, entriesIn, depthOf, depthIn}
 use Rattle.grammar.specs.Judge.{formOf, firstOf, laterTexts, formsRight, isLogic, kindsRight}
 use Rattle.grammar.specs.Marks.{calling, isOperand}
 use Rattle.grammar.specs.Code.{code, skipCodes, callCode, codesOf, codesIn}
 use Rattle.grammar.proofs.Laws.{operand-literal, operand-name, operand-other}
 use Rattle.postfix.specs.Marked.{Marked}
-use Rattle.postfix.specs.Packed.{packed, nextIn, endIn, knownIn, countBits, broken, brokenAt, knownOf, argsKnown, argsPart, unaryKnown, binaryKnown, groupKnown, leafKnown, noneKnown, moreKnown, callKnown, markBefore, unaryPart, unaryCodes, rightStart, binaryPart, binaryCodes, groupPart, leafPart, leafCodes, morePart, callPart, callCodes}
+use Rattle.postfix.specs.Packed.{packed, nextIn, endIn, knownIn, countedTo, countBits, broken, brokenAt, knownOf, argsKnown, argsPart, unaryKnown, binaryKnown, groupKnown, leafKnown, noneKnown, moreKnown, callKnown, markBefore, unaryPart, unaryCodes, rightStart, binaryPart, binaryCodes, groupPart, leafPart, leafCodes, morePart, callPart, callCodes}
 use Rattle.postfix.specs.Answer.{Answered}
 use Rattle.postfix.proofs.Forms.{form-back}
 use Rattle.postfix.proofs.Marks.{is-plain, kind-of, mark-of}
@@ -34,12 +34,15 @@ use Rattle.postfix.proofs.Reading.{view-tree, view-args, Parts, parts, 
 packed-eq : {n m e d f g : ℕ} → n ≡ m → e ≡ d → f ≡ g → packed n e f ≡ packed m d g
 packed-eq p q r = rw (p, q, r)
 
-both : (a k b : ℕ) → (leb a k && leb k b) ≡ true → (a ≤ k) × (k ≤ b)
-both a k b e = let p = and-true (leb a k) (leb k b) e in (leb-true a k (p .0), leb-true k b (p .1))
+pub and-true : {x y : Bool} → (x && y) ≡ true → (x ≡ true) × (y ≡ true)
+and-true {x} {y} = go x
   where
-    and-true : (x y : Bool) → (x && y) ≡ true → (x ≡ true) × (y ≡ true)
-    and-true true y q = (refl, q)
-    and-true false y q = false-true q
+    go : (b : Bool) → (b && y) ≡ true → (b ≡ true) × (y ≡ true)
+    go true q = (refl, q)
+    go false q = false-true q
+
+pub both : (a k b : ℕ) → (leb a k && leb k b) ≡ true → (a ≤ k) × (k ≤ b)
+both a k b e = let p = and-true e in (leb-true a k (p .0), leb-true k b (p .1))
 
 -- what is no operand is no literal
 no-literal : (k : ℕ) → isOperand k ≡ false → isLiteral k ≡ false
@@ -66,39 +69,46 @@ kept (bad p) h = h .leaves
 -- ---- what is known
 
 known-unary : (k : ℕ) (t : Tree) → unaryKnown k (knownOf t) ≡ knownOf (unary k t)
-unfolding isLogic formsRight kindsRight
-known-unary k t = let v = view-tree t in rw (v .logic-is, v .forms-is, v .kinds-is)
+unfolding isLogic formsRight kindsRight depthOf
+known-unary k t = let v = view-tree t in rw (v .logic-is, v .forms-is, v .kinds-is, v .depth-is)
+
+-- slots counted up to 63, of two sides and of one argument more
+depth-two : (a b : ℕ) → max (countedTo a) (countedTo (countedTo b + 1)) ≡ countedTo (max a (b + 1))
+depth-two a b = omega arith
+
+depth-more : (a n b : ℕ) → max (countedTo a) (countedTo (n + countedTo b)) ≡ countedTo (max a (n + b))
+depth-more a n b = omega arith
 
 known-binary : (k : ℕ) (t u : Tree) → binaryKnown k (knownOf t) (knownOf u) ≡ knownOf (binary k t u)
-unfolding isLogic formsRight kindsRight
+unfolding isLogic formsRight kindsRight depthOf
 known-binary k t u =
     let v = view-tree t in
     let w = view-tree u in
-    rw (v .logic-is, v .forms-is, v .kinds-is, w .logic-is, w .forms-is, w .kinds-is)
+    rw (v .logic-is, v .forms-is, v .kinds-is, w .logic-is, w .forms-is, w .kinds-is, v .depth-is, w .depth-is, depth-two (depthOf t) (depthOf u))
 
 known-group : (t : Tree) → groupKnown (knownOf t) ≡ knownOf (group t)
-unfolding isLogic formsRight kindsRight
-known-group t = let v = view-tree t in rw (v .logic-is, v .forms-is, v .kinds-is)
+unfolding isLogic formsRight kindsRight depthOf
+known-group t = let v = view-tree t in rw (v .logic-is, v .forms-is, v .kinds-is, v .depth-is)
 
 known-leaf : (x : Token) → leafKnown (kindOf x) ≡ knownOf (leaf x)
-unfolding isLogic formsRight kindsRight
+unfolding isLogic formsRight kindsRight depthOf
 known-leaf x = refl
 
 known-more : (ts : Trees) (t : Tree) → countOf ts < 65536 → moreKnown (argsKnown ts) (knownOf t) ≡ argsKnown (_then_ ts t)
-unfolding formsRight kindsRight countOf firstOf laterTexts
+unfolding formsRight kindsRight countOf firstOf laterTexts depthOf
 known-more none t h =
     let v = view-tree t in
-    rw (v .logic-is, v .forms-is, v .kinds-is, v .form-is)
+    rw (v .logic-is, v .forms-is, v .kinds-is, v .form-is, v .depth-is, ← (depth-more 1 0 (depthOf t)))
 known-more (_then_ ts u) t h =
     let v = view-tree t in
     let a = view-args (_then_ ts u) h in
-    rw (v .logic-is, v .forms-is, v .kinds-is, v .form-is, a .logic-is, a .forms-is, a .kinds-is, a .form-is, a .count-is, form-back (formOf t), ne-eqb (countOf ts + 1) 0 (λ e. omega arith))
+    rw (v .logic-is, v .forms-is, v .kinds-is, v .form-is, a .logic-is, a .forms-is, a .kinds-is, a .form-is, a .count-is, form-back (formOf t), v .depth-is, a .depth-is, depth-more (depthIn (_then_ ts u)) (countOf ts + 1) (depthOf t), ne-eqb (countOf ts + 1) 0 (λ e. omega arith))
 
 known-call : (x : Token) (ts : Trees) → countOf ts < 65536 → callKnown (functionOf x) (argsKnown ts) ≡ knownOf (call x ts)
-unfolding isLogic formsRight kindsRight
+unfolding isLogic formsRight kindsRight depthOf
 known-call x ts h =
     let a = view-args ts h in
-    rw (a .logic-is, a .forms-is, a .kinds-is, a .form-is, a .count-is, form-back (firstOf ts))
+    rw (a .logic-is, a .forms-is, a .kinds-is, a .form-is, a .count-is, a .depth-is, form-back (firstOf ts))
 
 -- ---- a prefix operator
 
@@ -191,25 +201,31 @@ leaf-whole x at i k {was} {now} {r} ek o er ec =
 leaf-none : (at i k : ℕ) {was now : List ℕ} {r : ℕ} → isOperand k ≡ false → r ≡ leafPart k at i → now ≡ leafCodes k i was → Answered (bad at) i was now r
 leaf-none at i k o er ec = record { is = er ∙ rw o; leaves = ap length ec ∙ rw o }
 
-module _ {ms : List ℕ} {ks : List Token} (m : Marked ms ks) (at i : ℕ) (was now : List ℕ) (k r : ℕ) (ek : k ≡ getD ms at ending) (low : k < calling) (shut : k ≡ opening → ⊥)
-    (er : r ≡ leafPart k at i) (ec : now ≡ leafCodes k i was) where
+module _ {ms : List ℕ} {ks : List Token} (m : Marked ms ks) (at k : ℕ) (ek : k ≡ getD ms at ending) (low : k < calling) where
   kind : kindAt ks at ≡ k
   kind = is-plain m at (omega arith) .0 ∙ sym ek
 
-  pub leaf-answered : Answered (operandOf ks at) i was now r
-  leaf-answered = go (isOperand k) refl (ℕ-discrete k naming)
+  pub leaf-operand : isOperand k ≡ true → operandOf ks at ≡ ok (leaf (tokenAt ks at)) (at + 1)
+  leaf-operand o = go (ℕ-discrete k naming)
     where
-      literal : isOperand k ≡ true → (k ≡ naming → ⊥) → isLiteral (kindAt ks at) ≡ true
-      literal o ne = let b = both 1 k 5 o in rw (kind, le-leb 1 k (b .0), le-leb k 4 (omega (arith, b .1)))
+      literal : (k ≡ naming → ⊥) → isLiteral (kindAt ks at) ≡ true
+      literal ne = let b = both 1 k 5 o in rw (kind, le-leb 1 k (b .0), le-leb k 4 (omega (arith, b .1)))
 
-      other : isOperand k ≡ false → isLiteral (kindAt ks at) ≡ false
-      other o = ap isLiteral kind ∙ no-literal k o
+      go : Dec (k ≡ naming) → operandOf ks at ≡ ok (leaf (tokenAt ks at)) (at + 1)
+      go (yes e) = operand-name ks at (kind ∙ e) (is-plain m at (omega arith) .1 (kind ∙ e))
+      go (no e) = operand-literal ks at (literal e)
 
-      go : (b : Bool) → isOperand k ≡ b → Dec (k ≡ naming) → Answered (operandOf ks at) i was now r
-      go true o (yes e) = rw (operand-name ks at (kind ∙ e) (is-plain m at (omega arith) .1 (kind ∙ e))) (leaf-whole (tokenAt ks at) at i k kind o er ec)
-      go true o (no e) = rw (operand-literal ks at (literal o e)) (leaf-whole (tokenAt ks at) at i k kind o er ec)
-      go false o (yes e) = false-true (sym o ∙ rw e)
-      go false o (no e) = rw (operand-other ks at (other o) (λ q. e (sym kind ∙ q)) (λ q. shut (sym kind ∙ q))) (leaf-none at i k o er ec)
+  module _ (i : ℕ) (was now : List ℕ) (r : ℕ) (shut : k ≡ opening → ⊥) (er : r ≡ leafPart k at i) (ec : now ≡ leafCodes k i was) where
+    pub leaf-answered : Answered (operandOf ks at) i was now r
+    leaf-answered = go (isOperand k) refl (ℕ-discrete k naming)
+      where
+        other : isOperand k ≡ false → isLiteral (kindAt ks at) ≡ false
+        other o = ap isLiteral kind ∙ no-literal k o
+
+        go : (b : Bool) → isOperand k ≡ b → Dec (k ≡ naming) → Answered (operandOf ks at) i was now r
+        go true o e = rw (leaf-operand o) (leaf-whole (tokenAt ks at) at i k kind o er ec)
+        go false o (yes e) = false-true (sym o ∙ rw e)
+        go false o (no e) = rw (operand-other ks at (other o) (λ q. e (sym kind ∙ q)) (λ q. shut (sym kind ∙ q))) (leaf-none at i k o er ec)
 
 -- ---- arguments and calls
 
@@ -222,7 +238,7 @@ pub record Args (ts : Trees) (n i : ℕ) (was now : List ℕ) (a : ℕ) : Type 0
   pub count : countOf ts < 65536
 
 pub no-args : (n i : ℕ) (was : List ℕ) {a : ℕ} → n < 65536 → i < 65536 → a ≡ packed n i noneKnown → Args none n i was was a
-unfolding entriesOf codesOf countOf firstOf laterTexts formsRight kindsRight
+unfolding entriesOf codesOf countOf firstOf laterTexts formsRight kindsRight depthOf
 no-args n i was hn hi e =
     let z : i ≡ i + 0 = omega arith in
     record { is = e ∙ ap (λ (y : ℕ). packed n y noneKnown) z; leaves = refl; next = hn; end = omega arith; count = omega arith }

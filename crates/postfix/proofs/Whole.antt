@@ -34,7 +34,7 @@ module _ (ks : List Token) (few : length ks ≤ 4096) {was now : List ℕ} (x : 
     all q =
         let v = view-tree t in
         let e : entriesOf t ≡ endIn x = omega (arith, p .end-is) in
-        (er ∙ rw (w, eq-eqb (nextIn x) (length ks) (p .next-is ∙ q), p .known-is, v .logic-is, v .forms-is, v .kinds-is, e), h .leaves)
+        (er ∙ rw (w, eq-eqb (nextIn x) (length ks) (p .next-is ∙ q), p .known-is, v .logic-is, v .forms-is, v .kinds-is, v .depth-is, e), h .leaves)
 
     part : (j ≡ length ks → ⊥) → Told (bad j) was now r
     part ne = (er ∙ rw (w, ne-eqb (nextIn x) (length ks) (λ q. ne (sym (p .next-is) ∙ q)), p .next-is), kept (ok t j) h)

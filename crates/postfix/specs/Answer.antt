@@ -11,18 +11,18 @@ use Rattle.lexer.specs.Token.{Token}
 use Rattle.grammar.specs.Tree.{Tree}
 use Rattle.grammar.specs.Grammar.{isPrefix}
 use Rattle.grammar.specs.Parse.{Result, ok, bad, prefixOf, parseAll}
-use Rattle.grammar.specs.Size.{entriesOf}
+use Rattle.grammar.specs.Size.{entriesOf, depthOf}
 use Rattle.grammar.specs.Judge.{isLogic, formsRight, kindsRight}
 use Rattle.grammar.specs.Code.{codesOf}
 use Rattle.postfix.specs.Marked.{Marked}
-use Rattle.postfix.specs.Packed.{nextIn, endIn, knownIn, logicBit, formsBit, kindsBit, broken, partOf}
+use Rattle.postfix.specs.Packed.{nextIn, endIn, knownIn, countedTo, logicBit, formsBit, kindsBit, depthBits, broken, partOf}
 use Rattle.postfix.specs.declared.Judged.{Judged}
 use Rattle.postfix.specs.declared.Parsed.{Parsed}
 use Rattle.postfix.specs.declared.Parsed.the-variants.{Whole, Broken}
 
--- how many entries, whether it is logic, and whether the refusals 4 and 5 do not apply
+-- how many entries, whether it is logic, whether the refusals 4 and 5 do not apply, and how many slots it holds at once, up to 63
 abbrev pub judgedOf : Tree → Judged
-judgedOf t = record { entries = entriesOf t; logic = isLogic t; forms = formsRight t; kinds = kindsRight t }
+judgedOf t = record { entries = entriesOf t; logic = isLogic t; forms = formsRight t; kinds = kindsRight t; depth = countedTo (depthOf t) }
 
 abbrev pub answerOf : Result → Parsed
 answerOf (ok t n) = Whole (judgedOf t)
@@ -62,7 +62,7 @@ pub record Run (marks : List ℕ) (at first : ℕ) : Type 0 where
 abbrev pub readBy : ℕ → ℕ → Parsed
 readBy n x =
     cond (broken x || not (eqb (nextIn x) n)) (Broken (nextIn x))
-    (Whole (record { entries = endIn x; logic = logicBit (knownIn x); forms = formsBit (knownIn x); kinds = kindsBit (knownIn x) }))
+    (Whole (record { entries = endIn x; logic = logicBit (knownIn x); forms = formsBit (knownIn x); kinds = kindsBit (knownIn x); depth = depthBits (knownIn x) }))
 
 -- ---- the promises
 

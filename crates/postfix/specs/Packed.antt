@@ -1,14 +1,15 @@
 -- The answer of a step of the parser in one number: the next token, the next code, and what is known of the expression.
-use Prim.Native.Nat.{ℕ, _+_, _-_, _*_, _/_, _%_}
-use mathlib.Core.Bool.{Bool, true, false, cond, not, _&&_}
+use Prim.Native.Nat.{ℕ, _+_, _-_, _*_, _/_, _%_, min, max}
+use mathlib.Core.Bool.{Bool, true, false, cond, not, _&&_, _||_}
 use mathlib.Core.List.{List, [], _∷_}
-use lib.Dec.{eqb}
+use lib.Dec.{eqb, leb, ltb}
 use lib.ListN.{getD}
 use lib.Seq.{sets}
 use Rattle.lexer.specs.Kind.{closing, ending}
 use Rattle.grammar.specs.Tree.{Tree, Trees}
+use Rattle.grammar.specs.Grammar.{rank}
 use Rattle.grammar.specs.Parse.{Result, ok, bad}
-use Rattle.grammar.specs.Size.{countOf, skips, entriesOf, entriesIn}
+use Rattle.grammar.specs.Size.{countOf, skips, entriesOf, entriesIn, depthOf, depthIn}
 use Rattle.grammar.specs.Judge.{Form, Name, Text, FoldCase, Other, leafForm, callForm, formOf, isText, firstOf, laterTexts, callRight, formsRight, formsIn, givesLogic, takesLogic, isLogic, agrees, kindsRight, kindsIn}
 use Rattle.grammar.specs.Marks.{calling, isOperand}
 use Rattle.grammar.specs.Code.{code, skipCodes, callCode}
@@ -27,7 +28,7 @@ endIn x = x / 65536 % 65536
 abbrev pub knownIn : ℕ → ℕ
 knownIn x = x / 4294967296
 
--- ---- what is known: whether it is logic, whether the refusals 4 and 5 do not apply, and its form as an argument
+-- ---- what is known: whether it is logic, whether the refusals 4 and 5 do not apply, its form as an argument, and the slots that it holds
 
 abbrev pub bit : Bool → ℕ
 bit b = cond b 1 0
@@ -41,8 +42,12 @@ formNumber Other = 0
 abbrev pub formIn : ℕ → Form
 formIn n = cond (eqb n 1) Name (cond (eqb n 2) Text (cond (eqb n 3) FoldCase Other))
 
-abbrev pub know : Bool → Bool → Bool → ℕ → ℕ
-know logic forms kinds form = bit logic + 2 * bit forms + 4 * bit kinds + 8 * form
+-- the slots that an expression holds at once are counted up to 63: refusal 8 asks whether they are over 32
+abbrev pub countedTo : ℕ → ℕ
+countedTo n = min n 63
+
+abbrev pub know : Bool → Bool → Bool → ℕ → ℕ → ℕ
+know logic forms kinds form depth = bit logic + 2 * bit forms + 4 * bit kinds + 8 * form + 16777216 * depth
 
 abbrev pub logicBit : ℕ → Bool
 logicBit f = eqb (f % 2) 1
@@ -59,6 +64,9 @@ formBits f = f / 8 % 4
 abbrev pub brokenBit : ℕ → Bool
 brokenBit f = eqb (f / 128 % 2) 1
 
+abbrev pub depthBits : ℕ → ℕ
+depthBits f = f / 16777216 % 64
+
 -- of arguments: their number
 abbrev pub countBits : ℕ → ℕ
 countBits f = f / 256 % 65536
@@ -72,7 +80,7 @@ abbrev pub brokenAt : ℕ → ℕ
 brokenAt p = packed p 0 128
 
 abbrev pub knownOf : Tree → ℕ
-knownOf t = know (isLogic t) (formsRight t) (kindsRight t) (formNumber (formOf t))
+knownOf t = know (isLogic t) (formsRight t) (kindsRight t) (formNumber (formOf t)) (countedTo (depthOf t))
 
 abbrev pub partOf : Result → ℕ → ℕ
 partOf (ok t n) i = packed n (i + entriesOf t) (knownOf t)
@@ -80,7 +88,7 @@ partOf (bad p) i = brokenAt p
 
 -- the bit of logic tells of arguments whether all but the first are string literals, and the form is the first one's
 abbrev pub argsKnown : Trees → ℕ
-argsKnown ts = know (laterTexts ts) (formsIn ts) (kindsIn ts) (formNumber (firstOf ts)) + 256 * countOf ts
+argsKnown ts = know (laterTexts ts) (formsIn ts) (kindsIn ts) (formNumber (firstOf ts)) (countedTo (depthIn ts)) + 256 * countOf ts
 
 abbrev pub argsPart : Trees → ℕ → ℕ → ℕ
 argsPart ts n i = packed n (i + entriesIn ts) (argsKnown ts)
@@ -88,31 +96,33 @@ argsPart ts n i = packed n (i + entriesIn ts) (argsKnown ts)
 -- ---- what is known of an expression from what is known of its parts
 
 abbrev pub unaryKnown : ℕ → ℕ → ℕ
-unaryKnown k f = know (givesLogic k) (formsBit f) (kindsBit f && agrees (takesLogic k) (logicBit f)) 0
+unaryKnown k f = know (givesLogic k) (formsBit f) (kindsBit f && agrees (takesLogic k) (logicBit f)) 0 (depthBits f)
 
 abbrev pub binaryKnown : ℕ → ℕ → ℕ → ℕ
 binaryKnown k f g =
     know (givesLogic k) (formsBit f && formsBit g) ((kindsBit f && agrees (takesLogic k) (logicBit f)) && (kindsBit g && agrees (takesLogic k) (logicBit g))) 0
+    (max (depthBits f) (countedTo (depthBits g + 1)))
 
 -- "names and literals asked for take no own parentheses"
 abbrev pub groupKnown : ℕ → ℕ
-groupKnown f = know (logicBit f) (formsBit f) (kindsBit f) 0
+groupKnown f = know (logicBit f) (formsBit f) (kindsBit f) 0 (depthBits f)
 
 abbrev pub leafKnown : ℕ → ℕ
-leafKnown k = know false true true (formNumber (leafForm k))
+leafKnown k = know false true true (formNumber (leafForm k)) 1
 
 abbrev pub noneKnown : ℕ
-noneKnown = know true true true 0
+noneKnown = know true true true 0 1
 
 abbrev pub moreKnown : ℕ → ℕ → ℕ
 moreKnown a f =
     know (cond (eqb (countBits a) 0) true (logicBit a && isText (formIn (formBits f)))) (formsBit a && formsBit f)
     (kindsBit a && (kindsBit f && not (logicBit f))) (cond (eqb (countBits a) 0) (formBits f) (formBits a))
+    (max (depthBits a) (countedTo (countBits a + depthBits f)))
     + 256 * (countBits a + 1)
 
 abbrev pub callKnown : ℕ → ℕ → ℕ
 callKnown f a =
-    know (givesLogic f) (formsBit a && callRight f (formIn (formBits a)) (countBits a) (logicBit a)) (kindsBit a) (formNumber (callForm f))
+    know (givesLogic f) (formsBit a && callRight f (formIn (formBits a)) (countBits a) (logicBit a)) (kindsBit a) (formNumber (callForm f)) (depthBits a)
 
 -- ---- the same of the numbers, and the codes that are left
 
@@ -122,6 +132,10 @@ markAfter ms x = cond (broken x) ending (getD ms (nextIn x) ending)
 
 abbrev pub markBefore : List ℕ → ℕ → ℕ
 markBefore ms x = cond (broken x) ending (getD ms (nextIn x - 1) ending)
+
+-- whether the mark at a place is a literal's or a name's, and no operator of the level l or a tighter one comes after it
+abbrev pub aloneIn : List ℕ → ℕ → ℕ → Bool
+aloneIn ms at l = isOperand (getD ms at ending) && (ltb (rank (getD ms (at + 1) ending)) l || leb 11 (rank (getD ms (at + 1) ending)))
 
 abbrev pub unaryPart : ℕ → ℕ → ℕ
 unaryPart k x = cond (broken x) x (packed (nextIn x) (endIn x + 1) (unaryKnown k (knownIn x)))

@@ -12,12 +12,13 @@ mod mark;
 mod packed;
 mod part;
 
-// How many entries the code has, whether the expression is logic, and whether the refusals 4 and 5 do not apply.
+// How many entries the code has, whether the expression is logic, whether the refusals 4 and 5 do not apply, and how many slots it holds at once, up to 63.
 pub struct Judged {
     pub entries: usize,
     pub logic: bool,
     pub forms: bool,
     pub kinds: bool,
+    pub depth: usize,
 }
 
 pub enum Parsed {
@@ -31,7 +32,7 @@ fn level(marks: &[u8], codes: &mut [u16], at: usize, l: u8, i: usize) -> u64
     requires { ⌜ Ready (now marks) at i × (l ≤ 11) ⌝ }
     ensures { λ r. ⌜ Tells (now (marks .entry)) (λ ks. levelOf ks at l) i (now (codes .entry)) (now (codes .exit)) r ⌝ }
 {
-    let mut left = prefix(marks, codes, at, i);
+    let mut left = first(marks, codes, at, i);
     loop {
         let k = mark::after(marks, left);
         let r = mark::rank(k);
@@ -52,15 +53,30 @@ fn level(marks: &[u8], codes: &mut [u16], at: usize, l: u8, i: usize) -> u64
     }
 }
 
-// The right side of an operator. The tightest level has no operators, so it takes no frame of the recursion.
+// The right side of an operator. Most are a literal or a name that no operator of the level follows, and the tightest level has no operators: these take no frame of the recursion.
 fn tighter(marks: &[u8], codes: &mut [u16], at: usize, l: u8, i: usize) -> u64
     requires { ⌜ Ready (now marks) at i × (l ≤ 11) ⌝ }
     ensures { λ r. ⌜ Tells (now (marks .entry)) (λ ks. levelOf ks at l) i (now (codes .entry)) (now (codes .exit)) r ⌝ }
 {
+    if mark::alone(marks, at, l) {
+        return part::leaf(codes, stream::kind(marks, at), at, i);
+    }
     if l == 11 {
         return prefix(marks, codes, at, i);
     }
     level(marks, codes, at, l, i)
+}
+
+// What stands first on a level. Most often it is a literal or a name.
+fn first(marks: &[u8], codes: &mut [u16], at: usize, i: usize) -> u64
+    requires { ⌜ Ready (now marks) at i ⌝ }
+    ensures { λ r. ⌜ Tells (now (marks .entry)) (λ ks. prefixOf ks at) i (now (codes .entry)) (now (codes .exit)) r ⌝ }
+{
+    let m = stream::kind(marks, at);
+    if mark::is_leaf(m) {
+        return part::leaf(codes, m, at, i);
+    }
+    prefix(marks, codes, at, i)
 }
 
 // "`!` and `~` (prefix, on what follows directly)": a run of them is a loop.
@@ -122,6 +138,7 @@ fn answer(n: usize, x: u64) -> Parsed
         logic: packed::logic(f),
         forms: packed::forms(f),
         kinds: packed::kinds(f),
+        depth: packed::depth(f) as usize,
     })
 }
 

@@ -4,7 +4,8 @@ ghost use Prim.Native.Nat.{_≤_, _-_};
 ghost use lib.ListN.{length, getD};
 ghost use Rattle.lexer.specs.Kind.{ending};
 ghost use Rattle.grammar.specs.Grammar.{rank as rankOf};
-ghost use Rattle.postfix.specs.Packed.{markAfter, markBefore, functionIn};
+ghost use Rattle.grammar.specs.Marks.{isOperand};
+ghost use Rattle.postfix.specs.Packed.{markAfter, markBefore, functionIn, aloneIn};
 ghost use Rattle.postfix.specs.Answer.{Run};
 use crate::packed;
 use grammar::stream;
@@ -74,6 +75,22 @@ pub fn rank(m: u8) -> u8
         43 => 0,
         _ => 11,
     }
+}
+
+// Whether it is a literal, or a name that is not called.
+pub fn is_leaf(m: u8) -> bool
+    ensures { λ r. ⌜ r ≡ isOperand m ⌝ }
+{
+    (lexer::INT32 <= m) & (m <= lexer::NAME)
+}
+
+// Whether such a token stands at `at` with no operator of the level l or a tighter one after it.
+pub fn alone(marks: &[u8], at: usize, l: u8) -> bool
+    requires { ⌜ at ≤ 4096 ⌝ }
+    ensures { λ r. ⌜ r ≡ aloneIn (now (marks .entry)) at l ⌝ }
+{
+    let r = rank(stream::kind(marks, at + 1));
+    is_leaf(stream::kind(marks, at)) & ((r < l) | (11 <= r))
 }
 
 // The first token from `i` on that is no prefix operator.

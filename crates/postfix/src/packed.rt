@@ -1,7 +1,7 @@
 // The answer of a step of the parser in one number, since what is answered so takes no room in the frames of the recursion.
 ghost use mathlib.Core.Path.{_≡_};
-ghost use Prim.Native.Nat.{_<_, _≤_};
-ghost use Rattle.postfix.specs.Packed.{packed, nextIn, endIn, knownIn, bit, know, logicBit, formsBit, kindsBit, formBits, countBits, brokenAt};
+ghost use Prim.Native.Nat.{_<_, _≤_, max};
+ghost use Rattle.postfix.specs.Packed.{packed, nextIn, endIn, knownIn, bit, know, logicBit, formsBit, kindsBit, formBits, depthBits, countBits, countedTo, brokenAt};
 ghost use Rattle.postfix.specs.Packed.{broken as brokenIn};
 
 fn wide(x: usize) -> u64
@@ -11,7 +11,7 @@ fn wide(x: usize) -> u64
 }
 
 pub fn pack(next: usize, end: usize, known: u64) -> u64
-    requires { ⌜ (next ≤ 65536) × (end ≤ 65536) × (known ≤ 33554432) ⌝ }
+    requires { ⌜ (next ≤ 65536) × (end ≤ 65536) × (known ≤ 2147483648) ⌝ }
     ensures { λ r. ⌜ r ≡ packed next end known ⌝ }
 {
     wide(next) + 65536 * (wide(end) + 65536 * known)
@@ -65,12 +65,28 @@ fn bit_of(b: bool) -> u64
     if b { 1 } else { 0 }
 }
 
-// What is known of an expression, in one number, and the parts of that: whether it is logic, whether the refusals 4 and 5 do not apply, its form, and of arguments their number.
-pub fn knowing(logic: bool, forms: bool, kinds: bool, form: u64) -> u64
-    requires { ⌜ form < 4 ⌝ }
-    ensures { λ r. ⌜ (r ≡ know logic forms kinds form) × (r < 32) ⌝ }
+// What is known of an expression, in one number, and the parts of that: whether it is logic, whether the refusals 4 and 5 do not apply, its form, how many slots it holds at once, and of arguments their number.
+pub fn knowing(logic: bool, forms: bool, kinds: bool, form: u64, depth: u64) -> u64
+    requires { ⌜ (form < 4) × (depth < 64) ⌝ }
+    ensures { λ r. ⌜ (r ≡ know logic forms kinds form depth) × (r < 1073741824) ⌝ }
 {
-    bit_of(logic) + 2 * bit_of(forms) + 4 * bit_of(kinds) + 8 * form
+    bit_of(logic) + 2 * bit_of(forms) + 4 * bit_of(kinds) + 8 * form + 16777216 * depth
+}
+
+// Slots are counted up to 63: more than 32 are refused.
+fn counted(n: u64) -> u64
+    ensures { λ r. ⌜ (r ≡ countedTo n) × (r < 64) ⌝ }
+{
+    if n < 63 { n } else { 63 }
+}
+
+// The larger of two counts of slots.
+pub fn deeper(a: u64, b: u64) -> u64
+    requires { ⌜ a < 64 ⌝ }
+    ensures { λ r. ⌜ (r ≡ max a (countedTo b)) × (r < 64) ⌝ }
+{
+    let most = counted(b);
+    if a < most { most } else { a }
 }
 
 pub fn logic(f: u64) -> bool
@@ -95,6 +111,12 @@ pub fn form(f: u64) -> u64
     ensures { λ r. ⌜ (r ≡ formBits f) × (r < 4) ⌝ }
 {
     f / 8 % 4
+}
+
+pub fn depth(f: u64) -> u64
+    ensures { λ r. ⌜ (r ≡ depthBits f) × (r < 64) ⌝ }
+{
+    f / 16777216 % 64
 }
 
 pub fn count(f: u64) -> u64

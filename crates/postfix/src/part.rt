@@ -7,7 +7,6 @@ ghost use lib.ListN.{set};
 ghost use lib.Seq.{sets};
 ghost use Rattle.grammar.specs.Size.{skips};
 ghost use Rattle.grammar.specs.Judge.{leafForm, callForm, isName, isText, isFolding, callRight, givesLogic, takesLogic, agrees};
-ghost use Rattle.grammar.specs.Marks.{isOperand};
 ghost use Rattle.grammar.specs.Code.{code, skipCodes, callCode};
 ghost use Rattle.postfix.specs.Packed.{packed, formNumber, formIn, countBits, unaryKnown, binaryKnown, groupKnown, noneKnown, moreKnown, callKnown, unaryPart, unaryCodes, rightStart, binaryPart, binaryCodes, groupPart, leafPart, leafCodes, morePart, callPart, callCodes};
 ghost use Rattle.postfix.specs.Answer.{Wraps};
@@ -50,10 +49,16 @@ fn operand_right(k: u8, logic: bool) -> bool
 }
 
 fn unary_known(k: u8, f: u64) -> u64
-    ensures { λ r. ⌜ (r ≡ unaryKnown k f) × (r < 32) ⌝ }
+    ensures { λ r. ⌜ (r ≡ unaryKnown k f) × (r < 1073741824) ⌝ }
 {
     let kinds = packed::kinds(f) & operand_right(k, packed::logic(f));
-    packed::knowing(gives_logic(k), packed::forms(f), kinds, packed::OTHER)
+    packed::knowing(
+        gives_logic(k),
+        packed::forms(f),
+        kinds,
+        packed::OTHER,
+        packed::depth(f),
+    )
 }
 
 // A prefix operator on an expression.
@@ -113,7 +118,7 @@ fn leave_skip(codes: &mut [u16], k: u8, end: usize, n: usize)
 }
 
 fn binary_known(k: u8, f: u64, g: u64) -> u64
-    ensures { λ r. ⌜ (r ≡ binaryKnown k f g) × (r < 32) ⌝ }
+    ensures { λ r. ⌜ (r ≡ binaryKnown k f g) × (r < 1073741824) ⌝ }
 {
     let left = packed::kinds(f) & operand_right(k, packed::logic(f));
     let right = packed::kinds(g) & operand_right(k, packed::logic(g));
@@ -122,6 +127,7 @@ fn binary_known(k: u8, f: u64, g: u64) -> u64
         packed::forms(f) & packed::forms(g),
         left & right,
         packed::OTHER,
+        packed::deeper(packed::depth(f), packed::depth(g) + 1),
     )
 }
 
@@ -147,10 +153,16 @@ pub fn binary(codes: &mut [u16], k: u8, x: u64, y: u64) -> u64
 
 // "names and literals asked for take no own parentheses"
 fn group_known(f: u64) -> u64
-    ensures { λ r. ⌜ (r ≡ groupKnown f) × (r < 32) ⌝ }
+    ensures { λ r. ⌜ (r ≡ groupKnown f) × (r < 1073741824) ⌝ }
 {
-    let logic = packed::logic(f);
-    packed::knowing(logic, packed::forms(f), packed::kinds(f), packed::OTHER)
+    let form = packed::OTHER;
+    packed::knowing(
+        packed::logic(f),
+        packed::forms(f),
+        packed::kinds(f),
+        form,
+        packed::depth(f),
+    )
 }
 
 // A parenthesised expression, if a `)` follows it.
@@ -179,25 +191,19 @@ fn leaf_form(k: u8) -> u64
     packed::OTHER
 }
 
-fn is_leaf(k: u8) -> bool
-    ensures { λ r. ⌜ r ≡ isOperand k ⌝ }
-{
-    (lexer::INT32 <= k) & (k <= lexer::NAME)
-}
-
 // A literal or a name that is not called.
 pub fn leaf(codes: &mut [u16], k: u8, at: usize, i: usize) -> u64
     requires { ⌜ (at < 65536) × (i < 65536) ⌝ }
     ensures { λ r. ⌜ (r ≡ leafPart k at i) × (now (codes .exit) ≡ leafCodes k i (now (codes .entry))) ⌝ }
 {
-    if !is_leaf(k) {
+    if !mark::is_leaf(k) {
         return packed::broken_at(at);
     }
     leave(codes, i, code_of(k, 0));
     packed::pack(
         at + 1,
         i + 1,
-        packed::knowing(false, true, true, leaf_form(k)),
+        packed::knowing(false, true, true, leaf_form(k), 1),
     )
 }
 
@@ -208,7 +214,7 @@ pub fn no_args(next: usize, i: usize) -> u64
     requires { ⌜ (next ≤ 65536) × (i ≤ 65536) ⌝ }
     ensures { λ r. ⌜ r ≡ packed next i noneKnown ⌝ }
 {
-    packed::pack(next, i, packed::knowing(true, true, true, packed::OTHER))
+    packed::pack(next, i, packed::knowing(true, true, true, packed::OTHER, 1))
 }
 
 fn first_form(count: u64, new: u64, old: u64) -> u64
@@ -235,14 +241,21 @@ fn all_texts(count: u64, texts: bool, new: u64) -> bool
 }
 
 fn more_known(a: u64, f: u64) -> u64
-    ensures { λ r. ⌜ (r ≡ moreKnown a f) × (r ≤ 33554432) ⌝ }
+    ensures { λ r. ⌜ (r ≡ moreKnown a f) × (r ≤ 2147483648) ⌝ }
 {
     let count = packed::count(a);
     let new = packed::form(f);
     let texts = all_texts(count, packed::logic(a), new);
     let first = first_form(count, new, packed::form(a));
     let kinds = packed::kinds(a) & (packed::kinds(f) & !packed::logic(f));
-    packed::knowing(texts, packed::forms(a) & packed::forms(f), kinds, first) + 256 * (count + 1)
+    let known = packed::knowing(
+        texts,
+        packed::forms(a) & packed::forms(f),
+        kinds,
+        first,
+        packed::deeper(packed::depth(a), count + packed::depth(f)),
+    );
+    known + 256 * (count + 1)
 }
 
 // One argument more. What comes next is the token after the `,` or `)` that follows it.
@@ -300,7 +313,7 @@ fn call_form(function: u8) -> u64
 }
 
 fn call_known(function: u8, a: u64) -> u64
-    ensures { λ r. ⌜ (r ≡ callKnown function a) × (r < 32) ⌝ }
+    ensures { λ r. ⌜ (r ≡ callKnown function a) × (r < 1073741824) ⌝ }
 {
     let right = call_right(
         function,
@@ -313,6 +326,7 @@ fn call_known(function: u8, a: u64) -> u64
         packed::forms(a) & right,
         packed::kinds(a),
         call_form(function),
+        packed::depth(a),
     )
 }
 

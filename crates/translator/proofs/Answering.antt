@@ -1,5 +1,6 @@
 -- From the lexer's answer over the marks, the operands and the parser's answer to that of translation. Assumes nothing.
-use Prim.Native.Nat.{ℕ, zero, suc, _+_, _-_, _*_, _≤_, _<_}
+use Prim.Native.Nat.{ℕ, zero, suc, _+_, _-_, _*_, _≤_, _<_, min}
+use native.Mathlib.Decide.{decLt}
 use native.Mathlib.Omega.{arith}
 use mathlib.Core.Path.{_≡_, refl, sym, ap, ap₂, _∙_, subst}
 use mathlib.Core.Bool.{Bool, true, false, cond, not, _&&_, _||_, Bool·not-not}
@@ -7,7 +8,7 @@ use mathlib.Core.List.{List, [], _∷_, _++_, map}
 use lib.Dec.{eqb, ltb}
 use lib.ListN.{length, getD, take, drop, length-map, length-append, List·getD-append}
 use lib.Seq.{sets, sets-eq, take-append-seam, length-sets}
-use borrow.Author.Tests.{ltb-false, lt-ltb, le-ltb}
+use borrow.Author.Tests.{ltb-false, lt-ltb, le-ltb, ne-eqb}
 use Rattle.common.specs.Choice.{pick}
 use Rattle.word.specs.Word.{Bytes}
 use Rattle.opcode.specs.declared.Edition.{Edition}
@@ -18,11 +19,10 @@ use Rattle.lexer.specs.declared.Lexing.the-variants as lexing
 use Rattle.grammar.specs.Tree.{Tree}
 use Rattle.grammar.specs.Grammar.{Level}
 use Rattle.grammar.specs.Parse.{Result, ok, bad, tokenAt, kindAt, parseAll}
-use Rattle.grammar.specs.Size.{entriesOf, poolBytes, poolOf}
+use Rattle.grammar.specs.Size.{entriesOf, poolBytes, poolOf, depthOf}
 use Rattle.grammar.specs.Judge.{formsRight, patternsRight, kindsRight, isLogic}
 use Rattle.grammar.specs.Nesting.{tooDeep}
-use Rattle.grammar.specs.Function.{orElse}
-use Rattle.grammar.specs.Answer.{foundOf}
+use Rattle.grammar.specs.Answer.{foundOf, foundNumber}
 use Rattle.grammar.specs.Stream.{tokenOf, tokensIn}
 use Rattle.grammar.specs.Marks.{markAt, marksFrom, marksOf, isOperand, operandsFrom, operandsIn}
 use Rattle.grammar.specs.Code.{codesOf, leavesOf}
@@ -32,11 +32,13 @@ use Rattle.operands.specs.Gather.{operandPlaces, operandSizes}
 use Rattle.operands.specs.Patterns.{patternsBy}
 use Rattle.operands.proofs.Theorems.{parsed-leaves, operands-stand, parsed-patterns, deep-alike}
 use Rattle.postfix.specs.Marked.{Marked}
+use Rattle.postfix.proofs.Codes.{length-codes}
+use Rattle.postfix.specs.Packed.{countedTo}
 use Rattle.postfix.specs.Answer.{judgedOf, answerOf as parsedOf, Leaves, Ready, Parses}
 use Rattle.postfix.specs.declared.Judged.{Judged}
 use Rattle.postfix.specs.declared.Parsed.{Parsed}
 use Rattle.postfix.specs.declared.Parsed.the-variants.{Whole, Broken}
-use Rattle.translator.specs.Expand.{expand, pooled, mostBy, sumFrom}
+use Rattle.translator.specs.Expand.{expand, pooled, Sized, sumFrom}
 use Rattle.translator.specs.Emit.{Roomy, Fronts, kindsIn, startsIn, Tokened, readOf, Reads, PlaceOf, Known, firstBy, Coded, refusalBy}
 use Rattle.translator.specs.Translation.{refusal, answerOf, refusalOf, ofTree, ofResult, ofTokens, ofLexed, translationIn, isEdition, editionBy, translationOf, Answers}
 use Rattle.translator.specs.Theorems.{Right}
@@ -46,7 +48,7 @@ use Rattle.translator.specs.declared.read.Reading.the-variants.{Tokens, 
 use Rattle.translator.proofs.Derived.{AllRight, level-sound}
 use Rattle.translator.proofs.Sound.{Sound}
 use Rattle.translator.proofs.Bounded.{totalOf, bounded}
-use Rattle.translator.proofs.Expanding.{Stand, code-count, leaf-count, leaf-total, entries-are, pool-is, depth-is}
+use Rattle.translator.proofs.Expanding.{Stand, leaf-count, leaf-total, entries-are, pool-is, sizes-are}
 use Rattle.translator.proofs.Lexed.{tokensOnly, LexedText, lexed-text}
 use Rattle.translator.proofs.Filling.{whole-level, refusal-by, tree-refused, answers-as}
 
@@ -246,17 +248,20 @@ module _ {s marks places sizes : List ℕ} {count : ℕ} {patterns : Bool} (byte
 
 -- ---- an expression
 
--- kinds and places of operands, one by one
-stand-from : (s places : List ℕ) (l : ℕ) (xs : List Token) (ps : List ℕ) → tokensIn s (map kindOf xs) ps ≡ xs → length xs ≤ length ps → ((i : ℕ) → i < length xs → getD places (l + i) 0 ≡ getD ps i 0) → Stand s places l xs
+-- kinds, places and sizes of operands, one by one
+stand-from : (s places sizes : List ℕ) (l : ℕ) (xs : List Token) (ps : List ℕ) → tokensIn s (map kindOf xs) ps ≡ xs → length xs ≤ length ps
+    → ((i : ℕ) → i < length xs → getD places (l + i) 0 ≡ getD ps i 0) → ((i : ℕ) → i < length xs → getD sizes (l + i) 0 ≡ getD (map poolBytes xs) i 0) → Stand s places sizes l xs
 unfolding tokensIn
-stand-from s places l [] ps e h f = tt
-stand-from s places l (x ∷ xs) [] e h f = absurd (omega arith)
-stand-from s places l (x ∷ xs) (p ∷ ps) e h f =
+stand-from s places sizes l [] ps e h f g = tt
+stand-from s places sizes l (x ∷ xs) [] e h f g = absurd (omega arith)
+stand-from s places sizes l (x ∷ xs) (p ∷ ps) e h f g =
     let z : l + 0 ≡ l = omega arith in
     let a : tokenOf s (kindOf x) p ≡ x = cc in
     let b : tokensIn s (map kindOf xs) ps ≡ xs = cc in (
       ap (tokenOf s (kindOf x)) (rw z at (f 0 (omega arith))) ∙ a,
-      stand-from s places (l + 1) xs ps b (omega arith) (λ i k. let n : l + 1 + i ≡ l + suc i = omega arith in rw n (f (suc i) (omega arith))),
+      rw z at (g 0 (omega arith)),
+      stand-from s places sizes (l + 1) xs ps b (omega arith) (λ i k. let n : l + 1 + i ≡ l + suc i = omega arith in rw n (f (suc i) (omega arith)))
+          (λ i k. let n : l + 1 + i ≡ l + suc i = omega arith in rw n (g (suc i) (omega arith))),
     )
 
 -- the sizes of operands, added up
@@ -276,16 +281,7 @@ operands-few xs i (suc n) = go (isOperand (markAt xs i)) (operands-few xs (i + 1
     go true h = omega arith
     go false h = omega arith
 
--- the refusals up to 7
-first-some : (a p b c d : Bool) (n m o : ℕ) → n ≡ cond (not a) 4 (cond (not p) 18 (cond (not (b && c)) 5 (cond d 7 0))) → (n ≡ 0 → ⊥)
-    → orElse (cond (not a) 4 (cond (not p) 18 (cond (not (b && c)) 5 (cond d 7 m)))) o ≡ n
-first-some false p b c d n m o e z = sym e
-first-some true false b c d n m o e z = sym e
-first-some true true false c d n m o e z = sym e
-first-some true true true false d n m o e z = sym e
-first-some true true true true true n m o e z = sym e
-first-some true true true true false n m o e z = absurd (z e)
-
+-- the refusals up to 8
 module _ (j : Judged) (p : Bool) (a : not (j .forms) ≡ false) (b : not p ≡ false) where
   pub first-5 : not (j .kinds && j .logic) ≡ true → 5 ≡ firstBy j p
   first-5 c = rw (a, b, c)
@@ -294,17 +290,29 @@ module _ (j : Judged) (p : Bool) (a : not (j .forms) ≡ false) (b : not p ≡ f
     pub first-7 : 512 < j .entries → 7 ≡ firstBy j p
     first-7 d = rw (a, b, c, lt-ltb 512 (j .entries) d)
 
-    pub first-0 : j .entries ≤ 512 → 0 ≡ firstBy j p
-    first-0 d = rw (a, b, c, le-ltb 512 (j .entries) d)
+    pub first-8 : j .entries ≤ 512 → 32 < j .depth → 8 ≡ firstBy j p
+    first-8 d e = rw (a, b, c, le-ltb 512 (j .entries) d, lt-ltb 32 (j .depth) e)
 
-first-none : (t : Tree) (a p b c d : Bool) → formsRight t ≡ a → patternsRight t ≡ p → kindsRight t ≡ b → isLogic t ≡ c → ltb 512 (entriesOf t) ≡ d
-    → _≡_ {A = ℕ} (cond (not a) 4 (cond (not p) 18 (cond (not (b && c)) 5 (cond d 7 0)))) 0 → Right t × (entriesOf t ≤ 512)
-first-none t false p b c d ea ep eb ec ed z = absurd (omega arith)
-first-none t true false b c d ea ep eb ec ed z = absurd (omega arith)
-first-none t true true false c d ea ep eb ec ed z = absurd (omega arith)
-first-none t true true true false d ea ep eb ec ed z = absurd (omega arith)
-first-none t true true true true true ea ep eb ec ed z = absurd (omega arith)
-first-none t true true true true false ea ep eb ec ed z = (record { forms = ea; patterns = ep; kinds = eb; logic = ec }, ltb-false 512 (entriesOf t) ed)
+    pub first-0 : j .entries ≤ 512 → j .depth ≤ 32 → 0 ≡ firstBy j p
+    first-0 d e = rw (a, b, c, le-ltb 512 (j .entries) d, le-ltb 32 (j .depth) e)
+
+-- 63 are counted, and asked is whether they are over 32
+over-32 : (n : ℕ) → ltb 32 (countedTo n) ≡ ltb 32 n
+over-32 n = go (decLt 32 n)
+  where
+    go : Dec (32 < n) → ltb 32 (countedTo n) ≡ ltb 32 n
+    go (yes h) = lt-ltb 32 (countedTo n) (omega arith) ∙ sym (lt-ltb 32 n h)
+    go (no h) = le-ltb 32 (countedTo n) (omega arith) ∙ sym (le-ltb 32 n (omega arith))
+
+first-none : (t : Tree) (a p b c d g : Bool) → formsRight t ≡ a → patternsRight t ≡ p → kindsRight t ≡ b → isLogic t ≡ c → ltb 512 (entriesOf t) ≡ d → ltb 32 (depthOf t) ≡ g
+    → _≡_ {A = ℕ} (cond (not a) 4 (cond (not p) 18 (cond (not (b && c)) 5 (cond d 7 (cond g 8 0))))) 0 → Right t × (entriesOf t ≤ 512) × (depthOf t ≤ 32)
+first-none t false p b c d g ea ep eb ec ed eg z = absurd (omega arith)
+first-none t true false b c d g ea ep eb ec ed eg z = absurd (omega arith)
+first-none t true true false c d g ea ep eb ec ed eg z = absurd (omega arith)
+first-none t true true true false d g ea ep eb ec ed eg z = absurd (omega arith)
+first-none t true true true true true g ea ep eb ec ed eg z = absurd (omega arith)
+first-none t true true true true false true ea ep eb ec ed eg z = absurd (omega arith)
+first-none t true true true true false false ea ep eb ec ed eg z = (record { forms = ea; patterns = ep; kinds = eb; logic = ec }, ltb-false 512 (entriesOf t) ed, ltb-false 32 (depthOf t) eg)
 
 module _ {s places sizes codes : List ℕ} {count : ℕ} {patterns : Bool} {j : Judged} (bytes : Bytes s) (k : Known s places sizes codes count patterns j) where
   abbrev t : Tree
@@ -321,8 +329,8 @@ module _ {s places sizes codes : List ℕ} {count : ℕ} {patterns : Bool} {j : 
       let g = k .tokened in
       parsed-patterns s (kindsIn (g .placed)) (startsIn (g .placed)) t (k .is-ok) ∙ ap (λ (ms : List ℕ). patternsBy s ms (startsIn (g .placed))) (sym (g .marks-are)) ∙ sym (g .patterns-are)
 
-  first-is : firstBy j patterns ≡ cond (not (formsRight t)) 4 (cond (not (patternsRight t)) 18 (cond (not (kindsRight t && isLogic t)) 5 (cond (ltb 512 (entriesOf t)) 7 0)))
-  first-is = ap₂ firstBy (k .has) (sym patterns-told)
+  first-is : firstBy j patterns ≡ foundNumber (foundOf t)
+  first-is = ap₂ firstBy (k .has) (sym patterns-told) ∙ rw (over-32 (depthOf t))
 
   tree-outcome : (e : Edition) (room : ℕ) → translationIn e s room ≡ ofTree e t room
   unfolding ofResult
@@ -330,12 +338,13 @@ module _ {s places sizes codes : List ℕ} {count : ℕ} {patterns : Bool} {j : 
 
   pub first-refused : (e : Edition) (room : ℕ) {n : ℕ} {was : List ℕ} {r : Translated} → n ≡ firstBy j patterns → (n ≡ 0 → ⊥) → r ≡ answerOf (refusal n 0) → Answers (translationIn e s room) was was r
   first-refused e room {n} en z q =
-      let num : refusalOf e t room ≡ n = refusal-by e t room ∙ first-some (formsRight t) (patternsRight t) (kindsRight t) (isLogic t) (ltb 512 (entriesOf t)) n _ _ (en ∙ first-is) z in
+      let f : foundNumber (foundOf t) ≡ n = sym (en ∙ first-is) in
+      let num : refusalOf e t room ≡ n = refusal-by e t room ∙ rw (f, ne-eqb n 0 z) in
       answers-as (tree-outcome e room) (tree-refused e t room num z q)
 
   module _ (none : firstBy j patterns ≡ 0) where
-    right-few : Right t × (entriesOf t ≤ 512)
-    right-few = first-none t (formsRight t) (patternsRight t) (kindsRight t) (isLogic t) (ltb 512 (entriesOf t)) refl refl refl refl refl (sym first-is ∙ none)
+    right-few : Right t × (entriesOf t ≤ 512) × (depthOf t ≤ 32)
+    right-few = first-none t (formsRight t) (patternsRight t) (kindsRight t) (isLogic t) (ltb 512 (entriesOf t)) (ltb 32 (depthOf t)) refl refl refl refl refl refl (sym first-is ∙ none)
 
     derived : Level 0 all t
     derived = parses all t .0 (k .is-ok)
@@ -376,53 +385,60 @@ module _ {s places sizes codes : List ℕ} {count : ℕ} {patterns : Bool} {j : 
     codes-front room =
         let e = ap (λ (x : Judged). x .entries) (k .has) in
         let f = k .codes-are .1 in
-        let n = code-count t in
+        let n = length-codes t in
         let m = ap length f ∙ length-sets (k .codes-are .0) 0 (codesOf t) in
         ap (take (j .entries)) f ∙ front-is (k .codes-are .0) (codesOf t) (j .entries) (omega arith) (omega (arith, entries-few room))
 
-    places-stand : Roomy (length s) places → Stand s places 0 (leavesOf t)
-    places-stand room =
+    sizes-stand : Roomy (length s) sizes → (i : ℕ) → i < length (operandsIn all) → getD sizes (0 + i) 0 ≡ getD (map poolBytes (operandsIn all)) i 0
+    sizes-stand room i h =
+        let g = k .tokened in
+        let st = operands-stand s (kindsIn (g .placed)) (startsIn (g .placed)) in
+        let was = g .sizes-are .0 in
+        let zs = map poolBytes (operandsIn all) in
+        let f : sizes ≡ sets was 0 zs = g .sizes-are .1 ∙ ap (λ (ms : List ℕ). sets was 0 (operandSizes s ms (startsIn (g .placed)))) (g .marks-are) ∙ ap (sets was 0) (st .sizes-are) in
+        let n = ap length f ∙ length-sets was 0 zs in
+        let lz : length zs ≡ length (operandsIn all) = length-map (operandsIn all) poolBytes in
+        let z : 0 + i ≡ i = omega arith in
+        ap (λ (m : ℕ). getD sizes m 0) z ∙ ap (λ (l : List ℕ). getD l i 0) f ∙ front-at was zs i (omega (arith, within sizes room, st .as-many)) (omega arith)
+
+    operands-told : Roomy (length s) places → Roomy (length s) sizes → Stand s places sizes 0 (leavesOf t)
+    operands-told room sized =
         let g = k .tokened in
         let st = operands-stand s (kindsIn (g .placed)) (startsIn (g .placed)) in
         let was = g .places-are .0 in
         let f : places ≡ sets was 0 own = g .places-are .1 ∙ ap (λ (ms : List ℕ). sets was 0 (operandPlaces ms (startsIn (g .placed)))) (g .marks-are) in
         let n = ap length f ∙ length-sets was 0 own in
-        subst (Stand s places 0) (sym (parsed-leaves all t (k .is-ok)))
-        (stand-from s places 0 (operandsIn all) own (st .places-are) (omega (arith, st .as-many))
-        (λ i h. let z : 0 + i ≡ i = omega arith in ap (λ (m : ℕ). getD places m 0) z ∙ ap (λ (l : List ℕ). getD l i 0) f ∙ front-at was own i (omega (arith, within places room)) (omega (arith, st .as-many))))
+        subst (Stand s places sizes 0) (sym (parsed-leaves all t (k .is-ok)))
+        (stand-from s places sizes 0 (operandsIn all) own (st .places-are) (omega (arith, st .as-many))
+        (λ i h. let z : 0 + i ≡ i = omega arith in ap (λ (m : ℕ). getD places m 0) z ∙ ap (λ (l : List ℕ). getD l i 0) f ∙ front-at was own i (omega (arith, within places room)) (omega (arith, st .as-many))) (sizes-stand sized))
 
     sum-is : Roomy (length s) sizes → sumFrom sizes 0 count ≡ poolOf t
     sum-is room =
         let g = k .tokened in
         let st = operands-stand s (kindsIn (g .placed)) (startsIn (g .placed)) in
-        let ops = operandsIn all in
-        let was = g .sizes-are .0 in
-        let zs = map poolBytes ops in
-        let f : sizes ≡ sets was 0 zs = g .sizes-are .1 ∙ ap (λ (ms : List ℕ). sets was 0 (operandSizes s ms (startsIn (g .placed)))) (g .marks-are) ∙ ap (sets was 0) (st .sizes-are) in
-        let n = ap length f ∙ length-sets was 0 zs in
-        let lz : length zs ≡ length ops = length-map ops poolBytes in
-        let c : count ≡ length ops = count-own ∙ st .as-many in
+        let c : count ≡ length (operandsIn all) = count-own ∙ st .as-many in
         ap (sumFrom sizes 0) c
-        ∙ sum-from ops sizes 0 (λ i h. let z : 0 + i ≡ i = omega arith in ap (λ (m : ℕ). getD sizes m 0) z ∙ ap (λ (l : List ℕ). getD l i 0) f ∙ front-at was zs i (omega (arith, within sizes room, st .as-many)) (omega arith))
+        ∙ sum-from (operandsIn all) sizes 0 (sizes-stand room)
         ∙ ap totalOf (sym (parsed-leaves all t (k .is-ok)))
         ∙ leaf-total t
 
-    pub coded : {pool : ℕ} {front : List ℕ} → Roomy (length s) places → Roomy (length s) sizes → Roomy (2 * length s) codes → pool ≡ sumFrom sizes 0 count → front ≡ take (j .entries) codes → Coded s places front pool
+    pub coded : {pool : ℕ} {front : List ℕ} → Roomy (length s) places → Roomy (length s) sizes → Roomy (2 * length s) codes → pool ≡ sumFrom sizes 0 count → front ≡ take (j .entries) codes → Coded s places sizes front pool
     coded {pool} {front} rp rz rc ep ef =
         let few = right-few .1 in
-        let stand = places-stand rp in
+        let stand = operands-told rp rz in
         let f : front ≡ codesOf t = ef ∙ codes-front rc in
         record {
           tree = t;
           outcome = tree-outcome;
           right = right-few .0;
           few = few;
+          low = right-few .2;
           small = small;
-          count = ap length f ∙ code-count t;
+          count = ap length f ∙ length-codes t;
           pool-is = ep ∙ sum-is rz;
-          depth = ap (λ (cs : List ℕ). mostBy cs 0) f ∙ depth-is s places t sound few stand small;
-          entries = ap (λ (cs : List ℕ). expand s places cs 0 0) f ∙ entries-are s places t sound few stand;
-          bytes = ap (λ (cs : List ℕ). pooled s places cs 0) f ∙ pool-is s places t sound few stand;
+          entries = ap (λ (cs : List ℕ). expand s places cs 0 0) f ∙ entries-are s places sizes t sound few stand;
+          bytes = ap (λ (cs : List ℕ). pooled s places cs 0) f ∙ pool-is s places sizes t sound few stand;
+          sized = subst (λ (cs : List ℕ). Sized s places sizes cs 0) (sym f) (sizes-are s places sizes t sound few stand);
         }
 
 -- ---- the edition's number

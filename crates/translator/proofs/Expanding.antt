@@ -1,62 +1,31 @@
--- The codes of a sound tree, taken apart one after the other, are its entries and its pool, and the slots that they take are its depth. Assumes nothing.
-use Prim.Native.Nat.{ℕ, zero, suc, _+_, _-_, _*_, _%_, _/_, _≤_, _<_, max}
+-- The codes of a sound tree, taken apart one after the other, are its entries and its pool, and the sizes are those of its operands. Assumes nothing.
+use Prim.Native.Nat.{ℕ, zero, suc, _+_, _-_, _*_, _%_, _/_, _≤_, _<_}
 use native.Mathlib.Nat.{mod-eq-of-lt}
 use native.Mathlib.Omega.{arith}
 use native.Mathlib.Decide.{ℕ-discrete}
 use mathlib.Core.Path.{_≡_, refl, sym, ap, ap₂, _∙_, subst}
-use mathlib.Core.Bool.{Bool, true, false, cond, not, _&&_, _||_}
+use mathlib.Core.Bool.{Bool, true, false, cond, _&&_, _||_}
 use mathlib.Core.List.{List, [], _∷_, _++_, append-assoc, append-nil}
 use lib.Dec.{eqb, leb}
-use lib.ListN.{length, getD, length-append, length-replicate}
-use borrow.Author.Tests.{eqb-true, leb-true, leb-false, lt-leb, le-leb}
-use Rattle.common.specs.Each.{Each}
+use lib.ListN.{length, getD, length-append}
+use borrow.Author.Tests.{leb-true, lt-leb}
 use Rattle.common.proofs.Choice.{false-true}
-use Rattle.common.proofs.Each.{each-map}
-use Rattle.opcode.specs.Opcode.{Kind, value, opOf, takesOf}
-use Rattle.opcode.specs.declared.Op.{Op}
 use Rattle.table.specs.declared.Entry.{Entry}
-use Rattle.table.specs.Check.{entryRight}
 use Rattle.table.proofs.Tests.{both-true}
 use Rattle.lexer.specs.Token.{Token, name, int32, int64, real, text, symbol, kindOf}
 use Rattle.grammar.specs.Tree.{Tree, leaf, group, unary, binary, call, Trees, none, _then_}
 use Rattle.grammar.specs.Function.{functionOf}
-use Rattle.grammar.specs.Size.{countOf, skips, entriesOf, entriesIn, poolBytes, poolOf, poolIn, depthOf}
+use Rattle.grammar.specs.Size.{countOf, skips, entriesOf, entriesIn, poolBytes, poolOf, poolIn}
 use Rattle.grammar.specs.Marks.{isOperand}
 use Rattle.grammar.specs.Code.{code, skipCodes, callCode, codesOf, codesIn, leavesOf, leavesIn}
 use Rattle.grammar.specs.Stream.{tokenOf}
 use Rattle.translator.specs.Compile.{entry, leafEntry, skipEntries, callEntry, codeOf, codeIn, leafBytes, bytesOf, bytesIn}
-use Rattle.translator.specs.Depth.{slotsAfter, mostSlots}
-use Rattle.translator.specs.Expand.{opIn, aIn, pushes, operandsBy, broughtBy, entryBy, expand, pooled, slotsBy, mostBy}
-use Rattle.translator.proofs.Entries.{TokenRight, below, below-at}
-use Rattle.translator.proofs.Sound.{Sound, SoundIn, a-leaf, a-group, a-unary, a-binary, a-call, no-more, one-more, leaf-size, good-all}
-use Rattle.translator.proofs.Depth.{most-slots}
+use Rattle.translator.specs.Expand.{opIn, aIn, pushes, operandsBy, broughtBy, entryBy, expand, pooled, Sized}
+use Rattle.translator.proofs.Entries.{TokenRight}
+use Rattle.translator.proofs.Sound.{Sound, SoundIn, a-leaf, a-group, a-unary, a-binary, a-call, no-more, one-more, leaf-size}
 use Rattle.translator.proofs.Bounded.{totalOf, total-append}
 
 -- ---- sizes
-
-skip-codes : (k n : ℕ) → length (skipCodes k n) + 1 ≡ cond (skips k) 2 1
-skip-codes k n = go (eqb k 41) (eqb k 43)
-  where
-    go : (a b : Bool) → length (cond a (code 44 (n + 1) ∷ []) (cond b (code 45 (n + 1) ∷ []) [])) + 1 ≡ cond (a || b) 2 1
-    go true b = refl
-    go false true = refl
-    go false false = refl
-
-mutual
-  unfolding codesOf entriesOf
-
-  pub code-count : (t : Tree) → length (codesOf t) ≡ entriesOf t
-  code-count (leaf x) = refl
-  code-count (group t) = code-count t
-  code-count (unary k t) = length-append (codesOf t) (code k 0 ∷ []) ∙ ap (λ (n : ℕ). n + 1) (code-count t)
-  code-count (binary k t u) =
-      let rest = codesOf u ++ (code k 0 ∷ []) in
-      omega (arith, length-append (codesOf t) (skipCodes k (entriesOf u) ++ rest), length-append (skipCodes k (entriesOf u)) rest, length-append (codesOf u) (code k 0 ∷ []), skip-codes k (entriesOf u), code-count t, code-count u)
-  code-count (call x ts) = length-append (codesIn ts) (callCode (functionOf x) (countOf ts) ∷ []) ∙ ap (λ (n : ℕ). n + 1) (code-count-in ts)
-
-  code-count-in : (ts : Trees) → length (codesIn ts) ≡ entriesIn ts
-  code-count-in none = refl
-  code-count-in (_then_ ts t) = omega (arith, length-append (codesIn ts) (codesOf t), code-count-in ts, code-count t)
 
 mutual
   unfolding leavesOf entriesOf
@@ -126,76 +95,19 @@ operand-cases P k o p1 p2 p3 p4 p5 =
     by (no a) (no b) (no c) (yes e) low high = rw e p4
     by (no a) (no b) (no c) (no d) low high = let e : k ≡ 5 = omega arith in rw e p5
 
--- tokens that are the operands from l on, by their kinds and the places
-abbrev pub Stand : List ℕ → List ℕ → ℕ → List Token → Type 0
-Stand s places l [] = Unit {0}
-Stand s places l (x ∷ xs) = (tokenOf s (kindOf x) (getD places l 0) ≡ x) × Stand s places (l + 1) xs
+-- tokens that are the operands from l on, by their kinds, the places and the sizes
+abbrev pub Stand : List ℕ → List ℕ → List ℕ → ℕ → List Token → Type 0
+Stand s places sizes l [] = Unit {0}
+Stand s places sizes l (x ∷ xs) = (tokenOf s (kindOf x) (getD places l 0) ≡ x) × (getD sizes l 0 ≡ poolBytes x) × Stand s places sizes (l + 1) xs
 
--- ---- the operands of the stack that an op takes: 3 for one more than its a, 9 for an unknown op
-
-abbrev arityOf : Op → ℕ
-arityOf (Op.Load l) = 0
-arityOf (Op.Unary u) = 1
-arityOf (Op.Binary b) = 2
-arityOf (Op.Many m) = 3
-arityOf (Op.Skip k) = 1
-arityOf Op.Unknown = 9
-
-abbrev isDouble : ℕ → Bool
-isDouble op = (leb 16 op && leb op 37) || (leb 41 op && leb op 43)
-
-abbrev arityBy : ℕ → ℕ
-arityBy op = cond (leb 56 op) 3 (cond (isDouble op) 2 1)
-
-arity-right : ℕ → Bool
-arity-right op = isOperand op || (eqb (arityOf (opOf op)) 9 || eqb (arityBy op) (arityOf (opOf op)))
-
-one-of : (a b c : Bool) → (a || (b || c)) ≡ true → a ≡ false → b ≡ false → c ≡ true
-one-of true b c e f g = false-true (sym f ∙ e)
-one-of false true c e f g = false-true (sym g ∙ e)
-one-of false false c e f g = e
-
-arity-is : (op : ℕ) → op < 64 → isOperand op ≡ false → eqb (arityOf (opOf op)) 9 ≡ false → arityBy op ≡ arityOf (opOf op)
-unfolding arity-right below
-arity-is op h o u = eqb-true _ _ (one-of _ _ _ (below-at arity-right 64 op refl h) o u)
-
-slots-are : (op a : ℕ) (pool : List ℕ) → op < 64 → isOperand op ≡ false → entryRight pool (entry op a 0) ≡ true → cond (leb 56 op) (a + 1) (cond (isDouble op) 2 1) ≡ length (takesOf (opOf op) a)
-slots-are op a pool h o r = go (opOf op) refl r
-  where
-    few : (x y : Bool) (n : ℕ) → cond x 3 (cond y 2 1) ≡ n → n ≤ 2 → cond x (a + 1) (cond y 2 1) ≡ n
-    few true y n e l = absurd (omega arith)
-    few false true n e l = e
-    few false false n e l = e
-
-    many : (x y : Bool) → _≡_ {A = ℕ} (cond x 3 (cond y 2 1)) 3 → cond x (a + 1) (cond y 2 1) ≡ a + 1
-    many true y e = refl
-    many false true e = absurd (omega arith)
-    many false false e = absurd (omega arith)
-
-    none-none : (x y : Bool) → _≡_ {A = ℕ} (cond x 3 (cond y 2 1)) 0 → ⊥
-    none-none true y e = omega arith
-    none-none false true e = omega arith
-    none-none false false e = omega arith
-
-    is : (k : Op) → opOf op ≡ k → eqb (arityOf k) 9 ≡ false → arityBy op ≡ arityOf k
-    is k e u = arity-is op h o (rw e u) ∙ ap arityOf e
-
-    go : (k : Op) → opOf op ≡ k → entryRight pool (entry op a 0) ≡ true → cond (leb 56 op) (a + 1) (cond (isDouble op) 2 1) ≡ length (takesOf k a)
-    go (Op.Load l) e q = absurd (none-none (leb 56 op) (isDouble op) (is (Op.Load l) e refl))
-    go (Op.Unary u) e q = few (leb 56 op) (isDouble op) 1 (is (Op.Unary u) e refl) (omega arith)
-    go (Op.Binary b) e q = few (leb 56 op) (isDouble op) 2 (is (Op.Binary b) e refl) (omega arith)
-    go (Op.Many m) e q = many (leb 56 op) (isDouble op) (is (Op.Many m) e refl) ∙ omega (arith, length-replicate (suc a) value)
-    go (Op.Skip k) e q = few (leb 56 op) (isDouble op) 1 (is (Op.Skip k) e refl) (omega arith)
-    go Op.Unknown e q = false-true (rw e at q)
-
-module _ (s places : List ℕ) where
-  stand-left : (xs ys : List Token) (l : ℕ) → Stand s places l (xs ++ ys) → Stand s places l xs
+module _ (s places sizes : List ℕ) where
+  stand-left : (xs ys : List Token) (l : ℕ) → Stand s places sizes l (xs ++ ys) → Stand s places sizes l xs
   stand-left [] ys l h = tt
-  stand-left (x ∷ xs) ys l h = (h .0, stand-left xs ys (l + 1) (h .1))
+  stand-left (x ∷ xs) ys l h = (h .0, h .1, stand-left xs ys (l + 1) (h .2))
 
-  stand-rest : (xs ys : List Token) (l : ℕ) → Stand s places l (xs ++ ys) → Stand s places (l + length xs) ys
+  stand-rest : (xs ys : List Token) (l : ℕ) → Stand s places sizes l (xs ++ ys) → Stand s places sizes (l + length xs) ys
   stand-rest [] ys l h = let e : l + 0 ≡ l = omega arith in rw e h
-  stand-rest (x ∷ xs) ys l h = let e : l + suc (length xs) ≡ l + 1 + length xs = omega arith in rw e (stand-rest xs ys (l + 1) (h .1))
+  stand-rest (x ∷ xs) ys l h = let e : l + suc (length xs) ≡ l + 1 + length xs = omega arith in rw e (stand-rest xs ys (l + 1) (h .2))
 
   module _ (c : ℕ) (x : Token) (e : opIn c ≡ kindOf x) (o : isOperand (kindOf x) ≡ true) (place : ℕ) (h : tokenOf s (kindOf x) place ≡ x) where
     pushed-entry : (at : ℕ) → entryBy s c place at ≡ leafEntry at x
@@ -245,7 +157,7 @@ module _ (s places : List ℕ) where
   mutual
     unfolding codesOf leavesOf codeOf entriesOf poolOf expand
 
-    expanded : {t : Tree} → Sound t → entriesOf t ≤ 512 → (cs : List ℕ) (l at : ℕ) → Stand s places l (leavesOf t)
+    expanded : {t : Tree} → Sound t → entriesOf t ≤ 512 → (cs : List ℕ) (l at : ℕ) → Stand s places sizes l (leavesOf t)
         → expand s places (codesOf t ++ cs) l at ≡ codeOf at t ++ expand s places cs (l + length (leavesOf t)) (at + poolOf t)
     expanded (a-leaf {x} k r) few cs l at h =
         let c = code (kindOf x) 0 in
@@ -279,7 +191,7 @@ module _ (s places : List ℕ) where
         ∙ ap (λ (es : List Entry). codeIn at ts ++ es) (acted f (callEntry f (countOf ts) .a) (a .over) (a .under) (omega (arith, a .low)) cs (l + length (leavesIn ts)) (at + poolIn ts))
         ∙ sym (append-assoc (codeIn at ts) (callEntry f (countOf ts) ∷ []) (expand s places cs (l + length (leavesIn ts)) (at + poolIn ts))))
 
-    expanded-in : {ts : Trees} → SoundIn ts → entriesIn ts ≤ 512 → (cs : List ℕ) (l at : ℕ) → Stand s places l (leavesIn ts)
+    expanded-in : {ts : Trees} → SoundIn ts → entriesIn ts ≤ 512 → (cs : List ℕ) (l at : ℕ) → Stand s places sizes l (leavesIn ts)
         → expand s places (codesIn ts ++ cs) l at ≡ codeIn at ts ++ expand s places cs (l + length (leavesIn ts)) (at + poolIn ts)
     expanded-in no-more few cs l at h =
         let n : l + 0 ≡ l = omega arith in
@@ -300,7 +212,7 @@ module _ (s places : List ℕ) where
   mutual
     unfolding codesOf leavesOf bytesOf entriesOf pooled
 
-    gathered : {t : Tree} → Sound t → entriesOf t ≤ 512 → (cs : List ℕ) (l : ℕ) → Stand s places l (leavesOf t)
+    gathered : {t : Tree} → Sound t → entriesOf t ≤ 512 → (cs : List ℕ) (l : ℕ) → Stand s places sizes l (leavesOf t)
         → pooled s places (codesOf t ++ cs) l ≡ bytesOf t ++ pooled s places cs (l + length (leavesOf t))
     gathered (a-leaf {x} k r) few cs l h =
         let c = code (kindOf x) 0 in
@@ -326,7 +238,7 @@ module _ (s places : List ℕ) where
         rw append-assoc (gathered-in d (omega arith) (callCode f (countOf ts) ∷ cs) l h
         ∙ ap (λ (b : List ℕ). bytesIn ts ++ b) (acted-pool f (callEntry f (countOf ts) .a) (a .over) (a .under) (omega (arith, a .low)) cs (l + length (leavesIn ts))))
 
-    gathered-in : {ts : Trees} → SoundIn ts → entriesIn ts ≤ 512 → (cs : List ℕ) (l : ℕ) → Stand s places l (leavesIn ts)
+    gathered-in : {ts : Trees} → SoundIn ts → entriesIn ts ≤ 512 → (cs : List ℕ) (l : ℕ) → Stand s places sizes l (leavesIn ts)
         → pooled s places (codesIn ts ++ cs) l ≡ bytesIn ts ++ pooled s places cs (l + length (leavesIn ts))
     gathered-in no-more few cs l h = let n : l + 0 ≡ l = omega arith in rw n
     gathered-in (one-more {ts} {t} d e f) few cs l h =
@@ -337,31 +249,56 @@ module _ (s places : List ℕ) where
         ∙ ap (λ (b : List ℕ). bytesIn ts ++ b) (gathered e (omega arith) cs lu (stand-rest (leavesIn ts) (leavesOf t) l h)) in
         rw ends (simp append-assoc all)
 
-  -- ---- the slots of codes and of their entries
+  -- ---- and its operands' sizes
 
-  pushed-slots : (k place at : ℕ) → isOperand k ≡ true → takesOf (opOf (leafEntry at (tokenOf s k place) .op)) (leafEntry at (tokenOf s k place) .a) ≡ []
-  pushed-slots k place at o = operand-cases (λ n. takesOf (opOf (leafEntry at (tokenOf s n place) .op)) (leafEntry at (tokenOf s n place) .a) ≡ []) k o refl refl refl refl refl
+  acted-sized : (op a : ℕ) → 5 < op → op < 64 → a < 1024 → (cs : List ℕ) (l : ℕ) → Sized s places sizes cs l → Sized s places sizes (code op a ∷ cs) l
+  acted-sized op a over under low cs l h =
+      let none : isOperand (opIn (code op a)) ≡ false = ap isOperand (code-op op a under low) ∙ not-operand op over in
+      let n : l + 0 ≡ l = omega arith in
+      (λ p. false-true (sym none ∙ p), rw (none, n) h)
 
-  taken : (pool : List ℕ) (c place at : ℕ) → entryRight pool (entryBy s c place at) ≡ true → slotsBy c ≡ length (takesOf (opOf (entryBy s c place at .op)) (entryBy s c place at .a))
-  taken pool c place at = go (isOperand (opIn c)) refl
+  skipped-sized : (k n : ℕ) → n ≤ 512 → (cs : List ℕ) (l : ℕ) → Sized s places sizes cs l → Sized s places sizes (skipCodes k n ++ cs) l
+  skipped-sized k n h cs l g = go (eqb k 41) (eqb k 43)
     where
-      go : (b : Bool) → isOperand (opIn c) ≡ b → entryRight pool (cond b (leafEntry at (tokenOf s (opIn c) place)) (entry (opIn c) (aIn c) 0)) ≡ true
-          → cond b 0 (cond (leb 56 (opIn c)) (aIn c + 1) (cond (isDouble (opIn c)) 2 1))
-          ≡ length (takesOf (opOf (cond b (leafEntry at (tokenOf s (opIn c) place)) (entry (opIn c) (aIn c) 0) .op)) (cond b (leafEntry at (tokenOf s (opIn c) place)) (entry (opIn c) (aIn c) 0) .a))
-      go true o r = sym (ap length (pushed-slots (opIn c) place at o))
-      go false o r = slots-are (opIn c) (aIn c) pool (omega arith) o r
+      go : (a b : Bool) → Sized s places sizes (cond a (code 44 (n + 1) ∷ []) (cond b (code 45 (n + 1) ∷ []) []) ++ cs) l
+      go true b = acted-sized 44 (n + 1) (omega arith) (omega arith) (omega arith) cs l g
+      go false true = acted-sized 45 (n + 1) (omega arith) (omega arith) (omega arith) cs l g
+      go false false = g
 
-  most-same : (pool cs : List ℕ) (l at n : ℕ) → Each (λ e. entryRight pool e ≡ true) (expand s places cs l at) → mostBy cs n ≡ mostSlots (expand s places cs l at) n
-  unfolding mostBy expand mostSlots
-  most-same pool [] l at n h = refl
-  most-same pool (c ∷ cs) l at n h =
-      let q = taken pool c (getD places l 0) at (h .0) in
-      let es = expand s places cs (l + operandsBy c) (at + length (broughtBy s c (getD places l 0))) in
-      ap (λ (m : ℕ). max n m) (most-same pool cs (l + operandsBy c) (at + length (broughtBy s c (getD places l 0))) (n - slotsBy c + 1) (h .1) ∙ ap (λ (m : ℕ). mostSlots es (n - m + 1)) q)
+  mutual
+    unfolding codesOf leavesOf entriesOf
+
+    sized : {t : Tree} → Sound t → entriesOf t ≤ 512 → (cs : List ℕ) (l : ℕ) → Stand s places sizes l (leavesOf t) → Sized s places sizes cs (l + length (leavesOf t)) → Sized s places sizes (codesOf t ++ cs) l
+    sized (a-leaf {x} k r) few cs l h g =
+        let c = code (kindOf x) 0 in
+        let e : opIn c ≡ kindOf x = code-op (kindOf x) 0 (omega arith) (omega arith) in
+        let o = is-operand x k r in
+        (λ p. h .1 ∙ sym (ap length (pushed-bytes c x e o (getD places l 0) (h .0)) ∙ leaf-size x), rw (pushed-one c (kindOf x) e o) g)
+    sized (a-group d) few cs l h g = sized d few cs l h g
+    sized (a-unary {k} {t} a d e) few cs l h g = rw append-assoc (sized d (omega arith) (code k 0 ∷ cs) l h (acted-sized k 0 (a .over) (a .under) (omega arith) cs (l + length (leavesOf t)) g))
+    sized (a-binary {k} {t} {u} a d e f g) few cs l h q =
+        let lu = l + length (leavesOf t) in
+        let ends : l + length (leavesOf t ++ leavesOf u) ≡ lu + length (leavesOf u) = omega (arith, length-append (leavesOf t) (leavesOf u)) in
+        let right : Sized s places sizes (codesOf u ++ (code k 0 ∷ cs)) lu =
+        sized f (omega arith) (code k 0 ∷ cs) lu (stand-rest (leavesOf t) (leavesOf u) l h) (acted-sized k 0 (a .over) (a .under) (omega arith) cs (lu + length (leavesOf u)) (rw ends at q)) in
+        let all : Sized s places sizes (codesOf t ++ (skipCodes k (entriesOf u) ++ (codesOf u ++ (code k 0 ∷ cs)))) l =
+        sized d (omega arith) (skipCodes k (entriesOf u) ++ (codesOf u ++ (code k 0 ∷ cs))) l (stand-left (leavesOf t) (leavesOf u) l h) (skipped-sized k (entriesOf u) (omega arith) (codesOf u ++ (code k 0 ∷ cs)) lu right) in
+        simp append-assoc all
+    sized (a-call {x} {ts} a d) few cs l h g =
+        let f = functionOf x in
+        rw append-assoc (sized-in d (omega arith) (callCode f (countOf ts) ∷ cs) l h (acted-sized f (callEntry f (countOf ts) .a) (a .over) (a .under) (omega (arith, a .low)) cs (l + length (leavesIn ts)) g))
+
+    sized-in : {ts : Trees} → SoundIn ts → entriesIn ts ≤ 512 → (cs : List ℕ) (l : ℕ) → Stand s places sizes l (leavesIn ts) → Sized s places sizes cs (l + length (leavesIn ts)) → Sized s places sizes (codesIn ts ++ cs) l
+    sized-in no-more few cs l h g = let n : l + 0 ≡ l = omega arith in rw n at g
+    sized-in (one-more {ts} {t} d e f) few cs l h g =
+        let lu = l + length (leavesIn ts) in
+        let ends : l + length (leavesIn ts ++ leavesOf t) ≡ lu + length (leavesOf t) = omega (arith, length-append (leavesIn ts) (leavesOf t)) in
+        let all : Sized s places sizes (codesIn ts ++ (codesOf t ++ cs)) l = sized-in d (omega arith) (codesOf t ++ cs) l (stand-left (leavesIn ts) (leavesOf t) l h) (sized e (omega arith) cs lu (stand-rest (leavesIn ts) (leavesOf t) l h) (rw ends at g)) in
+        simp append-assoc all
 
   -- ---- the whole
 
-  module _ (t : Tree) (d : Sound t) (few : entriesOf t ≤ 512) (h : Stand s places 0 (leavesOf t)) where
+  module _ (t : Tree) (d : Sound t) (few : entriesOf t ≤ 512) (h : Stand s places sizes 0 (leavesOf t)) where
     pub entries-are : expand s places (codesOf t) 0 0 ≡ codeOf 0 t
     unfolding expand
     entries-are = ap (λ (cs : List ℕ). expand s places cs 0 0) (sym (append-nil (codesOf t))) ∙ expanded d few [] 0 0 h ∙ append-nil (codeOf 0 t)
@@ -370,9 +307,5 @@ module _ (s places : List ℕ) where
     unfolding pooled
     pool-is = ap (λ (cs : List ℕ). pooled s places cs 0) (sym (append-nil (codesOf t))) ∙ gathered d few [] 0 h ∙ append-nil (bytesOf t)
 
-    pub depth-is : poolOf t ≤ 4096 → mostBy (codesOf t) 0 ≡ depthOf t
-    depth-is small =
-        let each = each-map (codeOf 0 t) (λ e g. g .0) (good-all t d small few) in
-        most-same (bytesOf t) (codesOf t) 0 0 0 (subst (Each (λ e. entryRight (bytesOf t) e ≡ true)) (sym entries-are) each)
-        ∙ ap (λ (es : List Entry). mostSlots es 0) entries-are
-        ∙ most-slots t d 0
+    pub sizes-are : Sized s places sizes (codesOf t) 0
+    sizes-are = subst (λ (cs : List ℕ). Sized s places sizes cs 0) (append-nil (codesOf t)) (sized d few [] 0 h tt)

@@ -24,7 +24,7 @@ use Rattle.grammar.specs.Function.{orElse}
 use Rattle.grammar.specs.Judge.{formsRight, patternsRight, kindsRight, isLogic}
 use Rattle.grammar.specs.Answer.{Found, foundOf}
 use Rattle.translator.specs.Compile.{codeOf, bytesOf, compile}
-use Rattle.translator.specs.Expand.{expand, pooled, mostBy}
+use Rattle.translator.specs.Expand.{expand, pooled}
 use Rattle.translator.specs.Emit.{entryStart, Coded, tableAnswer, headerBytes, refusalBy}
 use Rattle.translator.specs.Translation.{Outcome, refusalOf, ofTree, refusal, answerOf, Answers, translationIn}
 use Rattle.translator.specs.declared.Translated.{Translated}
@@ -150,12 +150,12 @@ module _ (edition : Edition) (t : Tree) (room : ℕ) where
 pub answers-as : {o p : Outcome} {was now : List ℕ} {r : Translated} → o ≡ p → Answers p was now r → Answers o was now r
 answers-as e a = rw e a
 
--- of codes to which the refusals up to 7 do not apply
-module _ {s places codes : List ℕ} {pool : ℕ} (k : Coded s places codes pool) (edition : Edition) (room : ℕ) where
+-- of codes to which the refusals up to 8 do not apply
+module _ {s places sizes codes : List ℕ} {pool : ℕ} (k : Coded s places sizes codes pool) (edition : Edition) (room : ℕ) where
   abbrev t : Tree
   t = k .tree
 
-  -- the tests before 8
+  -- the tests before 7
   forms-right : not (formsRight t) ≡ false
   forms-right = rw (k .right .forms)
 
@@ -165,22 +165,17 @@ module _ {s places codes : List ℕ} {pool : ℕ} (k : Coded s places codes pool
   kinds-right : not (kindsRight t && isLogic t) ≡ false
   kinds-right = rw (k .right .kinds, k .right .logic)
 
-  pub coded-8 : {d : ℕ} {was : List ℕ} {r : Translated} → d ≡ mostBy codes 0 → 32 < d → r ≡ answerOf (refusal 8 0) → Answers (translationIn edition s room) was was r
-  coded-8 e h q =
-      let n : refusalOf edition t room ≡ 8 = refusal-by edition t room ∙ sym (by-8 (foundOf t) room forms-right patterns-right kinds-right (k .few) (omega (arith, e, k .depth))) in
-      answers-as (k .outcome edition room) (tree-refused edition t room n (λ z. omega arith) q)
-
-  pub coded-9 : {d : ℕ} {was : List ℕ} {r : Translated} → d ≡ mostBy codes 0 → d ≤ 32 → room < entryStart (length codes) + pool → r ≡ answerOf (refusal 9 0) → Answers (translationIn edition s room) was was r
-  coded-9 e h l q =
+  pub coded-9 : {was : List ℕ} {r : Translated} → room < entryStart (length codes) + pool → r ≡ answerOf (refusal 9 0) → Answers (translationIn edition s room) was was r
+  coded-9 l q =
       let n : refusalOf edition t room ≡ 9 =
-      refusal-by edition t room ∙ sym (by-9 (foundOf t) room forms-right patterns-right kinds-right (k .few) (omega (arith, e, k .depth)) (omega (arith, k .count, k .pool-is))) in
+      refusal-by edition t room ∙ sym (by-9 (foundOf t) room forms-right patterns-right kinds-right (k .few) (k .low) (omega (arith, k .count, k .pool-is))) in
       answers-as (k .outcome edition room) (tree-refused edition t room n (λ z. omega arith) q)
 
-  pub coded-table : {d : ℕ} {was now : List ℕ} {r : Translated} → d ≡ mostBy codes 0 → d ≤ 32 → entryStart (length codes) + pool ≤ room → r ≡ tableAnswer (length codes) pool
+  pub coded-table : {was now : List ℕ} {r : Translated} → entryStart (length codes) + pool ≤ room → r ≡ tableAnswer (length codes) pool
       → now ≡ sets was 0 (headerBytes edition (length codes) pool ++ (entriesBytes (expand s places codes 0 0) ++ pooled s places codes 0)) → Answers (translationIn edition s room) was now r
-  coded-table {d} {was} {now} e h l q b =
+  coded-table {was} {now} l q b =
       let n : refusalOf edition t room ≡ 0 =
-      refusal-by edition t room ∙ sym (by-0 (foundOf t) room forms-right patterns-right kinds-right (k .few) (omega (arith, e, k .depth)) (omega (arith, k .count, k .pool-is))) in
+      refusal-by edition t room ∙ sym (by-0 (foundOf t) room forms-right patterns-right kinds-right (k .few) (k .low) (omega (arith, k .count, k .pool-is))) in
       let all : headerBytes edition (length codes) pool ++ (entriesBytes (expand s places codes 0 0) ++ pooled s places codes 0) ≡ headerBytes edition (entriesOf t) (poolOf t) ++ (entriesBytes (codeOf 0 t) ++ bytesOf t) =
       ap₂ (λ (x y : List ℕ). x ++ y) (ap₂ (headerBytes edition) (k .count) (k .pool-is)) (ap₂ (λ (x : List Entry) (y : List ℕ). entriesBytes x ++ y) (k .entries) (k .bytes)) in
       let filled : now ≡ sets was 0 (encode (compile edition t)) = b ∙ ap (sets was 0) (all ∙ sym (table-is edition t)) in

@@ -7,6 +7,7 @@ pub mod Passes
 pub mod Bounded
 pub mod Expanding
 pub mod Stores
+pub mod Plain
 pub mod Making
 pub mod Writing
 pub mod Lexed

@@ -20,7 +20,7 @@ use Rattle.grammar.specs.Marks.{isOperand}
 use Rattle.grammar.specs.Stream.{tokenOf}
 use Rattle.translator.specs.Compile.{entry, leafEntry, leafBytes}
 use Rattle.translator.specs.Emit.{entryStart}
-use Rattle.translator.specs.Expand.{opIn, aIn, pushes, broughtBy, entryBy}
+use Rattle.translator.specs.Expand.{opIn, aIn, pushes, broughtBy, entryBy, SizedBy}
 use Rattle.translator.proofs.Stores.{sets-all, length-entry}
 use Rattle.translator.proofs.Expanding.{operand-cases}
 
@@ -88,6 +88,9 @@ module _ (s : List ℕ) (c place : ℕ) where
   module _ (h : pushes c ≡ true) where
     pub brought-pushed : broughtBy s c place ≡ leafBytes (tokenOf s (opIn c) place)
     brought-pushed = rw h
+
+    pub leaf-sized : {p n z : ℕ} → p ≡ place → n ≡ z → SizedBy s c place z → n ≡ length (leafBytes (tokenOf s (opIn c) p))
+    leaf-sized ep en q = en ∙ q h ∙ ap length brought-pushed ∙ ap (λ (k : ℕ). length (leafBytes (tokenOf s (opIn c) k))) (sym ep)
 
     pub entry-pushed : (pool : ℕ) → entryBy s c place pool ≡ leafEntry pool (tokenOf s (opIn c) place)
     entry-pushed pool = rw h

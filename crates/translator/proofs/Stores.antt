@@ -1,23 +1,62 @@
--- Stretches of a buffer: those apart are written in either order, and a part up to the end is put back. Assumes nothing.
+-- Stretches of a buffer: words with bytes in common, and a part up to the end that is put back. Assumes nothing.
 use Prim.Native.Nat.{ℕ, zero, suc, _+_, _-_, _*_, _≤_, _<_}
 use native.Mathlib.Omega.{arith}
-use mathlib.Core.Path.{_≡_, refl, sym, ap, _∙_}
+use mathlib.Core.Path.{_≡_, refl, sym, ap, ap₂, _∙_}
+use mathlib.Core.Bool.{Bool, true, false, _||_}
 use mathlib.Core.List.{List, [], _∷_, _++_, append-nil}
+use lib.Dec.{ltb}
 use lib.ListN.{length, set, take, drop, length-append, length-drop, take-append-drop, drop-of-length-le}
-use lib.Seq.{sets, sets-eq, set-comm, drop-length, length-sets, take-all}
+use lib.Seq.{sets, sets-eq, set-set, drop-length, length-sets, take-all, take-take, take-add, drop-drop, drop-at, length-take-le}
 use borrow.Rule.Slice.PartMut.{midOf, postOf, putMid}
+use borrow.Author.Tests.{ltb-false}
+use Rattle.common.proofs.Choice.{false-true}
+use Rattle.word.specs.Word.{wordAt, wordBytes, Bytes}
 use Rattle.word.proofs.Laws.{length-wordBytes}
-use Rattle.word.specs.Word.{wordBytes}
+use Rattle.word.proofs.Theorems.{read-bytes}
+use Rattle.postfix.proofs.Codes.{set-sets}
 use Rattle.table.specs.declared.Entry.{Entry}
 use Rattle.table.specs.Table.{entryBytes, entriesBytes}
 
-set-sets : (ys l : List ℕ) (i j a : ℕ) → i < j → set (sets l j ys) i a ≡ sets (set l i a) j ys
-set-sets [] l i j a h = refl
-set-sets (y ∷ ys) l i j a h = set-sets ys (set l j y) i (suc j) a (omega arith) ∙ ap (λ (m : List ℕ). sets m (suc j) ys) (set-comm l j i y a (λ e. omega arith))
+-- ---- words with bytes in common
 
-pub sets-swap : (xs ys l : List ℕ) (i j : ℕ) → i + length xs ≤ j → sets (sets l j ys) i xs ≡ sets (sets l i xs) j ys
-sets-swap [] ys l i j h = refl
-sets-swap (x ∷ xs) ys l i j h = ap (λ (m : List ℕ). sets m (suc i) xs) (set-sets ys l i j x (omega arith)) ∙ sets-swap xs ys (set l i x) (suc i) j (omega arith)
+sets-again : (i : ℕ) (xs l : List ℕ) (at : ℕ) → sets (sets l at (take i xs)) at xs ≡ sets l at xs
+sets-again zero xs l at = refl
+sets-again (suc i) [] l at = refl
+sets-again (suc i) (x ∷ xs) l at =
+    ap (λ (m : List ℕ). sets m (suc at) xs) (set-sets (take i xs) (set l at x) at (suc at) x (omega arith) ∙ ap (λ (m : List ℕ). sets m (suc at) (take i xs)) (set-set l at x x))
+    ∙ sets-again i xs (set l at x) (suc at)
+
+-- the front of some bytes, and then what is left of them, or more than that
+pub sets-over : (j i : ℕ) (xs l : List ℕ) (at : ℕ) → j ≤ i → sets (sets l at (take i xs)) (at + j) (drop j xs) ≡ sets l at xs
+sets-over zero i xs l at h = let e : at + 0 ≡ at = omega arith in rw e (sets-again i xs l at)
+sets-over (suc j) zero xs l at h = absurd (omega arith)
+sets-over (suc j) (suc i) [] l at h = refl
+sets-over (suc j) (suc i) (x ∷ xs) l at h = let e : at + suc j ≡ suc at + j = omega arith in rw e (sets-over j i xs (set l at x) (suc at) (omega arith))
+
+-- the test for them, as the code makes it
+pub in-words : (n : ℕ) → (ltb n 4 || ltb 16 n) ≡ false → (4 ≤ n) × (n ≤ 16)
+in-words n e = go (ltb n 4) (ltb 16 n) refl refl e
+  where
+    go : (a b : Bool) → ltb n 4 ≡ a → ltb 16 n ≡ b → (a || b) ≡ false → (4 ≤ n) × (n ≤ 16)
+    go true b p q z = false-true (sym z)
+    go false true p q z = false-true (sym z)
+    go false false p q z = (ltb-false n 4 p, ltb-false 16 n q)
+
+-- n bytes as their first k and their last k
+pub words-over : (k n : ℕ) (s was mid now : List ℕ) (from at a b : ℕ) → Bytes s → k ≤ n → n ≤ 2 * k → from + n ≤ length s
+    → a ≡ wordAt k s from → b ≡ wordAt k s (from + n - k) → mid ≡ sets was at (wordBytes k a) → now ≡ sets mid (at + n - k) (wordBytes k b) → now ≡ sets was at (take n (drop from s))
+words-over k n s was mid now from at a b h lo hi room ea eb em en =
+    let xs = take n (drop from s) in
+    let e : at + n - k ≡ at + (n - k) = omega arith in
+    let f : from + n - k ≡ from + (n - k) = omega arith in
+    let m : n ≡ n - k + k = omega arith in
+    let first : wordBytes k a ≡ take k xs = ap (wordBytes k) ea ∙ read-bytes k from s h (omega arith) ∙ sym (take-take k n (drop from s) lo) in
+    let split : xs ≡ take (n - k) (drop from s) ++ take k (drop (n - k) (drop from s)) = ap (λ (z : ℕ). take z (drop from s)) m ∙ take-add (n - k) k (drop from s) in
+    let ld : length (take (n - k) (drop from s)) ≡ n - k = length-take-le (n - k) (drop from s) (simp length-drop (omega arith)) in
+    let later : drop (n - k) xs ≡ take k (drop (n - k) (drop from s)) = ap (drop (n - k)) split ∙ drop-at (take (n - k) (drop from s)) (take k (drop (n - k) (drop from s))) (n - k) ld in
+    let second : wordBytes k b ≡ drop (n - k) xs = ap (wordBytes k) eb ∙ read-bytes k (from + n - k) s h (omega arith) ∙ ap (λ (z : ℕ). take k (drop z s)) f ∙ ap (take k) (sym (drop-drop (n - k) from s)) ∙ sym later in
+    en ∙ ap₂ (λ (l : List ℕ) (z : ℕ). sets l z (wordBytes k b)) (em ∙ ap (sets was at) first) e ∙ ap (sets (sets was at (take k xs)) (at + (n - k))) second
+    ∙ sets-over (n - k) k xs was at (omega arith)
 
 -- over the whole of a list
 pub sets-all : (xs l : List ℕ) → length xs ≡ length l → sets l 0 xs ≡ xs

@@ -1,20 +1,19 @@
--- The passes over the codes: the depth, the sum of the sizes, the entries and the pool. Assumes nothing.
-use Prim.Native.Nat.{ℕ, zero, suc, _+_, _-_, _*_, _≤_, _<_, max}
+-- The passes over sizes and codes: the sum, the entries and the pool. Assumes nothing.
+use Prim.Native.Nat.{ℕ, zero, suc, _+_, _-_, _*_, _≤_, _<_}
 use native.Mathlib.Omega.{arith}
 use native.Mathlib.Numerals.{add-one}
-use mathlib.Core.Path.{_≡_, refl, sym, ap, ap₂, _∙_}
-use mathlib.Core.Bool.{Bool, true, false, _&&_, _||_}
+use mathlib.Core.Path.{_≡_, refl, sym, ap, ap₂, _∙_, subst}
+use mathlib.Core.Bool.{true, false}
 use mathlib.Core.List.{List, [], _∷_, _++_}
-use lib.Dec.{leb}
 use lib.ListN.{length, getD, drop, length-append, length-drop, drop-of-length-le}
 use lib.Seq.{sets, drop-cons, length-sets}
-use borrow.Author.Tests.{le-leb, lt-leb}
 use Rattle.common.proofs.Stores.{sets-append}
+use Rattle.postfix.proofs.Codes.{sets-swap}
 use Rattle.table.specs.declared.Entry.{Entry}
 use Rattle.table.specs.Table.{entryBytes, entriesBytes}
 use Rattle.translator.specs.Emit.{entryStart}
-use Rattle.translator.specs.Expand.{opIn, aIn, pushes, operandsBy, broughtBy, entryBy, expand, pooled, slotsBy, mostBy, sumFrom}
-use Rattle.translator.proofs.Stores.{sets-swap, length-entry, length-entries}
+use Rattle.translator.specs.Expand.{pushes, operandsBy, broughtBy, entryBy, expand, pooled, SizedBy, Sized, sumFrom}
+use Rattle.translator.proofs.Stores.{length-entry, length-entries}
 
 next-is : (cs : List ℕ) (i : ℕ) → i < length cs → drop i cs ≡ getD cs i 0 ∷ drop (i + 1) cs
 next-is cs i h = rw add-one (drop-cons cs i 0 h)
@@ -30,52 +29,6 @@ module _ (c : ℕ) where
 
   pub operands-none : pushes c ≡ false → 0 ≡ operandsBy c
   operands-none h = rw h
-
-  pub slots-none : pushes c ≡ true → 0 ≡ slotsBy c
-  slots-none h = rw h
-
-  module _ (h : pushes c ≡ false) where
-    pub slots-many : 56 ≤ opIn c → aIn c + 1 ≡ slotsBy c
-    slots-many l = rw (h, le-leb 56 (opIn c) l)
-
-    module _ (l : opIn c < 56) where
-      pub slots-two : ((leb 16 (opIn c) && leb (opIn c) 37) || (leb 41 (opIn c) && leb (opIn c) 43)) ≡ true → 2 ≡ slotsBy c
-      slots-two d = rw (h, lt-leb 56 (opIn c) l, d)
-
-      pub slots-one : ((leb 16 (opIn c) && leb (opIn c) 37) || (leb 41 (opIn c) && leb (opIn c) 43)) ≡ false → 1 ≡ slotsBy c
-      slots-one d = rw (h, lt-leb 56 (opIn c) l, d)
-
--- ---- the depth
-
-most-here : (cs : List ℕ) (n : ℕ) → n ≤ mostBy cs n
-unfolding mostBy
-most-here [] n = omega arith
-most-here (c ∷ cs) n = omega arith
-
-pub record Deepening (codes : List ℕ) (most held i : ℕ) : Type 0 where
-  pub within : i ≤ length codes
-  pub low : held ≤ i
-  pub top : held ≤ most
-  pub is : max most (mostBy (drop i codes) held) ≡ mostBy codes 0
-
-pub deep-start : (codes : List ℕ) → Deepening codes 0 0 0
-deep-start codes = record { within = omega arith; low = omega arith; top = omega arith; is = omega (arith, most-here codes 0) }
-
-module _ {codes : List ℕ} {most held i : ℕ} (g : Deepening codes most held i) where
-  pub deep-on : {to next : ℕ} → i < length codes → to ≡ held - slotsBy (getD codes i 0) + 1 → next ≡ max most to → to ≤ held + 1 → Deepening codes next to (i + 1)
-  unfolding mostBy
-  deep-on {to} {next} h et en le =
-      let e : mostBy (drop i codes) held ≡ max held (mostBy (drop (i + 1) codes) to) = ap (λ (cs : List ℕ). mostBy cs held) (next-is codes i h) ∙ ap (λ (n : ℕ). max held (mostBy (drop (i + 1) codes) n)) (sym et) in
-      record {
-        within = omega arith;
-        low = omega (arith, g .low);
-        top = omega arith;
-        is = omega (arith, g .is, g .top, e, most-here (drop (i + 1) codes) to);
-      }
-
-  pub deep-end : length codes ≤ i → most ≡ mostBy codes 0
-  unfolding mostBy
-  deep-end h = let e : mostBy (drop i codes) held ≡ held = ap (λ (cs : List ℕ). mostBy cs held) (ended codes i h) in omega (arith, g .is, g .top, e)
 
 -- ---- the sum
 
@@ -112,7 +65,7 @@ length-expand s places (c ∷ cs) l at = ap suc (length-expand s places cs (l + 
 pub length-written : (s places cs : List ℕ) (l at : ℕ) → length (entriesBytes (expand s places cs l at)) ≡ 12 * length cs
 length-written s places cs l at = length-entries (expand s places cs l at) ∙ ap (λ (n : ℕ). 12 * n) (length-expand s places cs l at)
 
-module _ (s places codes was : List ℕ) where
+module _ (s places sizes codes was : List ℕ) where
   abbrev pub whole : List ℕ
   whole = sets (sets was 10 (entriesBytes (expand s places codes 0 0))) (entryStart (length codes)) (pooled s places codes 0)
 
@@ -120,13 +73,14 @@ module _ (s places codes was : List ℕ) where
     pub within : i ≤ length codes
     pub few : leaf ≤ i
     pub long : length now ≡ length was
+    pub sized : Sized s places sizes (drop i codes) leaf
     pub ends : pool + length (pooled s places (drop i codes) leaf) ≡ length (pooled s places codes 0)
     pub bytes : sets (sets now (entryStart i) (entriesBytes (expand s places (drop i codes) leaf pool))) (entryStart (length codes) + pool) (pooled s places (drop i codes) leaf) ≡ whole
 
-  pub write-start : Writing was 0 0 0
-  write-start =
+  pub write-start : Sized s places sizes codes 0 → Writing was 0 0 0
+  write-start sized =
       let e : entryStart (length codes) + 0 ≡ entryStart (length codes) = omega arith in
-      record { within = omega arith; few = omega arith; long = refl; ends = omega arith; bytes = rw e }
+      record { within = omega arith; few = omega arith; long = refl; sized = sized; ends = omega arith; bytes = rw e }
 
   module _ {now : List ℕ} {leaf pool i : ℕ} (g : Writing now leaf pool i) where
     pub write-end : length codes ≤ i → now ≡ whole
@@ -149,21 +103,20 @@ module _ (s places codes was : List ℕ) where
       unfolding expand entriesBytes
       entries-next = ap (λ (cs : List ℕ). entriesBytes (expand s places cs leaf pool)) (next-is codes i h)
 
+      sized-next : Sized s places sizes (code ∷ drop (i + 1) codes) leaf
+      sized-next = subst (λ (cs : List ℕ). Sized s places sizes cs leaf) (next-is codes i h) (g .sized)
+
       -- there is room for the entry and for what it brings
-      fits : entryStart (length codes) + length (pooled s places codes 0) ≤ length was → length codes ≤ 512 → length (pooled s places codes 0) ≤ 4096
-          → (i < 512) × (entryStart (i + 1) ≤ entryStart (length codes) + pool) × (entryStart (length codes) + pool + length brought ≤ length now) × (length brought ≤ 4096)
-      fits room few small =
+      pub write-fits : entryStart (length codes) + length (pooled s places codes 0) ≤ length was → length codes ≤ 512 → length (pooled s places codes 0) ≤ 4096
+          → (i < 512) × (entryStart (i + 1) ≤ entryStart (length codes)) × (entryStart (length codes) + pool + length brought ≤ length now) × (length brought ≤ 4096) × SizedBy s code (getD places leaf 0) (getD sizes leaf 0)
+      write-fits room few small =
           let n = ap length pool-next ∙ length-append brought (pooled s places (drop (i + 1) codes) (leaf + operandsBy code)) in
-          (omega arith, omega arith, omega (arith, g .ends, g .long), omega (arith, g .ends))
+          (omega arith, omega arith, omega (arith, g .ends, g .long), omega (arith, g .ends), sized-next .0)
 
-      pub write-fits : {place : ℕ} → place ≡ getD places leaf 0 → entryStart (length codes) + length (pooled s places codes 0) ≤ length was → length codes ≤ 512 → length (pooled s places codes 0) ≤ 4096
-          → (i < 512) × (entryStart (i + 1) ≤ entryStart (length codes) + pool) × (entryStart (length codes) + pool + length (broughtBy s code place) ≤ length now) × (length (broughtBy s code place) ≤ 4096)
-      write-fits e room few small = rw e (fits room few small)
-
-      goes-on : {mid : List ℕ} {to end : ℕ} → to ≡ leaf + operandsBy code → operandsBy code ≤ 1 → end ≡ pool + length brought
+      pub write-on : {mid : List ℕ} {to end : ℕ} → to ≡ leaf + operandsBy code → operandsBy code ≤ 1 → end ≡ pool + length brought
           → mid ≡ sets (sets now (entryStart (length codes) + pool) brought) (entryStart i) (entryBytes (entryBy s code (getD places leaf 0) pool))
           → Writing mid to end (i + 1)
-      goes-on {mid} {to} {end} et one en q =
+      write-on {mid} {to} {end} et one en q =
           let at = entryStart (length codes) + pool in
           let eb = entryBytes (entryBy s code (getD places leaf 0) pool) in
           let rest = entriesBytes (expand s places (drop (i + 1) codes) (leaf + operandsBy code) (pool + length brought)) in
@@ -188,13 +141,7 @@ module _ (s places codes was : List ℕ) where
             within = omega arith;
             few = omega (arith, g .few);
             long = ap length q ∙ simp length-sets (g .long);
+            sized = sized-next .1;
             ends = omega (arith, g .ends, n);
             bytes = three;
           })
-
-      pub write-on : {place : ℕ} → place ≡ getD places leaf 0 → {mid : List ℕ} {to end : ℕ} → to ≡ leaf + operandsBy code → operandsBy code ≤ 1 → end ≡ pool + length (broughtBy s code place)
-          → mid ≡ sets (sets now (entryStart (length codes) + pool) (broughtBy s code place)) (entryStart i) (entryBytes (entryBy s code place pool))
-          → Writing mid to end (i + 1)
-      write-on e {mid} {to} {end} et one en q =
-          goes-on et one (en ∙ ap (λ (p : ℕ). pool + length (broughtBy s code p)) e)
-          (q ∙ ap (λ (p : ℕ). sets (sets now (entryStart (length codes) + pool) (broughtBy s code p)) (entryStart i) (entryBytes (entryBy s code p pool))) e)

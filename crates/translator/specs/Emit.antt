@@ -24,7 +24,7 @@ use Rattle.operands.specs.Patterns.{patternsBy}
 use Rattle.postfix.specs.Answer.{judgedOf}
 use Rattle.postfix.specs.declared.Judged.{Judged}
 use Rattle.translator.specs.Compile.{codeOf, bytesOf}
-use Rattle.translator.specs.Expand.{expand, pooled, mostBy}
+use Rattle.translator.specs.Expand.{expand, pooled, Sized}
 use Rattle.translator.specs.Translation.{refusal, orShort, ofTree, translationIn}
 use Rattle.translator.specs.Theorems.{Right}
 use Rattle.translator.specs.declared.Translated.{Translated}
@@ -84,22 +84,23 @@ pub record Known (s places sizes codes : List ℕ) (count : ℕ) (patterns : Boo
   pub has : j ≡ judgedOf tree
   pub codes-are : Fronts (codesOf tree) codes
 
--- the first of the refusals 4, 18, 5 and 7, 0 if none applies
+-- the first of the refusals 4, 18, 5, 7 and 8, 0 if none applies
 abbrev pub firstBy : Judged → Bool → ℕ
-firstBy j patterns = cond (not (j .forms)) 4 (cond (not patterns) 18 (cond (not (j .kinds && j .logic)) 5 (cond (ltb 512 (j .entries)) 7 0)))
+firstBy j patterns = cond (not (j .forms)) 4 (cond (not patterns) 18 (cond (not (j .kinds && j .logic)) 5 (cond (ltb 512 (j .entries)) 7 (cond (ltb 32 (j .depth)) 8 0))))
 
--- Codes of an expression to which these refusals do not apply: by one pass over them and the places of the operands come its depth, its entries and its pool.
-pub record Coded (s places codes : List ℕ) (pool : ℕ) : Type 0 where
+-- Codes of an expression to which these refusals do not apply: by one pass over them and the places and sizes of the operands come its entries and its pool.
+pub record Coded (s places sizes codes : List ℕ) (pool : ℕ) : Type 0 where
   pub tree : Tree
   pub outcome : (e : Edition) (room : ℕ) → translationIn e s room ≡ ofTree e tree room
   pub right : Right tree
   pub few : entriesOf tree ≤ 512
+  pub low : depthOf tree ≤ 32
   pub small : poolOf tree ≤ 4096
   pub count : length codes ≡ entriesOf tree
   pub pool-is : pool ≡ poolOf tree
-  pub depth : mostBy codes 0 ≡ depthOf tree
   pub entries : expand s places codes 0 0 ≡ codeOf 0 tree
   pub bytes : pooled s places codes 0 ≡ bytesOf tree
+  pub sized : Sized s places sizes codes 0
 
 -- ---- the table
 

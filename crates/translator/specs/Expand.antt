@@ -1,10 +1,9 @@
 -- Entries and pool of postfix codes, one after the other: what one pass over the codes writes. That it is `compile` of specs/Compile.antt is proved in proofs/Expanding.antt.
-use Prim.Native.Nat.{ℕ, zero, suc, _+_, _-_, _/_, _%_, max}
-use mathlib.Core.Bool.{Bool, cond, _&&_, _||_}
+use Prim.Native.Nat.{ℕ, zero, suc, _+_, _/_, _%_}
+use mathlib.Core.Path.{_≡_}
+use mathlib.Core.Bool.{Bool, true, cond}
 use mathlib.Core.List.{List, [], _∷_, _++_}
-use lib.Dec.{leb}
 use lib.ListN.{length, getD}
-use Rattle.opcode.specs.Number.{shiftLeftOp, greaterEqualOp, andOp, orOp, beginsWithOp}
 use Rattle.lexer.specs.Token.{Token}
 use Rattle.grammar.specs.Marks.{isOperand}
 use Rattle.grammar.specs.Stream.{tokenOf}
@@ -44,17 +43,14 @@ unfoldable pub pooled : List ℕ → List ℕ → List ℕ → ℕ → List ℕ
 pooled s places [] l = []
 pooled s places (c ∷ cs) l = broughtBy s c (getD places l 0) ++ pooled s places cs (l + operandsBy c)
 
--- the slots that a code's entry takes from the stack, of an entry that is right
-abbrev pub slotsBy : ℕ → ℕ
-slotsBy c =
-    cond (pushes c) 0
-    (cond (leb beginsWithOp (opIn c)) (aIn c + 1)
-    (cond ((leb shiftLeftOp (opIn c) && leb (opIn c) greaterEqualOp) || (leb andOp (opIn c) && leb (opIn c) orOp)) 2 1))
+-- a size is that of what a code brings, if it is an operand's
+abbrev pub SizedBy : List ℕ → ℕ → ℕ → ℕ → Type 0
+SizedBy s c place size = pushes c ≡ true → size ≡ length (broughtBy s c place)
 
--- the most slots that are held at once, with n of them before the first code
-unfoldable pub mostBy : List ℕ → ℕ → ℕ
-mostBy [] n = n
-mostBy (c ∷ cs) n = max n (mostBy cs (n - slotsBy c + 1))
+-- the sizes are those of what the codes bring, from the operand l on
+abbrev pub Sized : List ℕ → List ℕ → List ℕ → List ℕ → ℕ → Type 0
+Sized s places sizes [] l = Unit {0}
+Sized s places sizes (c ∷ cs) l = SizedBy s c (getD places l 0) (getD sizes l 0) × Sized s places sizes cs (l + operandsBy c)
 
 -- the sum of n numbers, from the number i on
 unfoldable pub sumFrom : List ℕ → ℕ → ℕ → ℕ

@@ -15,7 +15,6 @@ use Rattle.grammar.specs.Tree.{Tree}
 use Rattle.grammar.specs.Parse.{Result, ok, bad, parseAll}
 use Rattle.grammar.specs.Nesting.{tooDeep}
 use Rattle.grammar.specs.Function.{orElse}
-use Rattle.grammar.specs.Size.{poolOf}
 use Rattle.grammar.specs.Answer.{Broken, foundOf, foundNumber, numberOf, placeOf}
 use Rattle.table.specs.Table.{encode}
 use Rattle.translator.specs.Compile.{compile}
@@ -82,7 +81,3 @@ answerOf o = record { number = o .number; place = o .place; length = length (o .
 pub record Answers (o : Outcome) (was now : List ℕ) (r : Translated) : Type 0 where
   pub answer : r ≡ answerOf o
   pub bytes : now ≡ sets was 0 (o .table)
-
--- the pool of what the tokens say is within the limits
-abbrev pub Small : List Token → Type 0
-Small ks = (t : Tree) (n : ℕ) → parseAll ks ≡ ok t n → poolOf t ≤ 4096

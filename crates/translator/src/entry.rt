@@ -2,14 +2,16 @@
 ghost use mathlib.Core.Path.{_≡_};
 ghost use mathlib.Core.Bool.{true};
 ghost use Prim.Native.Nat.{_+_, _*_, _≤_, _<_};
-ghost use lib.ListN.{length};
+ghost use lib.ListN.{length, getD};
 ghost use lib.Seq.{sets};
 ghost use Rattle.grammar.specs.Marks.{isOperand};
 ghost use Rattle.grammar.specs.Stream.{tokenOf};
 ghost use Rattle.table.specs.Table.{entryBytes};
 ghost use Rattle.translator.specs.Compile.{entry, leafEntry, leafBytes};
 ghost use Rattle.translator.specs.Emit.{entryStart};
-ghost use Rattle.translator.specs.Expand.{opIn, aIn, pushes as pushesOf, broughtBy, entryBy};
+ghost use Rattle.translator.specs.Expand.{opIn, aIn, pushes as pushesOf, broughtBy, entryBy, SizedBy};
+use crate::operand;
+use grammar::stream;
 use table::Entry;
 
 // The ops of literals and names, as wide as an entry has them.
@@ -17,9 +19,9 @@ const INT32: u16 = opcode::INT32 as u16;
 
 const REAL64: u16 = opcode::REAL64 as u16;
 
-const TEXT: u16 = opcode::TEXT as u16;
+pub const TEXT: u16 = opcode::TEXT as u16;
 
-const NAME: u16 = opcode::NAME as u16;
+pub const NAME: u16 = opcode::NAME as u16;
 
 // The entry, over the whole of a part of 12 bytes.
 fn put_entry(part: &mut [u8], e: Entry)
@@ -92,45 +94,33 @@ fn leaf_entry(text: &[u8], op: u16, place: usize, n: usize, pool: usize) -> Entr
     if op == REAL64 {
         return literal_entry(REAL64, number::bits_of_real(lexer::real_value(text, place)));
     }
-    literal_entry(op, word::bits_of_i64(lexer::int_value(text, place)))
+    literal_entry(op, operand::int_bits(text, place))
 }
 
-// Copies what a literal or a name brings to the pool to the buffer, from `at` on, and answers how many bytes that is.
-fn put_bytes(text: &[u8], op: u16, place: usize, out: &mut [u8], at: usize) -> usize
-    requires { ⌜ at ≤ length (now out) ⌝ }
-    ensures { λ r. ⌜ r ≡ length (leafBytes (tokenOf (now (text .entry)) op place)) ⌝ }
-    ensures { λ _. ⌜ now (out .exit) ≡ sets (now (out .entry)) at (leafBytes (tokenOf (now (text .entry)) op place)) ⌝ }
-{
-    if op == TEXT {
-        let n = lexer::copy_string(text, place, &mut out[at..]);
-        return n;
-    }
-    if op == NAME {
-        let n = lexer::copy_name(text, place, &mut out[at..]);
-        return n;
-    }
-    0
-}
-
-// Writes the entry i, which is that of the code c, and from `at` on what it brings to the pool; answers how many bytes that is. The next operand starts at `place`.
+// Writes the entry i, which is that of the code c, and what it brings to the pool, of which so many bytes stand behind `from`; answers how many bytes that is. The next operand is the operand `leaf`.
 pub fn put_code(
     text: &[u8],
     c: u16,
-    place: usize,
+    places: &[u16],
+    sizes: &[u16],
+    leaf: usize,
     out: &mut [u8],
     i: usize,
-    at: usize,
+    from: usize,
     pool: usize,
 ) -> usize
-    requires { ⌜ (i < 512) × (entryStart (i + 1) ≤ at) × (at + length (broughtBy (now text) c place) ≤ length (now out)) × (length (broughtBy (now text) c place) ≤ 4096) ⌝ }
-    ensures { λ r. ⌜ r ≡ length (broughtBy (now (text .entry)) c place) ⌝ }
-    ensures { λ _. ⌜ now (out .exit) ≡ sets (sets (now (out .entry)) at (broughtBy (now (text .entry)) c place)) (entryStart i) (entryBytes (entryBy (now (text .entry)) c place pool)) ⌝ }
+    requires { ⌜ (i < 512) × (entryStart (i + 1) ≤ from) × (from + pool + length (broughtBy (now text) c (getD (now places) leaf 0)) ≤ length (now out)) × (length (broughtBy (now text) c (getD (now places) leaf 0)) ≤ 4096) × SizedBy (now text) c (getD (now places) leaf 0) (getD (now sizes) leaf 0) ⌝ }
+    ensures { λ r. ⌜ r ≡ length (broughtBy (now (text .entry)) c (getD (now (places .entry)) leaf 0)) ⌝ }
+    ensures { λ _. ⌜ now (out .exit) ≡ sets (sets (now (out .entry)) (from + pool) (broughtBy (now (text .entry)) c (getD (now (places .entry)) leaf 0))) (entryStart i) (entryBytes (entryBy (now (text .entry)) c (getD (now (places .entry)) leaf 0) pool)) ⌝ }
 {
     if !pushes(c) {
         put(out, i, code_entry(c));
         return 0;
     }
-    let n = put_bytes(text, c % 64, place, out, at);
-    put(out, i, leaf_entry(text, c % 64, place, n, pool));
+    let op = c % 64;
+    let place = stream::start(places, leaf);
+    let n = stream::start(sizes, leaf);
+    operand::put_bytes(text, op, place, n, out, from + pool);
+    put(out, i, leaf_entry(text, op, place, n, pool));
     n
 }

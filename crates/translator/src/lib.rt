@@ -5,7 +5,7 @@ ghost use Prim.Native.Nat.{_+_, _*_, _≤_};
 ghost use lib.ListN.{length};
 ghost use lib.Seq.{sets};
 ghost use Rattle.table.specs.Table.{entriesBytes};
-ghost use Rattle.translator.specs.Expand.{expand, pooled};
+ghost use Rattle.translator.specs.Expand.{expand, pooled, Sized};
 ghost use Rattle.translator.specs.Emit.{Roomy, Tokened, Known, firstBy, Coded, entryStart, headerBytes, tableAnswer};
 ghost use Rattle.translator.specs.Translation.{refusal, answerOf, translationIn, editionBy, translationOf, Answers};
 use opcode::Edition;
@@ -14,6 +14,7 @@ use postfix::Parsed;
 use read::Reading;
 
 mod entry;
+mod operand;
 pub mod read;
 pub mod write;
 
@@ -33,15 +34,16 @@ fn put_table(
     edition: Edition,
     text: &[u8],
     places: &[u16],
+    sizes: &[u16],
     codes: &[u16],
     pool: usize,
     out: &mut [u8],
 )
-    requires { ⌜ (length (now codes) ≤ 512) × (pool ≤ 4096) × (pool ≡ length (pooled (now text) (now places) (now codes) 0)) × (entryStart (length (now codes)) + pool ≤ length (now out)) ⌝ }
+    requires { ⌜ (length (now codes) ≤ 512) × (pool ≤ 4096) × (pool ≡ length (pooled (now text) (now places) (now codes) 0)) × (entryStart (length (now codes)) + pool ≤ length (now out)) × Sized (now text) (now places) (now sizes) (now codes) 0 ⌝ }
     ensures { λ _. ⌜ now (out .exit) ≡ sets (now (out .entry)) 0 (headerBytes edition (length (now (codes .entry))) pool ++ (entriesBytes (expand (now (text .entry)) (now (places .entry)) (now (codes .entry)) 0 0) ++ pooled (now (text .entry)) (now (places .entry)) (now (codes .entry)) 0)) ⌝ }
 {
     put_header(edition, out, codes.len(), pool);
-    write::write(text, places, codes, out);
+    write::write(text, places, sizes, codes, out);
 }
 
 // Number, place and table length.
@@ -66,15 +68,16 @@ fn accepted(
     edition: Edition,
     text: &[u8],
     places: &[u16],
+    sizes: &[u16],
     codes: &[u16],
     pool: usize,
     buffer: &mut [u8],
 ) -> Translated
-    requires { ⌜ (length (now codes) ≤ 512) × (pool ≤ 4096) × (pool ≡ length (pooled (now text) (now places) (now codes) 0)) × (entryStart (length (now codes)) + pool ≤ length (now buffer)) ⌝ }
+    requires { ⌜ (length (now codes) ≤ 512) × (pool ≤ 4096) × (pool ≡ length (pooled (now text) (now places) (now codes) 0)) × (entryStart (length (now codes)) + pool ≤ length (now buffer)) × Sized (now text) (now places) (now sizes) (now codes) 0 ⌝ }
     ensures { λ r. ⌜ r ≡ tableAnswer (length (now (codes .entry))) pool ⌝ }
     ensures { λ _. ⌜ now (buffer .exit) ≡ sets (now (buffer .entry)) 0 (headerBytes edition (length (now (codes .entry))) pool ++ (entriesBytes (expand (now (text .entry)) (now (places .entry)) (now (codes .entry)) 0 0) ++ pooled (now (text .entry)) (now (places .entry)) (now (codes .entry)) 0)) ⌝ }
 {
-    put_table(edition, text, places, codes, pool, buffer);
+    put_table(edition, text, places, sizes, codes, pool, buffer);
     Translated {
         number: 0,
         place: 0,
@@ -82,29 +85,27 @@ fn accepted(
     }
 }
 
-// Of an expression to which none of 4, 18, 5 and 7 applies: 8, 9, or its table, written once all is judged.
+// Of an expression to which none of 4, 18, 5, 7 and 8 applies: 9, or its table, written once all is judged.
 fn coded(
     edition: Edition,
     text: &[u8],
     places: &[u16],
+    sizes: &[u16],
     codes: &[u16],
     pool: usize,
     buffer: &mut [u8],
 ) -> Translated
-    requires { ⌜ Coded (now text) (now places) (now codes) pool ⌝ }
+    requires { ⌜ Coded (now text) (now places) (now sizes) (now codes) pool ⌝ }
     ensures { λ r. ⌜ Answers (translationIn edition (now (text .entry)) (length (now (buffer .entry)))) (now (buffer .entry)) (now (buffer .exit)) r ⌝ }
 {
-    if 32 < write::depth(codes) {
-        return refused(8, 0);
-    }
     let length = 10 + 12 * codes.len() + pool;
     if buffer.len() < length {
         return refused(9, 0);
     }
-    accepted(edition, text, places, codes, pool, buffer)
+    accepted(edition, text, places, sizes, codes, pool, buffer)
 }
 
-// The first of the refusals 4, 18, 5 and 7; 0 if none applies.
+// The first of the refusals 4, 18, 5, 7 and 8; 0 if none applies.
 fn first_refusal(j: Judged, patterns: bool) -> u8
     ensures { λ r. ⌜ r ≡ firstBy j patterns ⌝ }
 {
@@ -119,6 +120,9 @@ fn first_refusal(j: Judged, patterns: bool) -> u8
     }
     if 512 < j.entries {
         return 7;
+    }
+    if 32 < j.depth {
+        return 8;
     }
     0
 }
@@ -144,7 +148,7 @@ fn expression(
     }
     let n = j.entries;
     let pool = write::pool_length(sizes, count);
-    coded(edition, text, places, &codes[0..n], pool, buffer)
+    coded(edition, text, places, sizes, &codes[0..n], pool, buffer)
 }
 
 // Of the marks of a text's tokens.

@@ -16,12 +16,11 @@ use Rattle.lexer.proofs.scan.Reads as reads
 use Rattle.lexer.proofs.scan.Lts as lts
 use Rattle.lexer.proofs.byte.is_quote.Reads as is-quote-reads
 use Rattle.lexer.proofs.byte.starts_name.Reads as starts-name-reads
-use Rattle.lexer.proofs.byte.starts_number.Reads as starts-number-reads
-use Rattle.lexer.proofs.run.byte_at.Reads as byte-at-reads
+use Rattle.lexer.proofs.starts_number.Reads as starts-number-reads
 use Rattle.lexer.proofs.scan_name.Reads as scan-name-reads
 use Rattle.lexer.proofs.scan_number.Reads as scan-number-reads
 use Rattle.lexer.proofs.scan_string.Reads as scan-string-reads
-use Rattle.lexer.proofs.scan_symbol.Reads as scan-symbol-reads
+use Rattle.lexer.proofs.symbol.scan_symbol.Reads as scan-symbol-reads
 
 shared-slice-read-a : tie.Need-shared-slice-read-a
 shared-slice-read-a c = search needs
@@ -38,12 +37,6 @@ returns c =
     let e = ap startsName (byte-here (t .text .now) (t .at)) ∙ sym (c .before .before .starts-name .ensures) ∙ c .before .if1 .taken in
     c .scan-name .ensures ∙ ap scannedOf (sym (is-name (drop (t .at) (t .text .now)) e))
 
-add-byte-at : tie.Need-add-byte-at
-add-byte-at c = search needs
-
-byte-at-requires : tie.Need-byte-at-requires
-byte-at-requires c κs = search needs
-
 starts-number-requires : tie.Need-starts-number-requires
 starts-number-requires c κs = search needs
 
@@ -52,23 +45,23 @@ scan-number-requires c κs = search needs
 
 -- what stands first, and what the tests tell of it
 abbrev from : (c : tie.After-starts-number) → List ℕ
-from c = let t = c .before .before .before .before .before .before .args in drop (t .at) (t .text .now)
+from c = let t = c .before .before .before .before .before .args in drop (t .at) (t .text .now)
 
-no-name : (c : tie.After-starts-number) → let t = c .before .before .before .before .before .before .args in startsName (getD (drop (t .at) (t .text .now)) 0 0) ≡ false
+no-name : (c : tie.After-starts-number) → let t = c .before .before .before .before .before .args in startsName (getD (drop (t .at) (t .text .now)) 0 0) ≡ false
 no-name c =
-    let t = c .before .before .before .before .before .before .args in
-    ap startsName (byte-here (t .text .now) (t .at)) ∙ sym (c .before .before .before .starts-name .ensures) ∙ c .before .before .if1 .left
+    let t = c .before .before .before .before .before .args in
+    ap startsName (byte-here (t .text .now) (t .at)) ∙ sym (c .before .before .starts-name .ensures) ∙ c .before .if1 .left
 
-number : (c : tie.After-starts-number) → let t = c .before .before .before .before .before .before .args in
+number : (c : tie.After-starts-number) → let t = c .before .before .before .before .before .args in
     startsNumber (getD (drop (t .at) (t .text .now)) 0 0) (getD (drop (t .at) (t .text .now)) 1 0) ≡ c .starts-number .result
 number c =
-    let t = c .before .before .before .before .before .before .args in
-    rw (byte-here (t .text .now) (t .at), getD-drop (t .at) (t .text .now) 1 0, ← c .before .byte-at .ensures) (sym (c .starts-number .ensures))
+    let t = c .before .before .before .before .before .args in
+    rw (byte-here (t .text .now) (t .at), getD-drop (t .at) (t .text .now) 1 0) (sym (c .starts-number .ensures))
 
-quote : (c : tie.After-is-quote) → let t = c .before .before .before .before .before .before .before .before .args in
+quote : (c : tie.After-is-quote) → let t = c .before .before .before .before .before .before .before .args in
     isQuote (getD (drop (t .at) (t .text .now)) 0 0) ≡ c .is-quote .result
 quote c =
-    let t = c .before .before .before .before .before .before .before .before .args in
+    let t = c .before .before .before .before .before .before .before .args in
     ap isQuote (byte-here (t .text .now) (t .at)) ∙ sym (c .is-quote .ensures)
 
 returns-2 : tie.Need-returns-2
@@ -102,8 +95,6 @@ scan-spec =
     starts-name-requires
     scan-name-requires
     returns
-    add-byte-at
-    byte-at-requires
     starts-number-requires
     scan-number-requires
     returns-2

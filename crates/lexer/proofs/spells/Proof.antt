@@ -1,34 +1,37 @@
-use mathlib.Core.Path.{_∙_, sym}
+use mathlib.Core.Path.{sym, _∙_}
 use lib.ListN.{drop}
-use Rattle.lexer.specs.Run.{runOf}
-use Rattle.lexer.proofs.Runs.{word-same, word-differs}
+use Rattle.lexer.proofs.Runs.{word-begins, word-goes-on}
 use borrow.Author.Needs.{needs}
 use Rattle.lexer.proofs.spells.Statement.{statement}
 use Rattle.lexer.proofs.spells.Tie as tie
-use Rattle.lexer.proofs.run.has_escape.Reads as has-escape-reads
-use Rattle.lexer.proofs.run.run.Reads as run-reads
-use Rattle.octets.proofs.same.Reads as same-reads
+use Rattle.lexer.proofs.spells.Reads as reads
+use Rattle.lexer.proofs.spells.Lts as lts
+use Rattle.lexer.proofs.run.ended.Reads as ended-reads
+use Rattle.lexer.proofs.run.rest.Reads as rest-reads
+use Rattle.octets.proofs.begins.Reads as begins-reads
 
-run-requires : tie.Need-run-requires
-run-requires c κs = search needs
+rest-requires : tie.Need-rest-requires
+rest-requires c κs = search needs
 
-same-requires : tie.Need-same-requires
-same-requires c κs = search needs
+ended-requires : tie.Need-ended-requires
+ended-requires c κs = search needs
 
-has-escape-requires : tie.Need-has-escape-requires
-has-escape-requires c κs = search needs
+begins-requires : tie.Need-begins-requires
+begins-requires c κs = search needs
 
 returns : tie.Need-returns
 returns c =
     let a = c .before .before .before .before .before .before .args in
-    let e = rw (c .before .before .before .run .ensures) at (c .before .before .same .ensures) in
-    rw (c .has-escape .ensures) (word-same (runOf 0 (drop (a .at) (a .text .now))) (a .word .now) (sym e ∙ c .before .if1 .taken))
+    let r = c .before .before .before .rest .ensures in
+    let e = rw r at (c .begins .ensures) in
+    let f = rw r at (c .before .before .ended .ensures) in
+    e ∙ word-begins (drop (a .at) (a .text .now)) (a .word .now) (c .before .before .before .before .before .before .pre) (sym f ∙ c .before .if1 .taken)
 
 returns-2 : tie.Need-returns-2
 returns-2 c =
     let a = c .before .before .before .before .before .args in
-    let e = rw (c .before .before .run .ensures) at (c .before .same .ensures) in
-    word-differs (runOf 0 (drop (a .at) (a .text .now))) (a .word .now) (sym e ∙ c .if1 .left)
+    let f = rw (c .before .before .rest .ensures) at (c .before .ended .ensures) in
+    word-goes-on (drop (a .at) (a .text .now)) (a .word .now) (c .before .before .before .before .before .pre) (sym f ∙ c .if1 .left)
 
 pub spells-spec : {M : Type 1} → statement M
-spells-spec = tie.close (tie.spec run-requires same-requires has-escape-requires returns returns-2)
+spells-spec = tie.close (tie.spec rest-requires ended-requires begins-requires returns returns-2)

@@ -2,7 +2,7 @@ use borrow.Author.Needs.{needs}
 use Prim.Native.Nat.{_-_}
 use native.Mathlib.Omega.{arith}
 use lib.ListN.{length, length-set}
-use Rattle.operands.proofs.Marks.{Marking, marking-starts, marking-on, marking-ends, asking-ends}
+use Rattle.operands.proofs.Marks.{Marking, marking-starts, marking-on, marking-past, marking-ends, asking-ends}
 use Rattle.operands.proofs.mark.Statement.{statement}
 use Rattle.operands.proofs.mark.Tie as tie
 use Rattle.operands.proofs.mark.Reads as reads
@@ -23,6 +23,15 @@ loop-holds c = marking-starts _ _ _
 mark-at-requires : tie.Need-mark-at-requires Inv-loop μ-loop
 mark-at-requires c κs = search needs
 
+add-i : tie.Need-add-i Inv-loop μ-loop
+add-i c = search needs
+
+loop-less : tie.Need-loop-less Inv-loop μ-loop
+loop-less c = search needs
+
+loop-again : tie.Need-loop-again Inv-loop μ-loop
+loop-again c = marking-past (c .before .before .before .before .loop .inv) (c .before .before .before .loop-test .taken) (c .before .mark-at .ensures) (c .if1 .taken)
+
 slice-write-kinds : tie.Need-slice-write-kinds Inv-loop μ-loop
 slice-write-kinds c = search needs
 
@@ -32,14 +41,14 @@ called-requires c κs = search needs
 takes-patterns-requires : tie.Need-takes-patterns-requires Inv-loop μ-loop
 takes-patterns-requires c κs = search needs
 
-add-i : tie.Need-add-i Inv-loop μ-loop
-add-i c = search needs
+add-i-2 : tie.Need-add-i-2 Inv-loop μ-loop
+add-i-2 c = search needs
 
-loop-less : tie.Need-loop-less Inv-loop μ-loop
-loop-less c = simp length-set (omega (arith, c .before .before .before .before .loop-test .taken))
+loop-less-2 : tie.Need-loop-less-2 Inv-loop μ-loop
+loop-less-2 c = simp length-set (omega (arith, c .before .before .before .before .before .loop-test .taken))
 
-loop-again : tie.Need-loop-again Inv-loop μ-loop
-loop-again c = marking-on (c .before .before .before .before .before .loop .inv) (c .before .before .before .before .loop-test .taken) (c .before .before .mark-at .ensures) (c .before .called .ensures) (c .takes-patterns .ensures)
+loop-again-2 : tie.Need-loop-again-2 Inv-loop μ-loop
+loop-again-2 c = marking-on (c .before .before .before .before .before .before .loop .inv) (c .before .before .before .before .before .loop-test .taken) (c .before .before .before .mark-at .ensures) (c .before .called .ensures) (c .takes-patterns .ensures)
 
 same-length : tie.Need-same-length Inv-loop μ-loop
 same-length c = c .before .loop .inv .long
@@ -55,11 +64,14 @@ mark-spec =
     μ-loop
     loop-holds
     mark-at-requires
-    slice-write-kinds
-    called-requires
-    takes-patterns-requires
     add-i
     loop-less
     loop-again
+    slice-write-kinds
+    called-requires
+    takes-patterns-requires
+    add-i-2
+    loop-less-2
+    loop-again-2
     same-length
     returns)

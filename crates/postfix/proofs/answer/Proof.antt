@@ -26,8 +26,11 @@ forms-requires c κs = search needs
 kinds-requires : tie.Need-kinds-requires
 kinds-requires c κs = search needs
 
+depth-requires : tie.Need-depth-requires
+depth-requires c κs = search needs
+
 returns-2 : tie.Need-returns-2
-returns-2 c = rw (← c .before .before .before .before .before .broken .ensures, ← c .before .before .before .before .before .before .next .ensures .0, c .before .before .before .before .if1 .left, c .before .before .before .end .ensures .0, c .before .before .logic .ensures, c .before .forms .ensures, c .kinds .ensures, c .before .before .before .before .before .before .before .known .ensures)
+returns-2 c = rw (← c .before .before .before .before .before .before .broken .ensures, ← c .before .before .before .before .before .before .before .next .ensures .0, c .before .before .before .before .before .if1 .left, c .before .before .before .before .end .ensures .0, c .before .before .before .logic .ensures, c .before .before .forms .ensures, c .before .kinds .ensures, c .depth .ensures .0, c .before .before .before .before .before .before .before .before .known .ensures)
 
 pub answer-spec : {M : Type 1} → statement M
 answer-spec =
@@ -41,4 +44,5 @@ answer-spec =
     logic-requires
     forms-requires
     kinds-requires
+    depth-requires
     returns-2)

@@ -27,11 +27,14 @@ kinds-requires c κs = search needs
 call-form-requires : tie.Need-call-form-requires
 call-form-requires c κs = search needs
 
+depth-requires : tie.Need-depth-requires
+depth-requires c κs = search needs
+
 knowing-requires : tie.Need-knowing-requires
 knowing-requires c κs = search needs
 
 returns : tie.Need-returns
-returns c = (c .knowing .ensures .0 ∙ rw (c .before .before .before .before .gives-logic .ensures, c .before .before .before .forms .ensures, c .before .before .before .before .before .call-right .ensures, c .before .before .before .before .before .before .before .before .form .ensures .0, c .before .before .before .before .before .before .before .count .ensures .0, c .before .before .before .before .before .before .logic .ensures, c .before .before .kinds .ensures, c .before .call-form .ensures .0), c .knowing .ensures .1)
+returns c = (c .knowing .ensures .0 ∙ rw (c .before .before .before .before .before .gives-logic .ensures, c .before .before .before .before .forms .ensures, c .before .before .before .before .before .before .call-right .ensures, c .before .before .before .before .before .before .before .before .before .form .ensures .0, c .before .before .before .before .before .before .before .before .count .ensures .0, c .before .before .before .before .before .before .before .logic .ensures, c .before .before .before .kinds .ensures, c .before .before .call-form .ensures .0, c .before .depth .ensures .0), c .knowing .ensures .1)
 
 pub call-known-spec : {M : Type 1} → statement M
 call-known-spec =
@@ -45,5 +48,6 @@ call-known-spec =
     forms-requires
     kinds-requires
     call-form-requires
+    depth-requires
     knowing-requires
     returns)

@@ -36,6 +36,18 @@ forms-requires c κs = search needs
 forms-requires-2 : tie.Need-forms-requires-2
 forms-requires-2 c κs = search needs
 
+depth-requires : tie.Need-depth-requires
+depth-requires c κs = search needs
+
+depth-requires-2 : tie.Need-depth-requires-2
+depth-requires-2 c κs = search needs
+
+add-deeper : tie.Need-add-deeper
+add-deeper c = search needs
+
+deeper-requires : tie.Need-deeper-requires
+deeper-requires c κs = search needs
+
 knowing-requires : tie.Need-knowing-requires
 knowing-requires c κs = search needs
 
@@ -49,7 +61,7 @@ add-result-2 : tie.Need-add-result-2
 add-result-2 c = search needs
 
 returns : tie.Need-returns
-returns c = (rw (c .knowing .ensures .0, c .before .before .before .before .before .before .before .before .all-texts .ensures, c .before .before .before .before .before .before .first-form .ensures .0, c .before .before .before .before .before .before .before .before .before .before .form .ensures .0, c .before .before .before .before .before .before .before .form2 .ensures .0, c .before .before .before .before .before .before .before .before .before .before .before .count .ensures .0, c .before .before .before .before .before .before .before .before .before .logic .ensures, c .before .before .forms .ensures, c .before .forms2 .ensures, c .before .before .before .before .before .kinds .ensures, c .before .before .before .before .kinds2 .ensures, c .before .before .before .logic2 .ensures), omega (arith, c .knowing .ensures .1, c .before .before .before .before .before .before .before .before .before .before .before .count .ensures .1))
+returns c = (rw (c .knowing .ensures .0, c .before .deeper .ensures .0, c .before .before .before .depth .ensures .0, c .before .before .depth2 .ensures .0, c .before .before .before .before .before .before .before .before .before .before .before .all-texts .ensures, c .before .before .before .before .before .before .before .before .before .first-form .ensures .0, c .before .before .before .before .before .before .before .before .before .before .before .before .before .form .ensures .0, c .before .before .before .before .before .before .before .before .before .before .form2 .ensures .0, c .before .before .before .before .before .before .before .before .before .before .before .before .before .before .count .ensures .0, c .before .before .before .before .before .before .before .before .before .before .before .before .logic .ensures, c .before .before .before .before .before .forms .ensures, c .before .before .before .before .forms2 .ensures, c .before .before .before .before .before .before .before .before .kinds .ensures, c .before .before .before .before .before .before .before .kinds2 .ensures, c .before .before .before .before .before .before .logic2 .ensures), omega (arith, c .knowing .ensures .1, c .before .before .before .before .before .before .before .before .before .before .before .before .before .before .count .ensures .1))
 
 pub more-known-spec : {M : Type 1} → statement M
 more-known-spec =
@@ -66,6 +78,10 @@ more-known-spec =
     logic-requires-2
     forms-requires
     forms-requires-2
+    depth-requires
+    depth-requires-2
+    add-deeper
+    deeper-requires
     knowing-requires
     add-result
     mul-result

@@ -18,11 +18,14 @@ gives-logic-requires c κs = search needs
 forms-requires : tie.Need-forms-requires
 forms-requires c κs = search needs
 
+depth-requires : tie.Need-depth-requires
+depth-requires c κs = search needs
+
 knowing-requires : tie.Need-knowing-requires
 knowing-requires c κs = search needs
 
 returns : tie.Need-returns
-returns c = (c .knowing .ensures .0 ∙ rw (c .before .before .gives-logic .ensures, c .before .forms .ensures, c .before .before .before .before .before .kinds .ensures, c .before .before .before .operand-right .ensures, c .before .before .before .before .logic .ensures), c .knowing .ensures .1)
+returns c = (c .knowing .ensures .0 ∙ rw (c .before .before .before .gives-logic .ensures, c .before .before .forms .ensures, c .before .before .before .before .before .before .kinds .ensures, c .before .before .before .before .operand-right .ensures, c .before .before .before .before .before .logic .ensures, c .before .depth .ensures .0), c .knowing .ensures .1)
 
 pub unary-known-spec : {M : Type 1} → statement M
 unary-known-spec =
@@ -33,5 +36,6 @@ unary-known-spec =
     operand-right-requires
     gives-logic-requires
     forms-requires
+    depth-requires
     knowing-requires
     returns)

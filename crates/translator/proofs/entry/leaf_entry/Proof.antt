@@ -1,20 +1,16 @@
-use mathlib.Core.Path.{_≡_, refl, sym, ap, _∙_, subst}
+use mathlib.Core.Path.{ap, _∙_}
 use lib.Ieee.{binary64, toBits}
-use mir.Syntax.{w64}
-use mir.Val.{ofZ}
-use mir.ValLaws.{toZ-ofZ}
 use Rattle.translator.proofs.Making.{name-made, string-made, real-made, int-made}
 use borrow.Author.Needs.{needs}
 use Rattle.translator.proofs.entry.leaf_entry.Statement.{statement}
 use Rattle.translator.proofs.entry.leaf_entry.Tie as tie
 use Rattle.translator.proofs.entry.leaf_entry.Reads as reads
 use Rattle.translator.proofs.entry.leaf_entry.Lts as lts
-use Rattle.lexer.proofs.int_value.Reads as int-value-reads
 use Rattle.lexer.proofs.real_value.Reads as real-value-reads
 use Rattle.number.proofs.bits_of_real.Reads as bits-of-real-reads
 use Rattle.translator.proofs.entry.literal_entry.Reads as literal-entry-reads
 use Rattle.translator.proofs.entry.part_entry.Reads as part-entry-reads
-use Rattle.word.proofs.bits_of_i64.Reads as bits-of-i64-reads
+use Rattle.translator.proofs.operand.int_bits.Reads as int-bits-reads
 
 part-entry-requires : tie.Need-part-entry-requires
 part-entry-requires c κs = search needs
@@ -40,17 +36,14 @@ literal-entry-requires c κs = search needs
 returns-3 : tie.Need-returns-3
 returns-3 c = real-made (c .before .before .before .before .before .before .before .args .text .now) (c .before .before .before .before .before .before .before .args .op) (c .before .before .before .before .before .before .before .args .place) (c .before .before .before .before .before .before .before .args .pool) (c .before .before .before .if3 .taken) (c .before .bits-of-real .ensures ∙ ap (toBits binary64) (c .before .before .real-value .ensures)) (c .literal-entry .ensures)
 
-int-value-requires : tie.Need-int-value-requires
-int-value-requires c κs = search needs
-
-bits-of-i64-requires : tie.Need-bits-of-i64-requires
-bits-of-i64-requires c κs = search needs
+int-bits-requires : tie.Need-int-bits-requires
+int-bits-requires c κs = search needs
 
 literal-entry-requires-2 : tie.Need-literal-entry-requires-2
 literal-entry-requires-2 c κs = search needs
 
 returns-4 : tie.Need-returns-4
-returns-4 c = int-made (c .before .before .before .before .before .before .before .args .text .now) (c .before .before .before .before .before .before .before .args .op) (c .before .before .before .before .before .before .before .args .place) (c .before .before .before .before .before .before .before .args .pool) (c .before .before .before .before .before .before .before .pre .0) (c .before .before .before .before .before .if1 .left) (c .before .before .before .before .if2 .left) (c .before .before .before .if3 .left) ((rw (toZ-ofZ w64 (c .before .before .int-value .result) (record { sfits = c .before .before .int-value .ok })) at (c .before .bits-of-i64 .ensures)) ∙ ap (ofZ w64) (c .before .before .int-value .ensures)) (c .literal-entry2 .ensures)
+returns-4 c = int-made (c .before .before .before .before .before .before .args .text .now) (c .before .before .before .before .before .before .args .op) (c .before .before .before .before .before .before .args .place) (c .before .before .before .before .before .before .args .pool) (c .before .before .before .before .before .before .pre .0) (c .before .before .before .before .if1 .left) (c .before .before .before .if2 .left) (c .before .before .if3 .left) (c .before .int-bits .ensures) (c .literal-entry2 .ensures)
 
 pub leaf-entry-spec : {M : Type 1} → statement M
 leaf-entry-spec =
@@ -64,7 +57,6 @@ leaf-entry-spec =
     bits-of-real-requires
     literal-entry-requires
     returns-3
-    int-value-requires
-    bits-of-i64-requires
+    int-bits-requires
     literal-entry-requires-2
     returns-4)
