@@ -41,12 +41,32 @@
  * - No other thread writes to what is lent, or reads what the call may write, before the call returns.
  *
  * The functions keep nothing between calls, so that threads may call them at the same time. They end,
- * use no heap and call nothing but memset. The stack is not part of the proofs. Measured: translating
- * takes 25 kB for a flat text and at most 58 kB, within 64 KiB, for the deepest texts (24 parentheses or
- * calls, every operator level and 24 prefix operators between each two); a run with `regex`
- * takes 23 kB and one whose `contains` goes on by borders 14 kB, among many tables, those of a store and
- * in a decision too, the other functions at most 6 kB, of which reading UBF(A) takes 4. The time of
- * `regex` is at most that of the pattern's bytes times the value's; a pattern never makes it go back.
+ * use no heap and call nothing but memset. The time of `regex` is at most that of the pattern's bytes
+ * times the value's; a pattern never makes it go back.
+ *
+ * The stack is not part of the proofs. Measured, in bytes, on the inputs that take most, none over 64 KiB
+ * (tests/stack prints the figures, with the frame of a C function that makes the call):
+ *
+ *    virentolex_translate      58,640   the deepest texts: 24 parentheses or calls, every operator level
+ *                                       and 24 prefix operators between each two; a flat one 24,576
+ *    virentolex_run            22,727   with `regex`; 13,880 if `contains` goes on by borders; else 5,680
+ *    virentolex_run_many       22,695   likewise: 13,848; else 5,648
+ *    virentolex_store_match    22,823   likewise: 13,976; else 5,776
+ *    virentolex_quorum_show    22,791   likewise: 13,944; else 5,744
+ *    virentolex_store_add       5,272
+ *    virentolex_quorum_open     5,144
+ *    virentolex_entry           5,128
+ *    virentolex_check           5,064
+ *    virentolex_ubf_read        4,088
+ *    virentolex_mend            1,304
+ *    virentolex_write             408
+ *    virentolex_ubf_write         408
+ *    virentolex_read              376
+ *    virentolex_find              376
+ *    virentolex_check_notice      312
+ *    virentolex_store_fetch       208
+ *    virentolex_store_remove      208
+ *    virentolex_store_make         40
  */
 #ifndef VIRENTOLEX_H
 #define VIRENTOLEX_H

@@ -40,6 +40,10 @@ def main():
         for p in (b"a" * (n - 1) + b"b", b"aab" * (n // 3) + b"a"):
             s = (p[:-1] * size)[:size]
             cases += [(s, p), (s + p, p), (s[: size - n // 2] + p.swapcase() + s[:3], p)]
+    # .. and strings that begin longer ones, or differ late
+    for n in range(7, 34):
+        s = bytes(rng.choice(b"nN\x00\xff") for _ in range(n))
+        cases += [(s, s + b"\0"), (s + b"n", s), (s + b"a", s + b"b"), (s[:-1] + b"\x7f" + s, s[:-1] + b"\x80")]
     stdin = b""
     for s, t in cases:
         for marks in range(4):
@@ -47,7 +51,7 @@ def main():
             for part in (bytes([m, n]), s, t):
                 stdin += struct.pack("<I", len(part)) + part
             x, y = fold(m, s), fold(n, t)
-            rows.append("".join(f"{int(v)} " for v in (x == y, x < y, x.startswith(y), y in x, x.endswith(y))))
+            rows.append("".join(f"{int(v)} " for v in (x == y, x < y, s < t, x.startswith(y), y in x, x.endswith(y))))
     (here / "stdin").write_bytes(stdin)
     (here / "stdout").write_text("\n".join(rows) + "\n")
 

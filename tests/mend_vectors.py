@@ -113,6 +113,9 @@ def lengths():
     # as many fields as there can be, and as many that are kept, to the last byte
     case(E + bytes(MOST - 8), 3 * 8188, 8)
     case(E + bytes(MOST - 8), 3 * 8188 - 1, 8)
+    # .. and beside the lengths from which on more of them are noted
+    for n in (135, 136, 137, 138, 2055, 2056, 2057, 2058):
+        tight(E + bytes(n - 8))
     fields = [field(b"%02d" % i, 4, b"v" * (249 if i < 56 else 248)) for i in range(KEPT)]
     for order in (fields, fields[::-1]):
         s = E + b"".join(order)

@@ -7,11 +7,21 @@ struct Timespec {
     nanoseconds: i64,
 }
 
+/// Seconds and microseconds in user and in system mode, and 14 numbers that are not looked at.
+#[repr(C)]
+struct Usage {
+    user: [i64; 2],
+    system: [i64; 2],
+    others: [i64; 14],
+}
+
 extern "C" {
     fn clock_gettime(clock: i32, time: *mut Timespec) -> i32;
+    fn getrusage(who: i32, usage: *mut Usage) -> i32;
 }
 
 const CLOCK_THREAD_CPUTIME_ID: i32 = 3;
+const RUSAGE_CHILDREN: i32 = -1;
 
 /// Nanoseconds of processor time of this thread: what other programs take of the processor does not count.
 pub fn now() -> f64 {
@@ -23,6 +33,20 @@ pub fn now() -> f64 {
     let status = unsafe { clock_gettime(CLOCK_THREAD_CPUTIME_ID, &mut t) };
     assert_eq!(status, 0);
     t.seconds as f64 * 1e9 + t.nanoseconds as f64
+}
+
+/// Seconds of processor time of the programs that this one has started and that have ended.
+pub fn of_children() -> f64 {
+    let mut usage = Usage {
+        user: [0; 2],
+        system: [0; 2],
+        others: [0; 14],
+    };
+    // SAFETY: `Usage` is laid out as the C library's, and is lent for the call
+    let status = unsafe { getrusage(RUSAGE_CHILDREN, &mut usage) };
+    assert_eq!(status, 0);
+    let seconds = |[whole, micro]: [i64; 2]| whole as f64 + micro as f64 / 1e6;
+    seconds(usage.user) + seconds(usage.system)
 }
 
 #[derive(Clone, Copy)]
@@ -54,7 +78,7 @@ fn fill(f: &mut dyn FnMut(u32), pace: Pace) -> u32 {
     }
 }
 
-pub fn median(mut v: Vec<f64>) -> f64 {
+fn median(mut v: Vec<f64>) -> f64 {
     v.sort_by(f64::total_cmp);
     v[v.len() / 2]
 }
@@ -68,7 +92,7 @@ pub fn rounds<const N: usize>(mut sides: [&mut dyn FnMut(u32); N], pace: Pace) -
 }
 
 /// The median over the rounds of what is made of each.
-pub fn middle<const N: usize>(rounds: &[[f64; N]], of: impl Fn(&[f64; N]) -> f64) -> f64 {
+pub fn middle<T>(rounds: &[T], of: impl Fn(&T) -> f64) -> f64 {
     median(rounds.iter().map(of).collect())
 }
 

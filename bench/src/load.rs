@@ -91,42 +91,76 @@ const WORDS: [&str; 8] = [
     "x",
 ];
 
+/// One field: `Op` with this value, any other with one by the dice.
+fn put_field(body: &mut Vec<u8>, (name, kind): (&str, u16), op: i32, dice: &mut Dice) {
+    let value: Vec<u8> = match kind {
+        1 if name == "Op" => op.to_le_bytes().to_vec(),
+        1 => (dice.next(10) as i32).to_le_bytes().to_vec(),
+        2 => (dice.next(1_000_000) as i64).to_le_bytes().to_vec(),
+        3 => (dice.next(1000) as f64 / 8.0).to_le_bytes().to_vec(),
+        4 => WORDS[dice.next(WORDS.len())].as_bytes().to_vec(),
+        _ => vec![7; dice.next(24)],
+    };
+    body.extend_from_slice(&((3 + name.len() + value.len()) as u16).to_le_bytes());
+    body.extend_from_slice(&kind.to_le_bytes());
+    body.push(name.len() as u8);
+    body.extend_from_slice(name.as_bytes());
+    body.extend_from_slice(&value);
+}
+
+/// The notice of these fields.
+fn framed(body: &[u8], count: usize) -> Vec<u8> {
+    let mut all = ((4 + body.len()) as u32).to_le_bytes().to_vec();
+    all.extend_from_slice(&1u16.to_le_bytes());
+    all.extend_from_slice(&(count as u16).to_le_bytes());
+    all.extend_from_slice(body);
+    all
+}
+
 /// A notice of so many fields: `Op` alone, or `Op` among others spread over the names.
 pub fn notice(fields: usize) -> Vec<u8> {
     let step = NAMES.len() / fields;
     let mut body = Vec::new();
-    let mut count = 0u16;
+    let mut count = 0;
     let mut dice = Dice(0x9e37_79b9_7f4a_7c15);
-    for (i, (name, kind)) in NAMES.iter().enumerate() {
+    for (i, field) in NAMES.into_iter().enumerate() {
         let chosen = if fields == 1 {
-            *name == "Op"
+            field.0 == "Op"
         } else {
             i % step == 38 % step
         };
-        if !chosen {
-            continue;
+        if chosen {
+            put_field(&mut body, field, 42, &mut dice);
+            count += 1;
         }
-        let value: Vec<u8> = match kind {
-            1 if *name == "Op" => 42i32.to_le_bytes().to_vec(),
-            1 => (dice.next(10) as i32).to_le_bytes().to_vec(),
-            2 => (dice.next(1_000_000) as i64).to_le_bytes().to_vec(),
-            3 => (dice.next(1000) as f64 / 8.0).to_le_bytes().to_vec(),
-            4 => WORDS[dice.next(WORDS.len())].as_bytes().to_vec(),
-            _ => vec![7; dice.next(24)],
-        };
-        body.extend_from_slice(&((3 + name.len() + value.len()) as u16).to_le_bytes());
-        body.extend_from_slice(&kind.to_le_bytes());
-        body.push(name.len() as u8);
-        body.extend_from_slice(name.as_bytes());
-        body.extend_from_slice(&value);
-        count += 1;
     }
-    assert_eq!(count as usize, fields);
-    let mut all = ((4 + body.len()) as u32).to_le_bytes().to_vec();
-    all.extend_from_slice(&1u16.to_le_bytes());
-    all.extend_from_slice(&count.to_le_bytes());
-    all.extend_from_slice(&body);
-    all
+    assert_eq!(count, fields);
+    framed(&body, count)
+}
+
+/// A notice of `Op`, which is 42 in every other, and of so many fields more, chosen by the dice.
+fn other_notice(more: usize, dice: &mut Dice) -> Vec<u8> {
+    let op = [42, dice.next(100) as i32][dice.next(2)];
+    let mut body = Vec::new();
+    let (mut wanted, mut left) = (more, NAMES.len() - 1);
+    for field in NAMES {
+        if field.0 != "Op" {
+            let chosen = dice.next(left) < wanted;
+            left -= 1;
+            if !chosen {
+                continue;
+            }
+            wanted -= 1;
+        }
+        put_field(&mut body, field, op, dice);
+    }
+    framed(&body, more + 1)
+}
+
+/// 4,096 notices as a router sees them: of 1 to 16 fields, one in 64 of all 64.
+pub fn notices(dice: &mut Dice) -> Vec<Vec<u8>> {
+    let more = |i: usize| if i % 64 == 0 { 63 } else { i % 16 };
+    (0..4096).map(|i| other_notice(more(i), dice)).collect()
 }
 
 /// One clause over a random field, with its count of entries: 3, or 4 or 5 for a few.

@@ -1,7 +1,8 @@
 //! Ours beside the expert's Rust, one machine, one run. `bench` prints every table, `bench quick` the same in a tenth
 //! of the time, `bench agree` compares the answers of both sides on many random cases and times nothing, `bench worst` times
 //! ours alone on the worst inputs found, `bench ubf` prints the tables of UBF(A) alone, `bench many` those of many subscriptions,
-//! `bench store` those of the store, `bench regex` those of `regex`, `bench mend` that of mending.
+//! `bench store` those of the store, `bench regex` those of `regex`, `bench mend` that of mending, `bench program` those of the program
+//! `verdict`; `bench records COUNT FILE` writes so many of the records that it is shown.
 //! How it is built and run, with the flags: bench/run.
 
 mod agree;
@@ -245,6 +246,15 @@ const WHOLE: Pace = Pace {
     round: 2e6,
 };
 
+/// Writes so many records as `verdict` reads them to a file, for other tools.
+fn records() {
+    let words: Vec<String> = std::env::args().skip(2).collect();
+    let [count, file] = &words[..] else {
+        panic!("bench records COUNT FILE")
+    };
+    program::write_mixed(file.as_ref(), count.parse().expect("a number"));
+}
+
 fn main() {
     let word = std::env::args().nth(1).unwrap_or_default();
     let (pace, records) = match word.as_str() {
@@ -269,7 +279,9 @@ fn main() {
         "store" => return stores::rows(WHOLE),
         "regex" => return regexes::rows(WHOLE),
         "mend" => return mends::rows(WHOLE),
-        _ => panic!("bench [quick | agree | worst | ubf | many | store | regex | mend]"),
+        "program" => return program::rows(1_000_000),
+        "records" => return records(),
+        _ => panic!("bench [quick | agree | worst | ubf | many | store | regex | mend | program | records COUNT FILE]"),
     };
     agree::agree(2_000);
     doors::agree(2_000);
@@ -294,5 +306,5 @@ fn main() {
     doors::rows(pace);
     meters::rows(pace);
     shifts::rows(pace);
-    program::rates(records);
+    program::rows(records);
 }

@@ -37,6 +37,25 @@ mod c {
             value: *mut usize,
             end: *mut usize,
         ) -> u8;
+        pub fn virentolex_find(
+            notice: *const u8,
+            notice_len: usize,
+            name: *const u8,
+            name_len: usize,
+            place: *mut usize,
+            index: *mut usize,
+            looked: *mut usize,
+        ) -> u8;
+        pub fn virentolex_entry(
+            table: *const u8,
+            table_len: usize,
+            k: usize,
+            op: *mut u16,
+            a: *mut u16,
+            b: *mut u64,
+            start: *mut usize,
+            end: *mut usize,
+        ) -> u8;
         pub fn virentolex_write(
             buffer: *mut u8,
             buffer_len: usize,
@@ -175,6 +194,43 @@ pub fn read(notice: &[u8], k: usize) -> (u8, usize, usize) {
         )
     };
     (number, value, end)
+}
+
+/// Number, the field's index, how many names were looked at.
+pub fn find(notice: &[u8], name: &[u8]) -> (u8, usize, usize) {
+    let (mut place, mut index, mut looked) = (0, 0, 0);
+    // SAFETY: as above
+    let number = unsafe {
+        c::virentolex_find(
+            notice.as_ptr(),
+            notice.len(),
+            name.as_ptr(),
+            name.len(),
+            &mut place,
+            &mut index,
+            &mut looked,
+        )
+    };
+    (number, index, looked)
+}
+
+/// Number, and the start and the end of the entry's bytes.
+pub fn entry(table: &[u8], k: usize) -> (u8, usize, usize) {
+    let (mut op, mut a, mut b, mut start, mut end) = (0, 0, 0, 0, 0);
+    // SAFETY: as above
+    let number = unsafe {
+        c::virentolex_entry(
+            table.as_ptr(),
+            table.len(),
+            k,
+            &mut op,
+            &mut a,
+            &mut b,
+            &mut start,
+            &mut end,
+        )
+    };
+    (number, start, end)
 }
 
 /// Number, place and the notice's new length.

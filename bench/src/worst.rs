@@ -89,8 +89,11 @@ pub fn rows() {
         "virentolex_store_* (with the store copied, but for a match)",
         stores(),
     );
-    told("virentolex_check", checks());
-    told("virentolex_check_notice, virentolex_read", notices());
+    told("virentolex_check, virentolex_entry", checks());
+    told(
+        "virentolex_check_notice, virentolex_read, virentolex_find",
+        notices(),
+    );
     told("virentolex_write (with 16,384 bytes copied)", writes());
     told(
         "virentolex_quorum_open, virentolex_quorum_show",
@@ -665,6 +668,14 @@ fn checks() -> Vec<Family> {
             entries.extend(vec![(40, 0, 0); 253 * k]);
             check(&entries, b"", 0)
         }),
+        family("entry: one of 414 names of 64 bytes", |k| {
+            let group = eight(&[name(64, 0)], &[name(64, 0)], 59);
+            let entries = hostile::times(&group, 23 * k);
+            let mut case = check(&entries, &[b'n'; 64], 0);
+            let table = table(&entries, &[b'n'; 64]);
+            case.call = Box::new(move || ours::entry(black_box(&table), 230 * k).0);
+            case
+        }),
         family("refused at the last entry", move |k| {
             let group = eight(&[name(64, 0)], &[name(64, 0)], 59);
             let mut entries = hostile::times(&group, 23 * k);
@@ -730,6 +741,20 @@ fn notices() -> Vec<Family> {
                 call: Box::new(move || ours::read(black_box(&notice), 32 * k - 1).0),
             }
         }),
+        family(
+            "find: above 64 names alike but before their last 8 bytes",
+            |k| {
+                let tail = |name: Vec<u8>| [name, b"nnnnnnnn".to_vec()].concat();
+                let names = alike(32 * k, 56).into_iter().map(tail).collect();
+                let notice = full(names, 8192 * k);
+                let sought = tail([vec![b'n'; 54], b"99".to_vec()].concat());
+                Case {
+                    number: 0,
+                    bytes: notice.len(),
+                    call: Box::new(move || ours::find(black_box(&notice), &sought).0),
+                }
+            },
+        ),
     ]
 }
 

@@ -4,3 +4,7 @@ pub mod Pass
 pub mod Found
 pub mod Step
 pub mod Value
+pub mod Word
+pub mod Told
+pub mod Skips
+pub mod Large

@@ -159,7 +159,7 @@ or-assoc false true false = refl
 or-assoc false false true = refl
 or-assoc false false false = refl
 
-and-assoc : (a b c : Bool) → (a && b) && c ≡ a && (b && c)
+pub and-assoc : (a b c : Bool) → (a && b) && c ≡ a && (b && c)
 and-assoc true true true = refl
 and-assoc true true false = refl
 and-assoc true false true = refl

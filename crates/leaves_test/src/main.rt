@@ -53,6 +53,7 @@ fn words() {
 fn compare(s: &[u8], s_mark: bool, t: &[u8], t_mark: bool) {
     put_number(octets::same(s, s_mark, t, t_mark) as u64);
     put_number(octets::before(s, s_mark, t, t_mark) as u64);
+    put_number(octets::earlier(s, t) as u64);
     put_number(octets::begins(s, s_mark, t, t_mark) as u64);
     put_number(octets::contains(s, s_mark, t, t_mark) as u64);
     put_number(octets::ends(s, s_mark, t, t_mark) as u64);

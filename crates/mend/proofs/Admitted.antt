@@ -31,8 +31,8 @@ module _ (s order : List ℕ) (n at : ℕ) (o : InOrder s order n) (j : Judged) 
     kept : stays (j .code) ≡ true
     kept = le-leb (j .code) 1 h
 
-    pub put-requires : (length order ≡ 65) × (j .place ≤ n) × (n < 65)
-    put-requires = (o .long, omega (arith, is .place-is kept, place-within s order n o (nameAt s at)), few)
+    pub put-requires : at < 65536 → (length order ≡ 65) × (j .place ≤ n) × (n < 65) × (at < 65536)
+    put-requires m = (o .long, omega (arith, is .place-is kept, place-within s order n o (nameAt s at)), few, m)
 
     pub admitted : (after : List ℕ) → (length after ≡ 65) × (take (n + 1) after ≡ take (j .place) (take n order) ++ (at ∷ drop (j .place) (take n order))) → Admits s order n at after (j .code)
     admitted after q =

@@ -5,7 +5,7 @@ use mathlib.Core.List.{List, []}
 use Prim.Native.Nat.{ℕ, _*_, _≤_, _<_}
 use native.Mathlib.Omega.{arith}
 use lib.Dec.{eqb, leb, ltb}
-use lib.ListN.{length}
+use lib.ListN.{length, take}
 use borrow.Author.Tests.{le-leb, lt-leb, le-ltb, lt-ltb, ne-eqb, leb-true, leb-false}
 use Rattle.octets.proofs.Theorems.{and-parts}
 use Rattle.notice.specs.Render.{render}
@@ -13,7 +13,7 @@ use Rattle.notice.specs.Layout.{unless}
 use Rattle.mend.specs.declared.Mended.{Mended}
 use Rattle.mend.specs.declared.walking.Tally.{Tally}
 use Rattle.mend.specs.Mend.{listOf, keptOf, noticeOf, listBytes, onto, roomFor, refusalOf, refused, done, mendedBy, MendIs}
-use Rattle.mend.specs.Order.{fieldsIn, InOrder, Sized, Surveys}
+use Rattle.mend.specs.Order.{codesOf, fieldsIn, InOrder, Sized, Surveys}
 use Rattle.mend.proofs.Walks.{list-short}
 
 -- the test of the buffers
@@ -56,7 +56,7 @@ module _ (s list notice : List ℕ) where
   pub too-long : (r : Mended) → r ≡ refused 10 → 8 ≤ length s → 16384 < length s → MendIs s list notice r list notice
   too-long r q g h = not-done r 10 q (by true false _ _ (le-leb 8 (length s) g) (lt-leb (length s) 16384 h) refl refl) (λ e. omega arith)
 
-  module _ (order : List ℕ) (v : Tally) (w : Surveys s order v) (sized : Sized s) where
+  module _ (order codes : List ℕ) (v : Tally) (w : Surveys s order codes v) (sized : Sized s) where
     long : leb 8 (length s) ≡ true
     long = le-leb 8 (length s) (sized .0)
 
@@ -94,8 +94,8 @@ module _ (s list notice : List ℕ) where
             let p = and-parts (leb (3 * length (listOf s)) (length list)) (leb (length (noticeOf s)) (length notice)) (room-by false t) in
             (leb-true (3 * length (listOf s)) (length list) (p .0), leb-true (length (noticeOf s)) (length notice) (p .1))
 
-        pub can-list : Sized s × (length (keptOf s) ≤ 64) × (3 * length (listOf s) ≤ length list)
-        can-list = (sized, few, rooms .0)
+        pub can-list : Sized s × (take (length (listOf s)) codes ≡ codesOf (listOf s)) × (3 * length (listOf s) ≤ length list)
+        can-list = (sized, ap (λ (k : ℕ). take k codes) (sym (w .count-is e)) ∙ w .codes-are e, rooms .0)
 
         same-fields : render (fieldsIn s order (v .kept)) ≡ noticeOf s
         same-fields = ap render (w .fields-are e)

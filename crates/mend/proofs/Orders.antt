@@ -1,23 +1,38 @@
 -- The fields kept so far by their places, in the order of their names: what comparing with one tells, what a new one is among them, and the places with it. Assumes nothing.
 use mathlib.Core.Path.{_≡_, refl, sym, ap, ap₂, _∙_}
-use mathlib.Core.Bool.{Bool, true, false, cond, _||_}
+use mathlib.Core.Bool.{Bool, true, false, cond, _&&_, _||_, or-false}
 use mathlib.Core.List.{List, [], _∷_, _++_, map, append-assoc}
 use Prim.Native.Nat.{ℕ, suc, _+_, _-_, _≤_, _<_}
 use native.Mathlib.Omega.{arith}
-use lib.Dec.{ltb}
+use lib.Dec.{eqb, ltb}
 use lib.ListN.{length, getD, set, take, drop, length-drop, length-map, length-append}
 use lib.Seq.{sets, sets-eq, set-at, take-at, drop-at, take-suc, take-take, take-add, length-take-le, getD-take}
-use borrow.Author.Tests.{lt-ltb, le-ltb, ltb-true, ltb-false}
+use borrow.Author.Tests.{lt-ltb, le-ltb, ltb-true, ltb-false, ne-eqb}
+use Rattle.common.proofs.Choice.{true-false}
 use Rattle.common.proofs.Each.{each-at}
 use Rattle.octets.specs.Octets.{sameOf, beforeOf}
 use Rattle.notice.specs.Field.{Field, rising}
 use Rattle.notice.specs.Read.{blank}
 use Rattle.notice.specs.Layout.{nameAt, fieldAt, rightAt}
 use Rattle.notice.specs.Write.{hasName, insertField, placeAmong}
-use Rattle.notice.proofs.Orders.{insert-rising}
+use Rattle.notice.proofs.Orders.{insert-rising, before-not-same, before-not-after, after-by-other}
+use Rattle.notice.proofs.Searches.{name-head}
 use Rattle.notice.proofs.Sorted.{map-at, map-around, each-around, nthName, place-near, insert-place, place-before, place-after, has-none, has-before}
 use Rattle.mend.specs.Mend.{hasGreater, codeAmong}
 use Rattle.mend.specs.Order.{fieldsIn, InOrder}
+
+-- two names by their first bytes
+first-is : (s : List ℕ) (at : ℕ) → rightAt s at ≡ true → nameAt s at ≡ getD s (at + 5) 0 ∷ drop 1 (nameAt s at)
+first-is s at r = name-head s at r (0 ∷ []) 0 refl
+
+pub by-first : (s : List ℕ) (at k : ℕ) → rightAt s at ≡ true → rightAt s k ≡ true → (getD s (at + 5) 0 ≡ getD s (k + 5) 0 → ⊥)
+    → ltb (getD s (at + 5) 0) (getD s (k + 5) 0) ≡ beforeOf (nameAt s at) (nameAt s k)
+by-first s at k p q f =
+    let a = getD s (at + 5) 0 in
+    let b = getD s (k + 5) 0 in
+    let rest = beforeOf (drop 1 (nameAt s at)) (drop 1 (nameAt s k)) in
+    let e : (ltb a b || (eqb a b && rest)) ≡ ltb a b = ap (λ (x : Bool). ltb a b || (x && rest)) (ne-eqb a b f) ∙ or-false (ltb a b) in
+    sym (ap₂ beforeOf (first-is s at p) (first-is s k q) ∙ e)
 
 ltb-suc : (a b : ℕ) → ltb (suc a) (suc b) ≡ ltb a b
 ltb-suc a b = go (ltb a b) refl
@@ -84,6 +99,57 @@ module _ (s order : List ℕ) (n : ℕ) (o : InOrder s order n) where
 
     pub is-kept : hasName name fs ≡ false → n ≤ place → 0 ≡ codeAmong fs name
     is-kept e h = ap₂ (λ (a b : Bool). cond a 2 (cond b 1 0)) (sym e) (sym (greater-is false (le-ltb place n h)))
+
+  -- what comparing with the last name tells: kept where it stands, or not
+  module _ (name : List ℕ) where
+    abbrev code : ℕ
+    code = codeAmong fs name
+
+    is-zero : 0 ≡ code → true ≡ eqb code 0
+    is-zero e = ap (λ (x : ℕ). eqb x 0) e
+
+    pub none-before : n ≡ 0 → true ≡ eqb code 0
+    none-before z =
+        let w = place-within name in
+        let p : n ≡ placeAmong name fs = omega arith in
+        is-zero (is-kept name n p (first-new name n p (omega arith)) (omega arith))
+
+    abbrev last : List ℕ
+    last = nameAt s (getD order (n - 1) 0)
+
+    pub by-last : 0 < n → beforeOf last name ≡ eqb code 0
+    by-last h = go (beforeOf last name) (beforeOf name last) refl refl
+      where
+        at-end : beforeOf name last ≡ false → n ≡ placeAmong name fs
+        at-end e = let a = after name (n - 1) (omega arith) e in let w = place-within name in omega arith
+
+        not-zero : (k : ℕ) → 0 < k → k ≡ code → false ≡ eqb code 0
+        not-zero k h e = sym (ne-eqb code 0 (λ z. omega arith))
+
+        moved : (d : Bool) → hasName name fs ≡ d → placeAmong name fs < n → false ≡ eqb code 0
+        moved true q p = not-zero 2 (omega arith) (is-repeated name (placeAmong name fs) refl q)
+        moved false q p = not-zero 1 (omega arith) (is-moved name (placeAmong name fs) refl q p)
+
+        alike : (d : Bool) → sameOf last name ≡ d → beforeOf last name ≡ false → beforeOf name last ≡ false → false ≡ eqb code 0
+        alike true q e f = let p = at-end f in not-zero 2 (omega arith) (is-repeated name n p (sym (by-before name n p h) ∙ q))
+        alike false q e f = true-false (sym (after-by-other last name q e) ∙ f)
+
+        go : (a b : Bool) → beforeOf last name ≡ a → beforeOf name last ≡ b → a ≡ eqb code 0
+        go true b e f =
+            let p = at-end (before-not-after last name e) in
+            is-zero (is-kept name n p (sym (by-before name n p h) ∙ before-not-same last name e) (omega arith))
+        go false true e f = moved (hasName name fs) refl (let m = not-after name (n - 1) (omega arith) f in omega arith)
+        go false false e f = alike (sameOf last name) refl e f
+
+    pub kept-place : 0 ≡ code → n ≡ placeAmong name fs
+    kept-place = go (hasName name fs) (hasGreater name fs) refl
+      where
+        go : (a b : Bool) → hasGreater name fs ≡ b → _≡_ {A = ℕ} 0 (cond a 2 (cond b 1 0)) → n ≡ placeAmong name fs
+        go true b p q = absurd (omega arith)
+        go false true p q = absurd (omega arith)
+        go false false p q =
+            let t : ltb (placeAmong name fs) (length fs) ≡ false = sym (greater-place name fs) ∙ p in
+            omega (arith, ltb-false (placeAmong name fs) (length fs) t, order-length, place-within name)
 
 -- ---- one more
 

@@ -17,6 +17,7 @@ use Rattle.notice.specs.Layout.{sizeAt, nextAt, nameAt, fieldAt, rightAt}
 use Rattle.notice.specs.Write.{hasName, insertField, sorted}
 use Rattle.notice.proofs.Inserts.{fields-append}
 use Rattle.notice.proofs.Orders.{or-no, insert-swap}
+use Rattle.notice.proofs.Places.{right-lies, right-name}
 use Rattle.notice.proofs.Sorted.{sorted-named, sorted-length}
 use Rattle.mend.specs.Mend.{Entry, cutAt, hasGreater, codeAmong, codeAt, stays, keptWith, listFrom, listOf, keptIn, keptOf}
 use Rattle.mend.specs.Order.{fieldsIn, InOrder, Admits}
@@ -30,6 +31,14 @@ single-byte s at h =
     omega arith
 
 -- ---- what a field is
+
+-- a right field has a length word, a kind, a name's length and a name
+pub too-short : (s : List ℕ) (at : ℕ) → sizeAt s at < 4 → false ≡ rightAt s at
+too-short s at h = go (rightAt s at) refl
+  where
+    go : (b : Bool) → rightAt s at ≡ b → false ≡ b
+    go true e = let l = right-lies s at e in let n = right-name s at e in absurd (omega (arith, l .room, n .0))
+    go false e = refl
 
 -- a cut, a bad and a right field
 module _ (s : List ℕ) (kept : List Field) (at : ℕ) where

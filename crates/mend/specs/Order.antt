@@ -1,5 +1,5 @@
 -- The code's own state: where the fields kept so far start, in the order of their names.
-use Prim.Native.Nat.{ℕ, _+_, _≤_}
+use Prim.Native.Nat.{ℕ, _+_, _*_, _≤_}
 use mathlib.Core.Path.{_≡_}
 use mathlib.Core.Bool.{true, cond}
 use mathlib.Core.List.{List, map}
@@ -11,7 +11,7 @@ use Rattle.notice.specs.Layout.{nameAt, fieldAt, rightAt}
 use Rattle.notice.specs.Write.{insertField, sorted, placeAmong}
 use Rattle.mend.specs.declared.walking.Judged.{Judged}
 use Rattle.mend.specs.declared.walking.Tally.{Tally}
-use Rattle.mend.specs.Mend.{stays, codeAt, listOf, keptOf}
+use Rattle.mend.specs.Mend.{Entry, stays, codeAt, listOf, keptOf}
 
 -- the fields that start at the first n places
 abbrev pub fieldsIn : List ℕ → List ℕ → ℕ → List Field
@@ -28,6 +28,14 @@ pub record InOrder (s order : List ℕ) (n : ℕ) : Type 0 where
 abbrev pub Sized : List ℕ → Type 0
 Sized s = (8 ≤ length s) × (length s ≤ 16384)
 
+-- what each field is, as the first pass notes it
+abbrev pub codesOf : List Entry → List ℕ
+codesOf es = map (λ (e : Entry). e .code) es
+
+-- a note for each field: one takes 2 bytes at least behind the header, but for a single byte left
+abbrev pub Roomy : List ℕ → List ℕ → Type 0
+Roomy s codes = length s ≤ 8 + 2 * length codes
+
 -- what the field at `at` is, and its name's place if it stays
 pub record Judges (s order : List ℕ) (n at : ℕ) (j : Judged) : Type 0 where
   pub code-is : j .code ≡ codeAt s (fieldsIn s order n) at
@@ -39,8 +47,8 @@ pub record Admits (s order : List ℕ) (n at : ℕ) (after : List ℕ) (code : �
   pub in-order : InOrder s after (n + cond (stays code) 1 0)
   pub fields-are : fieldsIn s after (n + cond (stays code) 1 0) ≡ cond (stays code) (insertField (fieldAt s at) (fieldsIn s order n)) (fieldsIn s order n)
 
--- what the first pass finds: the fields kept, 65 if there are more than 64, and if not, where they start, how many bytes the notice has and how many fields are listed
-pub record Surveys (s order : List ℕ) (t : Tally) : Type 0 where
+-- what the first pass finds: the fields kept, 65 if there are more than 64, and if not, where they start, how many bytes the notice has, how many fields are listed and what each is
+pub record Surveys (s order codes : List ℕ) (t : Tally) : Type 0 where
   pub many : t .kept ≡ 65 → 65 ≤ length (keptOf s)
   pub kept-is : (t .kept ≡ 65 → ⊥) → t .kept ≡ length (keptOf s)
   pub in-order : InOrder s order (t .kept)
@@ -48,3 +56,4 @@ pub record Surveys (s order : List ℕ) (t : Tally) : Type 0 where
   pub size-is : (t .kept ≡ 65 → ⊥) → t .size ≡ length (render (sorted (keptOf s)))
   pub size-short : t .size ≤ length s
   pub count-is : (t .kept ≡ 65 → ⊥) → t .count ≡ length (listOf s)
+  pub codes-are : (t .kept ≡ 65 → ⊥) → take (t .count) codes ≡ codesOf (listOf s)

@@ -24,6 +24,17 @@ pub(crate) fn next(bytes: &[u8], at: usize) -> usize
     at + 2 + size_word(bytes, at)
 }
 
+// Whether the whole field from `at` to `end` is right by itself. A right one has six bytes at least.
+pub(crate) fn right(bytes: &[u8], at: usize, end: usize) -> bool
+    requires { ⌜ (at < length (now bytes)) × (end ≡ nextAt (now bytes) at) ⌝ }
+    ensures { λ r. ⌜ r ≡ rightAt (now (bytes .entry)) at ⌝ }
+{
+    if end - at < 6 {
+        return false;
+    }
+    notice::stands(bytes, at)
+}
+
 // The name of a right field.
 fn name_at<'a>(bytes: &'a [u8], at: usize) -> &'a [u8]
     requires { ⌜ rightAt (now bytes) at ≡ true ⌝ }
@@ -41,9 +52,23 @@ pub(crate) fn same_name(bytes: &[u8], k: usize, at: usize) -> bool
     octets::same(name_at(bytes, k), false, name_at(bytes, at), false)
 }
 
+// By all bytes.
+fn compared(bytes: &[u8], at: usize, k: usize) -> bool
+    requires { ⌜ (rightAt (now bytes) at ≡ true) × (rightAt (now bytes) k ≡ true) ⌝ }
+    ensures { λ r. ⌜ r ≡ beforeOf (nameAt (now (bytes .entry)) at) (nameAt (now (bytes .entry)) k) ⌝ }
+{
+    octets::earlier(name_at(bytes, at), name_at(bytes, k))
+}
+
+// By the first byte where these differ.
 pub(crate) fn name_before(bytes: &[u8], at: usize, k: usize) -> bool
     requires { ⌜ (rightAt (now bytes) at ≡ true) × (rightAt (now bytes) k ≡ true) ⌝ }
     ensures { λ r. ⌜ r ≡ beforeOf (nameAt (now (bytes .entry)) at) (nameAt (now (bytes .entry)) k) ⌝ }
 {
-    octets::before(name_at(bytes, at), false, name_at(bytes, k), false)
+    let a = bytes[at + 5];
+    let b = bytes[k + 5];
+    if a == b {
+        return compared(bytes, at, k);
+    }
+    a < b
 }

@@ -1,16 +1,19 @@
-// "goes field by field by the length words from offset 8", in two passes: one judges all and changes nothing outside, the other lists.
+// "goes field by field by the length words from offset 8", in two passes: one judges all, notes what each is and changes nothing outside, the other lists.
 ghost use mathlib.Core.Path.{_≡_};
 ghost use mathlib.Core.Bool.{cond, _&&_};
 ghost use Prim.Native.Nat.{_+_, _*_, _≤_, _<_};
 ghost use mathlib.Core.List.{_∷_, [], _++_};
 ghost use lib.Dec.{ltb};
-ghost use lib.ListN.{length};
+ghost use lib.ListN.{length, take};
 ghost use lib.Seq.{sets};
 ghost use Rattle.word.specs.Word.{wordBytes};
-ghost use Rattle.mend.specs.Mend.{stays, listOf, keptOf, listBytes, onto};
-ghost use Rattle.mend.specs.Order.{InOrder, Sized, Judges, Admits, Surveys};
+ghost use Rattle.notice.specs.Layout.{nextAt};
+ghost use Rattle.mend.specs.Mend.{stays, listOf, listBytes, onto};
+ghost use Rattle.mend.specs.Order.{codesOf, InOrder, Sized, Roomy, Judges, Admits, Surveys};
 use crate::fields::next;
+use crate::fields::right;
 use crate::ordering::among;
+use crate::ordering::comes_last;
 use crate::ordering::place_for;
 use crate::ordering::put_in;
 
@@ -27,16 +30,19 @@ pub(crate) struct Tally {
     pub count: usize,
 }
 
-// The field at `at`: kept, moved, repeated, bad or cut.
-fn judge(bytes: &[u8], order: &[usize; 65], n: usize, at: usize) -> Judged
-    requires { ⌜ (at < length (now bytes)) × Sized (now bytes) × InOrder (now bytes) (now order) n ⌝ }
+// The field from `at` to `end`: kept, moved, repeated, bad or cut.
+fn judge(bytes: &[u8], order: &[u16; 65], n: usize, at: usize, end: usize) -> Judged
+    requires { ⌜ (at < length (now bytes)) × (end ≡ nextAt (now bytes) at) × InOrder (now bytes) (now order) n ⌝ }
     ensures { λ r. ⌜ Judges (now (bytes .entry)) (now (order .entry)) n at r ⌝ }
 {
-    if bytes.len() < next(bytes, at) {
+    if bytes.len() < end {
         return Judged { code: 4, place: 0 };
     }
-    if !notice::stands(bytes, at) {
+    if !right(bytes, at, end) {
         return Judged { code: 3, place: 0 };
+    }
+    if comes_last(bytes, order, n, at) {
+        return Judged { code: 0, place: n };
     }
     let place = place_for(bytes, order, n, at);
     let code = among(bytes, order, n, place, at);
@@ -44,11 +50,11 @@ fn judge(bytes: &[u8], order: &[usize; 65], n: usize, at: usize) -> Judged
 }
 
 // The same, and its place among those kept if it stays.
-fn admit(bytes: &[u8], order: &mut [usize; 65], n: usize, at: usize) -> u8
-    requires { ⌜ (at < length (now bytes)) × Sized (now bytes) × (n < 65) × InOrder (now bytes) (now order) n ⌝ }
+fn admit(bytes: &[u8], order: &mut [u16; 65], n: usize, at: usize, end: usize) -> u8
+    requires { ⌜ (at < length (now bytes)) × Sized (now bytes) × (end ≡ nextAt (now bytes) at) × (n < 65) × InOrder (now bytes) (now order) n ⌝ }
     ensures { λ r. ⌜ Admits (now (bytes .entry)) (now (order .entry)) n at (now (order .exit)) r ⌝ }
 {
-    let j = judge(bytes, order, n, at);
+    let j = judge(bytes, order, n, at, end);
     if 1 < j.code {
         return j.code;
     }
@@ -71,18 +77,19 @@ fn goes_on(bytes: &[u8], at: usize, kept: usize) -> bool
     (at < bytes.len()) & (kept < 65)
 }
 
-// The first pass: judges and counts.
-pub(crate) fn survey(bytes: &[u8], order: &mut [usize; 65]) -> Tally
-    requires { ⌜ Sized (now bytes) × (length (now order) ≡ 65) ⌝ }
-    ensures { λ r. ⌜ Surveys (now (bytes .entry)) (now (order .exit)) r ⌝ }
+// The first pass: judges, notes and counts.
+pub(crate) fn survey(bytes: &[u8], order: &mut [u16; 65], codes: &mut [u8]) -> Tally
+    requires { ⌜ Sized (now bytes) × (length (now order) ≡ 65) × Roomy (now bytes) (now codes) ⌝ }
+    ensures { λ r. ⌜ Surveys (now (bytes .entry)) (now (order .exit)) (now (codes .exit)) r ⌝ }
 {
     let mut kept = 0;
     let mut at = 8;
     let mut size = 8;
     let mut count = 0;
     while goes_on(bytes, at, kept) {
-        let code = admit(bytes, order, kept, at);
         let end = next(bytes, at);
+        let code = admit(bytes, order, kept, at, end);
+        codes[count] = code;
         kept += gain(code, 1);
         size += gain(code, end - at);
         at = end;
@@ -100,19 +107,15 @@ fn put_entry(list: &mut [u8], place: usize, at: u16, code: u8)
     list[place + 2] = code;
 }
 
-// The second pass: judges again, and lists.
-pub(crate) fn list_fields(bytes: &[u8], list: &mut [u8])
-    requires { ⌜ Sized (now bytes) × (length (keptOf (now bytes)) ≤ 64) × (3 * length (listOf (now bytes)) ≤ length (now list)) ⌝ }
+// The second pass: lists what was noted.
+pub(crate) fn list_fields(bytes: &[u8], list: &mut [u8], codes: &[u8])
+    requires { ⌜ Sized (now bytes) × (take (length (listOf (now bytes))) (now codes) ≡ codesOf (listOf (now bytes))) × (3 * length (listOf (now bytes)) ≤ length (now list)) ⌝ }
     ensures { λ _. ⌜ now (list .exit) ≡ onto (listBytes (listOf (now (bytes .entry)))) (now (list .entry)) ⌝ }
 {
-    let mut order: [usize; 65] = [0; 65];
-    let mut kept = 0;
     let mut at = 8;
     let mut count = 0;
     while at < bytes.len() {
-        let code = admit(bytes, &mut order, kept, at);
-        put_entry(list, 3 * count, at as u16, code);
-        kept += gain(code, 1);
+        put_entry(list, 3 * count, at as u16, codes[count]);
         at = next(bytes, at);
         count += 1;
     }

@@ -51,22 +51,25 @@ module _ (s : List ℕ) (at : ℕ) (last : List ℕ) where
   more-suc n e = rw e
 
   module _ (n : ℕ) (p : 0 < n) where
-    pub wrong-field : rightAt s at ≡ false → Fault at ≡ checkFrom n last s at
-    wrong-field e =
+    pub faulty : standsAt last s at ≡ false → Fault at ≡ checkFrom n last s at
+    faulty e =
         let z : n ≡ suc (n - 1) = omega arith in
-        rw z (fault-suc (n - 1) (rw e))
+        rw z (fault-suc (n - 1) e)
+
+    pub standing : standsAt last s at ≡ true → checkFrom (n - 1) (nameAt s at) s (nextAt s at) ≡ checkFrom n last s at
+    standing e =
+        let z : n ≡ suc (n - 1) = omega arith in
+        more-suc (n - 1) e ∙ ap (λ (k : ℕ). checkFrom k last s at) (sym z)
+
+    pub wrong-field : rightAt s at ≡ false → Fault at ≡ checkFrom n last s at
+    wrong-field e = faulty (rw e)
 
     module _ (name : List ℕ) (q : name ≡ nameAt s at) (r : rightAt s at ≡ true) where
       pub wrong-order : beforeOf last name ≡ false → Fault at ≡ checkFrom n last s at
-      wrong-order e =
-          let z : n ≡ suc (n - 1) = omega arith in
-          rw z (fault-suc (n - 1) (rw (r, ← q, e)))
+      wrong-order e = faulty (rw (r, ← q, e))
 
       pub right-field : beforeOf last name ≡ true → checkFrom (n - 1) name s (nextAt s at) ≡ checkFrom n last s at
-      right-field e =
-          let z : n ≡ suc (n - 1) = omega arith in
-          let m = more-suc (n - 1) (rw (r, ← q, e)) in
-          (ap (λ (l : List ℕ). checkFrom (n - 1) l s (nextAt s at)) q ∙ m) ∙ ap (λ (k : ℕ). checkFrom k last s at) (sym z)
+      right-field e = ap (λ (l : List ℕ). checkFrom (n - 1) l s (nextAt s at)) q ∙ standing (rw (r, ← q, e))
 
 -- the header in numbers
 pub record Header (s : List ℕ) : Type 0 where

@@ -1,6 +1,6 @@
 -- Where a field's parts lie. Assumes nothing.
 use mathlib.Core.Path.{_≡_, refl}
-use mathlib.Core.Bool.{Bool, true, false, _&&_, and-false}
+use mathlib.Core.Bool.{Bool, true, false, _&&_, and-false, and-true}
 use mathlib.Core.List.{List}
 use Prim.Native.Nat.{ℕ, _+_, _-_, _≤_, _<_}
 use native.Mathlib.Omega.{arith}
@@ -61,6 +61,13 @@ module _ (s : List ℕ) (at : ℕ) where
 
     pub by-size : (n : List ℕ) (m : ℕ) → n ≡ nameAt s at → m ≡ valueSizeAt s at → nameRight n ≡ true → sizeRight (kindAt s at) m ≡ rightAt s at
     by-size n m p k q = rw (e, ← p, q, length-value (lies-true e), ← k)
+
+    -- the tests of `key_at`: the size first, then the name
+    pub wrong-size : sizeRight (kindAt s at) (valueSizeAt s at) ≡ false → false ≡ rightAt s at
+    wrong-size q = rw (e, length-value (lies-true e), q, and-false)
+
+    pub by-name : sizeRight (kindAt s at) (valueSizeAt s at) ≡ true → nameRight (nameAt s at) ≡ rightAt s at
+    by-name q = rw (e, length-value (lies-true e), q, and-true)
 
   pub lies-not : liesAt s at ≡ false → false ≡ rightAt s at
   lies-not e = rw e

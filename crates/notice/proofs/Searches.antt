@@ -31,7 +31,7 @@ use Rattle.notice.proofs.Orders.{same-symmetric, before-not-same, befor
 
 -- by their first bytes
 module _ (s : List ℕ) (at : ℕ) (right : rightAt s at ≡ true) (name : List ℕ) (first : ℕ) (e : name ≡ first ∷ drop 1 name) where
-  name-head : nameAt s at ≡ getD s (at + 5) 0 ∷ drop 1 (nameAt s at)
+  pub name-head : nameAt s at ≡ getD s (at + 5) 0 ∷ drop 1 (nameAt s at)
   name-head =
       let n = right-name s at right .0 in
       let l = length-name s at (right-lies s at right) in

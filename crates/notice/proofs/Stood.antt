@@ -14,10 +14,10 @@ use Rattle.notice.specs.declared.Layout.{Layout}
 use Rattle.notice.specs.declared.Layout.the-variants.{WellFormed, Fault}
 use Rattle.notice.specs.Field.{fieldRight}
 use Rattle.notice.specs.Layout.{nextAt, nameAt, fieldAt, liesAt, rightAt, standsAt, countOf, headerRight, checkFrom, checkOf, startsFrom, startsOf, stoodFrom, stoodOf, Indexed}
-use Rattle.notice.specs.Key.{keyOf, lastNameAt, Last}
+use Rattle.notice.specs.Key.{keyAt, lastNameAt, Last}
 use Rattle.notice.proofs.Places.{right-lies}
-use Rattle.notice.proofs.Keys.{last-name, now-last, none-last}
-use Rattle.notice.proofs.Checks.{header-numbers, no-more, spare, wrong-field, wrong-order, right-field}
+use Rattle.notice.proofs.Keys.{key-here, last-name, now-last, none-last}
+use Rattle.notice.proofs.Checks.{header-numbers, no-more, spare, faulty, standing}
 use Rattle.notice.proofs.Walks.{from-header, starts-end, starts-more}
 use Rattle.notice.proofs.Renders.{fault-well, first-stands}
 
@@ -79,31 +79,26 @@ module _ (s was now : List ℕ) (i at last key : ℕ) (g : Goes s was now i at l
     some-left : 0 < left
     some-left = omega arith
 
-    stopped : standsAt (lastNameAt s last) s at ≡ false → now ≡ sets was 0 (stoodFrom (countOf s) [] s 8)
-    stopped e = ap (sets now i) (sym (stood-stop s at (lastNameAt s last) left some-left e)) ∙ g .starts
+    pub leaves-wrong : standsAt (lastNameAt s last) s at ≡ false → Leaves s was now (Fault at)
+    leaves-wrong e =
+        (faulty s at (lastNameAt s last) left some-left e ∙ g .layout, ap (sets now i) (sym (stood-stop s at (lastNameAt s last) left some-left e)) ∙ g .starts)
 
-    pub leaves-wrong : rightAt s at ≡ false → Leaves s was now (Fault at)
-    leaves-wrong e = (wrong-field s at (lastNameAt s last) left some-left e ∙ g .layout, stopped (rw e))
-
-    module _ (r : rightAt s at ≡ true) where
-      pub leaves-order : beforeOf (lastNameAt s last) (nameAt s at) ≡ false → Leaves s was now (Fault at)
-      leaves-order e = (wrong-order s at (lastNameAt s last) left some-left (nameAt s at) refl r e ∙ g .layout, stopped (rw (r, e)))
-
-      pub goes-on : beforeOf (lastNameAt s last) (nameAt s at) ≡ true → (k : ℕ) → k ≡ keyOf (nameAt s at) → Goes s was (set now i at) (i + 1) (nextAt s at) at k
-      goes-on e k h =
-          let l = right-lies s at r in
-          let f : at ≡ 0 → ⊥ = λ z. omega (arith, g .start) in
-          let z : countOf s - (i + 1) ≡ left - 1 = omega arith in
-          let n = last-name s at f in
-          let m = stood-more s at (lastNameAt s last) left some-left (rw (r, e)) in
-          record {
-            start = omega (arith, g .start);
-            within = l .within;
-            some = omega arith;
-            last-is = now-last s at k f r h;
-            layout = rw (z, n) (right-field s at (lastNameAt s last) left some-left (nameAt s at) refl r e ∙ g .layout);
-            starts = rw (z, n, add-one) (ap (sets now i) (sym m) ∙ g .starts);
-          }
+    pub goes-on : standsAt (lastNameAt s last) s at ≡ true → (k : ℕ) → k ≡ keyAt s at → Goes s was (set now i at) (i + 1) (nextAt s at) at k
+    goes-on e k h =
+        let r = and-parts (rightAt s at) (beforeOf (lastNameAt s last) (nameAt s at)) e .0 in
+        let l = right-lies s at r in
+        let f : at ≡ 0 → ⊥ = λ z. omega (arith, g .start) in
+        let z : countOf s - (i + 1) ≡ left - 1 = omega arith in
+        let n = last-name s at f in
+        let m = stood-more s at (lastNameAt s last) left some-left e in
+        record {
+          start = omega (arith, g .start);
+          within = l .within;
+          some = omega arith;
+          last-is = now-last s at k f r (h ∙ key-here s at r);
+          layout = rw (z, n) (standing s at (lastNameAt s last) left some-left e ∙ g .layout);
+          starts = rw (z, n, add-one) (ap (sets now i) (sym m) ∙ g .starts);
+        }
 
   module _ (p : countOf s ≤ i) where
     none-left : countOf s - i ≡ 0

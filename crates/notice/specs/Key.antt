@@ -4,8 +4,8 @@ use mathlib.Core.Path.{_≡_}
 use mathlib.Core.Bool.{true, cond}
 use mathlib.Core.List.{List, [], _∷_}
 use lib.Dec.{eqb}
-use Rattle.notice.specs.Field.{printable}
-use Rattle.notice.specs.Layout.{nameAt, liesAt}
+use Rattle.notice.specs.Field.{printable, nameRight}
+use Rattle.notice.specs.Layout.{nameAt, liesAt, rightAt}
 
 -- the number of v and the k bytes after it, greatest first; a byte past the end counts as 0
 unfoldable pub lead : ℕ → ℕ → List ℕ → ℕ
@@ -15,6 +15,14 @@ lead (suc k) v (b ∷ s) = lead k (v * 256 + b) s
 
 abbrev pub keyOf : List ℕ → ℕ
 keyOf name = lead 8 0 name
+
+-- the key of a name that is right, 0 of any other: no right name has the key 0
+abbrev pub rightKey : List ℕ → ℕ
+rightKey name = cond (nameRight name) (keyOf name) 0
+
+-- .. of the name of a field that is right by itself
+abbrev pub keyAt : List ℕ → ℕ → ℕ
+keyAt s at = cond (rightAt s at) (keyOf (nameAt s at)) 0
 
 -- the name of the last field, which starts at `last`; before the first field there is none, and `last` is 0
 abbrev pub lastNameAt : List ℕ → ℕ → List ℕ

@@ -10,19 +10,13 @@ use crate::name::name_right;
 pub fn size_right(kind: u16, size: usize) -> bool
     ensures { λ r. ⌜ r ≡ sizeRight kind size ⌝ }
 {
+    if 3 < kind {
+        return (kind <= 5) & (size <= 1024);
+    }
     if kind == 1 {
         return size == 4;
     }
-    if kind == 0 {
-        return false;
-    }
-    if kind <= 3 {
-        return size == 8;
-    }
-    if kind <= 5 {
-        return size <= 1024;
-    }
-    false
+    (kind != 0) & (size == 8)
 }
 
 // The field's length word, and the length of its name. The callers have tested that the bytes are there.

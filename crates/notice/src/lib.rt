@@ -22,8 +22,8 @@ pub use field::name_size;
 pub use field::size_right;
 pub use field::stands;
 pub use name::name_right;
-use order::key_of;
-use order::rises;
+use order::follows;
+use order::key_at;
 pub use reading::kind_of;
 pub use reading::locate;
 pub use reading::name_of;
@@ -113,17 +113,13 @@ fn check_fields(notice: &[u8], starts: &mut [u16; 64]) -> Layout
     let mut last = 0;
     let mut last_key: u64 = 0;
     while i < n {
-        if stands(notice, at) {
-            let key = key_of(notice, at + 5, name_size(notice, at));
-            if rises(notice, last, last_key, at, key) {
-                last = at;
-                last_key = key;
-                starts[i] = at as u16;
-                at = at + 2 + field_size(notice, at);
-                i += 1;
-            } else {
-                return Layout::Fault(at);
-            }
+        let key = key_at(notice, at);
+        if follows(notice, last, last_key, at, key) {
+            last = at;
+            last_key = key;
+            starts[i] = at as u16;
+            at = at + 2 + field_size(notice, at);
+            i += 1;
         } else {
             return Layout::Fault(at);
         }

@@ -29,21 +29,27 @@ module _ (s t : List ℕ) where
   pub all-same : (at : ℕ) → length s ≤ at → length t ≤ at → take at s ≡ take at t → true ≡ sameOf s t
   all-same at h l p = sym (same s t .1 (sym (take-all at s h) ∙ (p ∙ take-all at t l)))
 
-  module _ (bs : Bytes s) (bt : Bytes t) (n : length s ≡ length t) where
+  -- a shorter start
+  pub less-alike : (m at : ℕ) → m ≤ at → take at s ≡ take at t → take m s ≡ take m t
+  less-alike m at h p = sym (take-take m at s h) ∙ (ap (take m) p ∙ take-take m at t h)
+
+  module _ (bs : Bytes s) (bt : Bytes t) where
     -- a word more
-    pub next-word : (k at : ℕ) → at + k ≤ length s → wordAt k s at ≡ wordAt k t at → take at s ≡ take at t → take (at + k) s ≡ take (at + k) t
-    next-word k at h e p =
-        let w : take k (drop at s) ≡ take k (drop at t) = sym (read-bytes k at s bs h) ∙ (ap (wordBytes k) e ∙ read-bytes k at t bt (omega arith)) in
+    pub more-alike : (k at : ℕ) → at + k ≤ length s → at + k ≤ length t → wordAt k s at ≡ wordAt k t at → take at s ≡ take at t → take (at + k) s ≡ take (at + k) t
+    more-alike k at h l e p =
+        let w : take k (drop at s) ≡ take k (drop at t) = sym (read-bytes k at s bs h) ∙ (ap (wordBytes k) e ∙ read-bytes k at t bt l) in
         take-add at k s ∙ (ap₂ (λ (x y : List ℕ). x ++ y) p w ∙ sym (take-add at k t))
+
+  module _ (bs : Bytes s) (bt : Bytes t) (n : length s ≡ length t) where
+    pub next-word : (k at : ℕ) → at + k ≤ length s → wordAt k s at ≡ wordAt k t at → take at s ≡ take at t → take (at + k) s ≡ take (at + k) t
+    next-word k at h e p = more-alike bs bt k at h (omega arith) e p
 
     pub next-byte : (at : ℕ) → at < length s → getD s at 0 ≡ getD t at 0 → take at s ≡ take at t → take (at + 1) s ≡ take (at + 1) t
     next-byte at h e p = next-word 1 at (omega arith) (word-one at s ∙ (e ∙ sym (word-one at t))) p
 
     -- the last word, which may lie in part before `at`
     pub last-word : (k at last : ℕ) → last ≤ at → last + k ≡ length s → wordAt k s last ≡ wordAt k t last → take at s ≡ take at t → true ≡ sameOf s t
-    last-word k at last h m e p =
-        let q : take last s ≡ take last t = sym (take-take last at s h) ∙ (ap (take last) p ∙ take-take last at t h) in
-        all-same (last + k) (omega arith) (omega arith) (next-word k last (omega arith) e q)
+    last-word k at last h m e p = all-same (last + k) (omega arith) (omega arith) (next-word k last (omega arith) e (less-alike last at h p))
 
 turned : (s t : List ℕ) → sameOf s t ≡ sameOf t s
 turned s t = go (sameOf s t) (sameOf t s) refl refl

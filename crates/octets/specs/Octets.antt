@@ -1,5 +1,5 @@
 -- Byte strings: folding, and how two of them compare. Document 01, "Meaning" and "Notice".
-use Prim.Native.Nat.{ℕ, _+_}
+use Prim.Native.Nat.{ℕ, zero, suc, _+_, _*_}
 use mathlib.Core.Bool.{Bool, true, false, cond, _&&_, _||_}
 use mathlib.Core.List.{List, [], _∷_, map}
 use lib.Dec.{eqb, leb, ltb}
@@ -47,3 +47,9 @@ containsOf (x ∷ xs) p = beginsOf (x ∷ xs) p || containsOf xs p
 abbrev pub endsOf : List ℕ → List ℕ → Bool
 endsOf [] p = sameOf [] p
 endsOf (x ∷ xs) p = sameOf (x ∷ xs) p || endsOf xs p
+
+-- the number of v and the k bytes after it, greatest first; a byte past the end counts as 0
+unfoldable pub lead : ℕ → ℕ → List ℕ → ℕ
+lead zero v s = v
+lead (suc k) v [] = lead k (v * 256) []
+lead (suc k) v (b ∷ s) = lead k (v * 256 + b) s

@@ -61,6 +61,16 @@ pub fn before(s: &[u8], s_mark: bool, t: &[u8], t_mark: bool) -> bool
     i < t.len()
 }
 
+// The same where no side is folded, by words where both have eight bytes: for names that begin alike. `before` stays small, so that the compiler lays it into its callers.
+pub fn earlier(s: &[u8], t: &[u8]) -> bool
+    ensures { λ r. ⌜ r ≡ beforeOf (now (s .entry)) (now (t .entry)) ⌝ }
+{
+    if (s.len() < 8) | (t.len() < 8) {
+        return before(s, false, t, false);
+    }
+    words::before_words(s, t)
+}
+
 pub fn begins(s: &[u8], s_mark: bool, p: &[u8], p_mark: bool) -> bool
     ensures { λ r. ⌜ r ≡ beginsOf (folded «s_mark» (now (s .entry))) (folded «p_mark» (now (p .entry))) ⌝ }
 {

@@ -1,11 +1,12 @@
-// Two strings of one length, eight bytes at a time, and shorter ones by bytes. The last eight bytes are told first: names with numbers differ there.
+// Two strings, eight bytes at a time, and shorter ones by bytes. Whether they are the same is told by the last eight bytes first: names with numbers differ there.
 ghost use mathlib.Core.Path.{_≡_};
 ghost use mathlib.Core.Bool.{true};
 ghost use mathlib.Core.List.{map};
+ghost use mathlib.Core.Logic.{_⊎_};
 ghost use Prim.Native.Nat.{_+_, _≤_};
-ghost use lib.ListN.{length};
+ghost use lib.ListN.{length, take, drop};
 ghost use Rattle.word.specs.Word.{wordAt, wordBytes};
-ghost use Rattle.octets.specs.Octets.{lower, folded, sameOf};
+ghost use Rattle.octets.specs.Octets.{lower, folded, sameOf, beforeOf, lead};
 use crate::fold;
 
 // Neither side folded.
@@ -103,4 +104,51 @@ pub fn same_folded(s: &[u8], t: &[u8], t_mark: bool) -> bool
         return folded_bytes(s, t, t_mark);
     }
     folded_words(s, t, t_mark)
+}
+
+// Eight bytes as one number, the first greatest.
+fn eight(s: &[u8], at: usize) -> u64
+    requires { ⌜ at + 8 ≤ length (now s) ⌝ }
+    ensures { λ r. ⌜ r ≡ lead 8 0 (drop at (now (s .entry))) ⌝ }
+{
+    let mut v: u64 = 0;
+    let mut i = 0;
+    while i < 8 {
+        v = v * 256 + s[at + i] as u64;
+        i += 1;
+    }
+    v
+}
+
+// Whether s is before t, where the words at `at` are the first that differ.
+fn by_word(s: &[u8], t: &[u8], at: usize) -> bool
+    requires { ⌜ (at + 8 ≤ length (now s)) × (at + 8 ≤ length (now t)) × (take at (now s) ≡ take at (now t)) × (wordAt 8 (now s) at ≡ wordAt 8 (now t) at → ⊥) ⌝ }
+    ensures { λ r. ⌜ r ≡ beforeOf (now (s .entry)) (now (t .entry)) ⌝ }
+{
+    eight(s, at) < eight(t, at)
+}
+
+fn shorter(s: &[u8], t: &[u8]) -> usize
+    ensures { λ r. ⌜ (r ≤ length (now (s .entry))) × (r ≤ length (now (t .entry))) × ((r ≡ length (now (s .entry))) ⊎ (r ≡ length (now (t .entry)))) ⌝ }
+{
+    if s.len() < t.len() { s.len() } else { t.len() }
+}
+
+// Whether s is before t, neither folded: by words, the last of which ends with the shorter string.
+pub fn before_words(s: &[u8], t: &[u8]) -> bool
+    requires { ⌜ (8 ≤ length (now s)) × (8 ≤ length (now t)) ⌝ }
+    ensures { λ r. ⌜ r ≡ beforeOf (now (s .entry)) (now (t .entry)) ⌝ }
+{
+    let tail = shorter(s, t) - 8;
+    let mut i = 0;
+    while i < tail {
+        if word::read_u64(s, i) != word::read_u64(t, i) {
+            return by_word(s, t, i);
+        }
+        i += 8;
+    }
+    if word::read_u64(s, tail) != word::read_u64(t, tail) {
+        return by_word(s, t, tail);
+    }
+    s.len() < t.len()
 }

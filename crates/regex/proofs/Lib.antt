@@ -10,6 +10,7 @@ pub mod Formed
 pub mod Branches
 pub mod Theorems
 pub mod Walks
+pub mod Simple
 pub mod Turns
 pub mod Parts
 pub mod Allow

@@ -124,22 +124,22 @@ module _ (text : List ℕ) (i : ℕ) (first h : Bool) (eh : h ≡ hatOf first (d
     pub table-bad : BranchAt text from ks xs NoBranch → TableAt text i first ks xs NoTurn
     table-bad m = part-is ∙ ap (ended h) m
 
--- ---- `well_formed`
+-- ---- `all_branches`
 some-more : (b : Anchored) (o : Option (List Anchored)) → isSome (withFirst b o) ≡ isSome o
 some-more b none = refl
 some-more b (some bs) = refl
 
-module _ (p : List ℕ) (i : ℕ) (first : Bool) (e : isSome (branches first (drop i p)) ≡ wellFormed p) where
-  pub formed-last : (n : ℕ) (sf ef : Bool) → TurnAt p i first (Last n sf ef) → true ≡ wellFormed p
+module _ (p : List ℕ) (i : ℕ) (first g : Bool) (e : isSome (branches first (drop i p)) ≡ g) where
+  pub formed-last : (n : ℕ) (sf ef : Bool) → TurnAt p i first (Last n sf ef) → true ≡ g
   formed-last n sf ef t = ap isSome (sym (last-branch first (drop i p) (anchored sf ef (t .0)) (t .1))) ∙ e
 
-  pub formed-more : (n : ℕ) (sf : Bool) (j : ℕ) → TurnAt p i first (More n sf j) → isSome (branches false (drop j p)) ≡ wellFormed p
+  pub formed-more : (n : ℕ) (sf : Bool) (j : ℕ) → TurnAt p i first (More n sf j) → isSome (branches false (drop j p)) ≡ g
   formed-more n sf j t =
       sym (some-more (anchored sf true (t .2 .0)) (branches false (drop j p)))
       ∙ ap isSome (sym (more-branch first (drop i p) (anchored sf true (t .2 .0)) (drop j p) (t .2 .1)))
       ∙ e
 
-  pub formed-bad : TurnAt p i first NoTurn → false ≡ wellFormed p
+  pub formed-bad : TurnAt p i first NoTurn → false ≡ g
   formed-bad t = ap isSome (sym (no-branch first (drop i p) t)) ∙ e
 
 -- ---- `found`
@@ -161,21 +161,6 @@ found-is text ks xs n hk x sf ef r e =
     (rw (z, l) at e)
 
 -- ---- `search`
-pub denied : (a b : Bool) → a ≡ b → not a ≡ true → b ≡ false
-denied true b e f = false-true f
-denied false b e f = sym e
-
-pub granted : (a b : Bool) → a ≡ b → not a ≡ false → b ≡ true
-granted true b e f = sym e
-granted false b e f = false-true (sym f)
-
-pub held-none : (p x : List ℕ) → wellFormed p ≡ false → false ≡ heldIn (branchesOf p) x
-held-none p x e = go (branchesOf p) e
-  where
-    go : (o : Option (List Anchored)) → isSome o ≡ false → false ≡ heldIn o x
-    go none f = refl
-    go (some bs) f = false-true (sym f)
-
 pub table-walk : (p ks xs : List ℕ) (n : ℕ) (t : Tree) → TableOf p ks xs n t → Flat (reOf t) 8 → n ≤ length ks → n ≤ length xs → (sf ef : Bool) (x : List ℕ) →
     decide (tokensOf p (take n ks) (take n xs)) n sf ef x ≡ walk sf ef (reOf t) true x
 table-walk p ks xs n t h f hk hx sf ef x =
@@ -183,11 +168,16 @@ table-walk p ks xs n t h f hk hx sf ef x =
     ∙ ap (λ (k : ℕ). decide (tokens (reOf t)) k sf ef x) (table-length p ks xs n hk hx (tokens (reOf t)) (h .1))
     ∙ by-marks sf ef (reOf t) (fresh t) f x
 
-held-more : (sf ef : Bool) (t : Tree) (o : Option (List Anchored)) (x : List ℕ) → isSome o ≡ true → heldIn (withFirst (anchored sf ef t) o) x ≡ walk sf ef (reOf t) true x || heldIn o x
-held-more sf ef t none x e = false-true e
-held-more sf ef t (some bs) x e = refl
+-- the first of several branches fits, or it does not
+held-first : (sf ef : Bool) (t : Tree) (o : Option (List Anchored)) (x : List ℕ) → walk sf ef (reOf t) true x ≡ true → isSome o ≡ heldIn (withFirst (anchored sf ef t) o) x
+held-first sf ef t none x h = refl
+held-first sf ef t (some bs) x h = rw h
 
-module _ (p x : List ℕ) (i : ℕ) (first : Bool) (ks xs : List ℕ) (w : isSome (branches first (drop i p)) ≡ true) (e : heldIn (branches first (drop i p)) x ≡ heldIn (branchesOf p) x) where
+held-rest : (sf ef : Bool) (t : Tree) (o : Option (List Anchored)) (x : List ℕ) → walk sf ef (reOf t) true x ≡ false → heldIn o x ≡ heldIn (withFirst (anchored sf ef t) o) x
+held-rest sf ef t none x h = refl
+held-rest sf ef t (some bs) x h = rw h
+
+module _ (p x : List ℕ) (i : ℕ) (first : Bool) (ks xs : List ℕ) (e : heldIn (branches first (drop i p)) x ≡ heldIn (branchesOf p) x) where
   pub search-last : (n : ℕ) (sf ef : Bool) → TableAt p i first ks xs (Last n sf ef) → n ≤ length ks → n ≤ length xs → (r : Bool) →
       r ≡ decide (tokensOf p (take n ks) (take n xs)) n sf ef x → r ≡ heldIn (branchesOf p) x
   search-last n sf ef t hk hx r q =
@@ -198,24 +188,19 @@ module _ (p x : List ℕ) (i : ℕ) (first : Bool) (ks xs : List ℕ) (w : isSom
       ∙ e
 
   module _ (n : ℕ) (sf : Bool) (j : ℕ) (t : TableAt p i first ks xs (More n sf j)) (hk : n ≤ length ks) (hx : n ≤ length xs) (r : Bool) (q : r ≡ decide (tokensOf p (take n ks) (take n xs)) n sf true x) where
-    parts : branches first (drop i p) ≡ withFirst (anchored sf true (t .2 .0)) (branches false (drop j p))
-    parts = more-branch first (drop i p) (anchored sf true (t .2 .0)) (drop j p) (t .2 .1)
-
-    pub search-some : isSome (branches false (drop j p)) ≡ true
-    search-some = sym (some-more (anchored sf true (t .2 .0)) (branches false (drop j p))) ∙ ap isSome (sym parts) ∙ w
-
-    joined : r || heldIn (branches false (drop j p)) x ≡ heldIn (branchesOf p) x
+    joined : heldIn (withFirst (anchored sf true (t .2 .0)) (branches false (drop j p))) x ≡ heldIn (branchesOf p) x
     joined =
-        ap (λ (b : Bool). b || heldIn (branches false (drop j p)) x) (q ∙ table-walk p ks xs n (t .2 .0) (t .2 .2) (more-flat first (drop i p) sf true (t .2 .0) (drop j p) (t .2 .1)) hk hx sf true x)
-        ∙ sym (held-more sf true (t .2 .0) (branches false (drop j p)) x search-some)
-        ∙ ap (λ (o : Option (List Anchored)). heldIn o x) (sym parts)
+        ap (λ (o : Option (List Anchored)). heldIn o x) (sym (more-branch first (drop i p) (anchored sf true (t .2 .0)) (drop j p) (t .2 .1)))
         ∙ e
 
-    pub search-hit : r ≡ true → true ≡ heldIn (branchesOf p) x
-    search-hit f = (rw f at joined)
+    here : walk sf true (reOf (t .2 .0)) true x ≡ r
+    here = sym (q ∙ table-walk p ks xs n (t .2 .0) (t .2 .2) (more-flat first (drop i p) sf true (t .2 .0) (drop j p) (t .2 .1)) hk hx sf true x)
+
+    pub search-hit : r ≡ true → (g : Bool) → g ≡ isSome (branches false (drop j p)) → g ≡ heldIn (branchesOf p) x
+    search-hit f g h = h ∙ held-first sf true (t .2 .0) (branches false (drop j p)) x (here ∙ f) ∙ joined
 
     pub search-on : r ≡ false → heldIn (branches false (drop j p)) x ≡ heldIn (branchesOf p) x
-    search-on f = (rw f at joined)
+    search-on f = held-rest sf true (t .2 .0) (branches false (drop j p)) x (here ∙ f) ∙ joined
 
   pub search-bad : TableAt p i first ks xs NoTurn → false ≡ heldIn (branchesOf p) x
   search-bad t = ap (λ (o : Option (List Anchored)). heldIn o x) (sym (no-branch first (drop i p) t)) ∙ e

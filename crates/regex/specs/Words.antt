@@ -1,6 +1,6 @@
 -- The first word of a pattern's text: what one step from the left reads.
 use Prim.Native.Nat.{ℕ}
-use mathlib.Core.Bool.{Bool, true, false}
+use mathlib.Core.Bool.{Bool, true, false, not, _&&_, _||_}
 use mathlib.Core.List.{List, [], _∷_}
 use lib.Dec.{eqb}
 use lib.ListN.{drop}
@@ -64,3 +64,16 @@ ends (bars r) = true
 ends (closing r) = false
 ends stops = true
 ends none = false
+
+-- a byte that is none of `\ [ ( ) | . ^ $`
+abbrev pub plainByte : ℕ → Bool
+plainByte b = not (((((((eqb b 92 || eqb b 91) || eqb b 40) || eqb b 41) || eqb b 124) || eqb b 46) || eqb b 94) || eqb b 36)
+
+-- one of `* + ?`
+abbrev pub repeatByte : ℕ → Bool
+repeatByte b = (eqb b 42 || eqb b 43) || eqb b 63
+
+-- what most words are: a byte that stands for itself, or a repeat mark behind a piece
+abbrev pub easyAt : Bool → List ℕ → Bool
+easyAt some [] = false
+easyAt some (b ∷ r) = plainByte b && (some || not (repeatByte b))

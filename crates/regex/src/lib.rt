@@ -6,7 +6,8 @@ ghost use lib.ListN.{length, take, drop};
 ghost use Rattle.octets.specs.Octets.{folded};
 ghost use Rattle.automaton.specs.Table.{repeats as repeatsOf, absent as absentOf, outside as outsideOf, sort as sortOf, tokensOf};
 ghost use Rattle.automaton.specs.Decide.{decide};
-ghost use Rattle.regex.specs.Regex.{wellFormed, regexOf, heldIn, branchesOf, hatOf, oneIf as one-if};
+ghost use Rattle.regex.specs.Regex.{wellFormed, regexOf, heldIn, branches, branchesOf, isSome, hatOf, oneIf as one-if};
+ghost use Rattle.regex.specs.Words.{plainByte, repeatByte, easyAt};
 ghost use Rattle.regex.specs.Promise.{SetAt, WordAt, AllowedAt, EndAt, BranchAt, BehindAt, TurnAt, TableAt};
 use octets::fold;
 use pattern::sets::SetTest;
@@ -146,6 +147,36 @@ fn allowed(text: &[u8], i: usize, room: usize, some: bool) -> Read
     }
 }
 
+// A byte that stands for itself.
+fn is_plain(b: u8) -> bool
+    ensures { λ r. ⌜ r ≡ plainByte b ⌝ }
+{
+    !((b == 92)
+        | (b == 91)
+        | (b == 40)
+        | (b == 41)
+        | (b == 124)
+        | (b == 46)
+        | (b == 94)
+        | (b == 36))
+}
+
+fn is_repeat(b: u8) -> bool
+    ensures { λ r. ⌜ r ≡ repeatByte b ⌝ }
+{
+    (b == 42) | (b == 43) | (b == 63)
+}
+
+// Whether a byte stands at an index that stands for itself, or a repeat mark behind a piece: all that most words are.
+fn easy(text: &[u8], i: usize, some: bool) -> bool
+    ensures { λ r. ⌜ r ≡ easyAt some (drop i (now (text .entry))) ⌝ }
+{
+    if text.len() <= i {
+        return false;
+    }
+    is_plain(text[i]) & (some | !is_repeat(text[i]))
+}
+
 // ---- a branch of the whole pattern, without its anchors
 
 pub enum Made {
@@ -164,6 +195,11 @@ fn branch_end(text: &[u8], from: usize) -> Made
     let mut some = false;
     let mut i = from;
     loop {
+        if easy(text, i, some) {
+            some = true;
+            i += 1;
+            continue;
+        }
         match allowed(text, i, room, some) {
             Read::Item(k, a, j) => {
                 some = true;
@@ -241,6 +277,15 @@ fn branch(text: &[u8], from: usize, kinds: &mut [u8], args: &mut [u16]) -> Made
     let mut n: usize = 0;
     let mut i = from;
     loop {
+        if easy(text, i, false) {
+            kinds[n] = 0;
+            args[n] = narrow(i);
+            last = n;
+            some = true;
+            n += 1;
+            i += 1;
+            continue;
+        }
         match allowed(text, i, room, some) {
             Read::Item(k, a, j) => {
                 kinds[n] = k;
@@ -369,12 +414,13 @@ fn next_branch(text: &[u8], i: usize, first: bool, kinds: &mut [u8], args: &mut 
 
 // ---- the whole pattern
 
-// Whether a text is a pattern.
-pub fn well_formed(p: &[u8]) -> bool
-    ensures { λ r. ⌜ r ≡ wellFormed (now (p .entry)) ⌝ }
+// Whether what stands at an index is branches to the end; `start` says whether `^` may stand there.
+fn all_branches(p: &[u8], from: usize, start: bool) -> bool
+    requires { ⌜ from ≤ length (now p) ⌝ }
+    ensures { λ r. ⌜ r ≡ isSome (branches start (drop from (now (p .entry)))) ⌝ }
 {
-    let mut i: usize = 0;
-    let mut first = true;
+    let mut i = from;
+    let mut first = start;
     loop {
         match next_end(p, i, first) {
             Turn::Last(n, sf, ef) => {
@@ -389,6 +435,13 @@ pub fn well_formed(p: &[u8]) -> bool
             }
         }
     }
+}
+
+// Whether a text is a pattern.
+pub fn well_formed(p: &[u8]) -> bool
+    ensures { λ r. ⌜ r ≡ wellFormed (now (p .entry)) ⌝ }
+{
+    all_branches(p, 0, true)
 }
 
 // Whether the value fits a table of `n` tokens.
@@ -418,7 +471,7 @@ fn found(
     )
 }
 
-// "True if some stretch of the value fits": the branches from the left, up to the first that does. Room for as many tokens as the pattern has bytes is lent.
+// "True if some stretch of the value fits": the branches from the left, up to the first that does, and then whether the others are branches at all. Room for as many tokens as the pattern has bytes is lent.
 fn search(
     s: &[u8],
     s_mark: bool,
@@ -430,9 +483,6 @@ fn search(
     requires { ⌜ (length (now p) ≤ 4096) × (length (now p) ≤ length (now kinds)) × (length (now p) ≤ length (now args)) × (length (now p) ≤ length (now marks)) ⌝ }
     ensures { λ r. ⌜ r ≡ heldIn (branchesOf (now (p .entry))) (folded «s_mark» (now (s .entry))) ⌝ }
 {
-    if !well_formed(p) {
-        return false;
-    }
     let mut i: usize = 0;
     let mut first = true;
     loop {
@@ -442,7 +492,7 @@ fn search(
             }
             Turn::More(n, sf, j) => {
                 if found(s, s_mark, p, kinds, args, marks, n, sf, true) {
-                    return true;
+                    return all_branches(p, j, false);
                 }
                 i = j;
                 first = false;

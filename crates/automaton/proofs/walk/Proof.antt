@@ -17,13 +17,13 @@ use Rattle.octets.proofs.fold.Reads as fold-reads
 use Rattle.automaton.proofs.shift.Reads as shift-reads
 
 abbrev Inv-loop : tie.InvT-loop
-Inv-loop text kinds args marks₀ empty value mark sf ef fin₀ k₀ i₀ marks fin k i = (i ≤ length value) × (length marks ≡ length kinds) × (walkOn (tokensOf text kinds args) sf ef empty marks fin k (map (fold mark) (drop i value)) ≡ walkOn (tokensOf text kinds args) sf ef empty marks₀ false true (folded mark value))
+Inv-loop text kinds args marks₀ empty value mark sf ef from ended enters fin₀ k₀ i₀ marks fin k i = (i ≤ length value) × (length marks ≡ length kinds) × (walkOn (tokensOf text kinds args) sf ef empty marks fin k (map (fold mark) (drop i value)) ≡ walkOn (tokensOf text kinds args) sf ef empty marks₀ ended enters (folded mark (drop from value)))
 
 abbrev μ-loop : tie.MeasureT-loop
-μ-loop text kinds args marks₀ empty value mark sf ef fin₀ k₀ i₀ marks fin k i = length value - i
+μ-loop text kinds args marks₀ empty value mark sf ef from ended enters fin₀ k₀ i₀ marks fin k i = length value - i
 
 loop-holds : tie.Need-loop-holds Inv-loop μ-loop
-loop-holds c = (omega arith, c .before .before .before .before .before .pre .2, refl)
+loop-holds c = (c .before .before .before .before .before .pre .3, c .before .before .before .before .before .pre .2, refl)
 
 same-length : tie.Need-same-length Inv-loop μ-loop
 same-length c = c .before .before .loop .inv .1 ∙ sym (c .before .before .before .before .before .before .before .before .pre .2)

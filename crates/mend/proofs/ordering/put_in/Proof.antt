@@ -13,6 +13,9 @@ use Rattle.mend.proofs.ordering.put_in.Tie as tie
 make-place-requires : tie.Need-make-place-requires
 make-place-requires c κs = search needs
 
+cast-order : tie.Need-cast-order
+cast-order c = search needs
+
 mul-order : tie.Need-mul-order
 mul-order c = search needs
 
@@ -28,4 +31,4 @@ returns c =
     )
 
 pub put-in-spec : {M : Type 1} → statement M
-put-in-spec = tie.close (tie.spec make-place-requires mul-order element-write-order returns)
+put-in-spec = tie.close (tie.spec make-place-requires cast-order mul-order element-write-order returns)

@@ -17,12 +17,19 @@ returns-3 : tie.Need-returns-3
 returns-3 c =
     c .words-right .ensures ∙ by-bytes (c .before .before .before .before .before .args .name .now) (c .before .before .before .if1 .left) (c .before .before .if2 .left)
 
-bytes-right-requires : tie.Need-bytes-right-requires
-bytes-right-requires c κs = search needs
+halves-right-requires : tie.Need-halves-right-requires
+halves-right-requires c κs = search needs
 
 returns-4 : tie.Need-returns-4
 returns-4 c =
-    c .bytes-right .ensures ∙ by-bytes (c .before .before .before .before .before .args .name .now) (c .before .before .before .if1 .left) (c .before .before .if2 .left)
+    c .halves-right .ensures ∙ by-bytes (c .before .before .before .before .before .before .args .name .now) (c .before .before .before .before .if1 .left) (c .before .before .before .if2 .left)
+
+bytes-right-requires : tie.Need-bytes-right-requires
+bytes-right-requires c κs = search needs
+
+returns-5 : tie.Need-returns-5
+returns-5 c =
+    c .bytes-right .ensures ∙ by-bytes (c .before .before .before .before .before .before .args .name .now) (c .before .before .before .before .if1 .left) (c .before .before .before .if2 .left)
 
 pub name-right-spec : {M : Type 1} → statement M
 name-right-spec =
@@ -32,5 +39,7 @@ name-right-spec =
     returns-2
     words-right-requires
     returns-3
+    halves-right-requires
+    returns-4
     bytes-right-requires
-    returns-4)
+    returns-5)
