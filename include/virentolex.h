@@ -47,23 +47,23 @@
  * The stack is not part of the proofs. Measured, in bytes, on the inputs that take most, none over 64 KiB
  * (tests/stack prints the figures, with the frame of a C function that makes the call):
  *
- *    virentolex_translate      58,640   the deepest texts: 24 parentheses or calls, every operator level
- *                                       and 24 prefix operators between each two; a flat one 24,576
- *    virentolex_run            22,727   with `regex`; 13,880 if `contains` goes on by borders; else 5,680
- *    virentolex_run_many       22,695   likewise: 13,848; else 5,648
- *    virentolex_store_match    22,823   likewise: 13,976; else 5,776
- *    virentolex_quorum_show    22,791   likewise: 13,944; else 5,744
- *    virentolex_store_add       5,272
- *    virentolex_quorum_open     5,144
- *    virentolex_entry           5,128
- *    virentolex_check           5,064
- *    virentolex_ubf_read        4,088
- *    virentolex_mend            1,304
- *    virentolex_write             408
- *    virentolex_ubf_write         408
- *    virentolex_read              376
- *    virentolex_find              376
- *    virentolex_check_notice      312
+ *    virentolex_translate      53,920   the deepest texts: 24 parentheses or calls, every operator level
+ *                                       and 24 prefix operators between each two; a flat one 24,616
+ *    virentolex_run            24,999   with `regex`; 13,864 if `contains` goes on by borders; else 5,664
+ *    virentolex_run_many       24,967   likewise: 13,832; else 5,632
+ *    virentolex_store_match    25,095   likewise: 13,960; else 5,760
+ *    virentolex_quorum_show    25,047   likewise: 13,912; else 5,712
+ *    virentolex_mend            8,672
+ *    virentolex_store_add       5,352
+ *    virentolex_quorum_open     5,224
+ *    virentolex_entry           5,208
+ *    virentolex_check           5,144
+ *    virentolex_ubf_read        4,104
+ *    virentolex_write             384
+ *    virentolex_ubf_write         384
+ *    virentolex_read              352
+ *    virentolex_find              352
+ *    virentolex_check_notice      288
  *    virentolex_store_fetch       208
  *    virentolex_store_remove      208
  *    virentolex_store_make         40
