@@ -3,18 +3,19 @@ use mathlib.Core.Path.{_≡_, refl, sym, ap, ap₂, _∙_}
 use mathlib.Core.Bool.{Bool, true, false, cond, _&&_, and-comm, and-true}
 use mathlib.Core.List.{List, [], _∷_}
 use Prim.Native.Nat.{ℕ, zero, suc, _+_, _*_, _-_, _/_, _%_, _^_, _≤_, _<_}
-use native.Mathlib.Nat.{pow-zero, pow-suc, add-mul, mul-assoc, mul-comm, add-mul-mod-self-right, mod-eq-of-lt, min-le-left}
+use native.Mathlib.Nat.{add-mul-mod-self-right, mod-eq-of-lt, min-le-left}
 use native.Mathlib.Omega.{arith}
 use lib.Dec.{leb, ltb}
 use lib.ListN.{length, getD, take, drop, drop-of-length-le, length-take}
-use lib.Seq.{drop-nil, drop-cons, drop-drop, getD-drop, take-add, take-all}
-use borrow.Author.Tests.{leb-true, le-ltb, eq-eqb, ne-eqb, ltb-true, ltb-false}
+use lib.Seq.{drop-cons, drop-drop, getD-drop, take-add, take-all}
+use borrow.Author.Tests.{leb-true, eq-eqb, ne-eqb, ltb-true, ltb-false}
 use Rattle.word.specs.Word.{wordBytes, Bytes}
-use Rattle.octets.specs.Octets.{beforeOf}
+use Rattle.octets.specs.Octets.{beforeOf, lead}
 use Rattle.octets.proofs.Theorems.{and-parts}
+use Rattle.octets.proofs.Leads.{same-first, lead-less, lead-nil, lead-from, lead-parts, lead-take, lead-short}
 use Rattle.notice.specs.Field.{printable, nameRight, fieldRight}
 use Rattle.notice.specs.Layout.{nameSizeAt, nameAt, fieldAt, liesAt, rightAt, standsAt}
-use Rattle.notice.specs.Key.{lead, keyOf, rightKey, keyAt, lastNameAt, Last}
+use Rattle.notice.specs.Key.{keyOf, rightKey, keyAt, lastNameAt, Last}
 use Rattle.notice.proofs.Words.{two-power}
 use Rattle.notice.proofs.Names.{printable-append, by-bytes}
 use Rattle.notice.proofs.Places.{length-name, right-lies, right-name}
@@ -28,15 +29,6 @@ bytes-take (suc n) (x ∷ s) b (suc i) = bytes-take n s (λ j. b (suc j)) i
 
 pub bytes-drop : (n : ℕ) (s : List ℕ) → Bytes s → Bytes (drop n s)
 bytes-drop n s b i = rw (getD-drop n s i 0) (b (n + i))
-
--- the greater number stays greater, whatever bytes come after it
-lead-less : (k v w : ℕ) (s t : List ℕ) → Bytes s → v < w → lead k v s < lead k w t
-unfolding lead
-lead-less zero v w s t b h = h
-lead-less (suc k) v w [] [] b h = lead-less k (v * 256) (w * 256) [] [] b (omega arith)
-lead-less (suc k) v w [] (y ∷ t) b h = lead-less k (v * 256) (w * 256 + y) [] t b (omega arith)
-lead-less (suc k) v w (x ∷ s) [] b h = let l = b 0 in lead-less k (v * 256 + x) (w * 256) s [] (λ i. b (suc i)) (omega arith)
-lead-less (suc k) v w (x ∷ s) (y ∷ t) b h = let l = b 0 in lead-less k (v * 256 + x) (w * 256 + y) s t (λ i. b (suc i)) (omega arith)
 
 key-empty : 0 ≡ keyOf []
 unfolding lead
@@ -53,9 +45,6 @@ printable-bytes (b ∷ s) e (suc i) = printable-bytes s (and-parts (leb 32 b && 
 
 head-high : (b : ℕ) (s : List ℕ) → printable (b ∷ s) ≡ true → 32 ≤ b
 head-high b s e = leb-true 32 b (and-parts (leb 32 b) (leb b 126) (and-parts (leb 32 b && leb b 126) (printable s) e .0) .0)
-
-same-order : (a b : ℕ) (s t : List ℕ) → a ≡ b → beforeOf (a ∷ s) (b ∷ t) ≡ beforeOf s t
-same-order a b s t e = rw (le-ltb a b (omega arith), eq-eqb a b e)
 
 -- no name has the key of none
 key-some : (s : List ℕ) → printable s ≡ true → 1 ≤ length s → keyOf [] < keyOf s
@@ -86,7 +75,7 @@ less-before (suc k) v (a ∷ s) (b ∷ t) p q h = go (ltb a b) (ltb b a) refl re
     go false false e f ih =
         let z : a ≡ b = omega (arith, ltb-false a b e, ltb-false b a f) in
         let g : lead k (v * 256 + b) s < lead k (v * 256 + b) t = rw z at h in
-        ih g ∙ sym (same-order a b s t z)
+        ih g ∙ sym (same-first a b s t z)
 
 less-after : (k v : ℕ) (s t : List ℕ) → printable s ≡ true → printable t ≡ true → lead k v t < lead k v s → false ≡ beforeOf s t
 unfolding lead
@@ -108,58 +97,7 @@ less-after (suc k) v (a ∷ s) (b ∷ t) p q h = go (ltb a b) (ltb b a) refl ref
     go false false e f ih =
         let z : a ≡ b = omega (arith, ltb-false a b e, ltb-false b a f) in
         let g : lead k (v * 256 + b) t < lead k (v * 256 + b) s = rw z at h in
-        ih g ∙ sym (same-order a b s t z)
-
--- one byte more of eight
-pub lead-more : (v at i : ℕ) (s : List ℕ) → i < 8 → at + i < length s → lead (8 - (i + 1)) (v * 256 + getD s (at + i) 0) (drop (at + (i + 1)) s) ≡ lead (8 - i) v (drop (at + i) s)
-unfolding lead
-lead-more v at i s h l =
-    let e1 : 8 - i ≡ suc (8 - (i + 1)) = omega arith in
-    let e2 : at + (i + 1) ≡ suc (at + i) = omega arith in
-    rw (e1, e2, drop-cons s (at + i) 0 l)
-
-pub lead-all : (v : ℕ) (s : List ℕ) → lead 0 v s ≡ v
-unfolding lead
-lead-all v s = refl
-
--- numbers of bytes: after none, after others, and what a shift leaves
-lead-nil : (k v : ℕ) → lead k v [] ≡ v * 256 ^ k
-unfolding lead
-lead-nil zero v = rw (pow-zero 256) (omega arith)
-lead-nil (suc k) v = lead-nil k (v * 256) ∙ rw (pow-suc 256 k, mul-assoc, mul-comm (256 ^ k) 256) refl
-
-lead-from : (k v : ℕ) (s : List ℕ) → lead k v s ≡ v * 256 ^ k + lead k 0 s
-unfolding lead
-lead-from zero v s = rw (pow-zero 256) (omega arith)
-lead-from (suc k) v [] =
-    let e = lead-nil (suc k) v in
-    let o : lead k (0 * 256) [] ≡ 0 = lead-nil k 0 ∙ omega arith in
-    e ∙ omega (arith, o)
-lead-from (suc k) v (b ∷ s) =
-    let e = lead-from k (v * 256 + b) s in
-    let f = lead-from k (0 * 256 + b) s in
-    let p1 : (v * 256 + b) * 256 ^ k ≡ v * 256 * 256 ^ k + b * 256 ^ k = add-mul (v * 256) b (256 ^ k) in
-    let p2 : v * 256 * 256 ^ k ≡ v * (256 ^ k * 256) = mul-assoc v 256 (256 ^ k) ∙ ap (λ (n : ℕ). v * n) (mul-comm 256 (256 ^ k)) in
-    let p3 : v * 256 ^ suc k ≡ v * (256 ^ k * 256) = ap (λ (n : ℕ). v * n) (pow-suc 256 k) in
-    let z : 0 * 256 + b ≡ b = omega arith in
-    let p4 : (0 * 256 + b) * 256 ^ k ≡ b * 256 ^ k = ap (λ (n : ℕ). n * 256 ^ k) z in
-    omega (arith, e, f, p1, p2, p3, p4)
-
-lead-parts : (j k v : ℕ) (s : List ℕ) → lead (j + k) v s ≡ lead k (lead j v s) (drop j s)
-unfolding lead
-lead-parts zero k v s = let z : 0 + k ≡ k = omega arith in rw z refl
-lead-parts (suc j) k v [] = let z : suc j + k ≡ suc (j + k) = omega arith in rw z (lead-parts j k (v * 256) [] ∙ ap (lead k (lead j (v * 256) [])) (drop-nil j))
-lead-parts (suc j) k v (b ∷ s) = let z : suc j + k ≡ suc (j + k) = omega arith in rw z (lead-parts j k (v * 256 + b) s)
-
-lead-take : (k n v : ℕ) (s : List ℕ) → k ≤ n → lead k v (take n s) ≡ lead k v s
-unfolding lead
-lead-take zero n v s h = refl
-lead-take (suc k) zero v s h = absurd (omega arith)
-lead-take (suc k) (suc n) v [] h = refl
-lead-take (suc k) (suc n) v (b ∷ s) h = lead-take k n (v * 256 + b) s (omega arith)
-
-lead-short : (k : ℕ) (s : List ℕ) → Bytes s → lead k 0 s < 256 ^ k
-lead-short k s b = let m = lead-less k 0 1 s [] b (omega arith) in let e = lead-nil k 1 in omega (arith, m, e)
+        ih g ∙ sym (same-first a b s t z)
 
 -- m bytes, and n of a name after them: the shift by m bytes leaves the key of the n
 shifted : (m n : ℕ) (s : List ℕ) → Bytes s → m + n ≡ 8 → (keyOf s * 2 ^ (m * 8)) % 2 ^ 64 ≡ keyOf (take n (drop m s))

@@ -1,17 +1,12 @@
 -- A name's key: its first eight bytes as one number. Names with other keys have the keys' order. Document 01, "Notice": "Names rise strictly by bytes, a prefix before the longer."
-use Prim.Native.Nat.{ℕ, zero, suc, _+_, _*_}
+use Prim.Native.Nat.{ℕ}
 use mathlib.Core.Path.{_≡_}
 use mathlib.Core.Bool.{true, cond}
-use mathlib.Core.List.{List, [], _∷_}
+use mathlib.Core.List.{List, []}
 use lib.Dec.{eqb}
+use Rattle.octets.specs.Octets.{lead}
 use Rattle.notice.specs.Field.{printable, nameRight}
 use Rattle.notice.specs.Layout.{nameAt, liesAt, rightAt}
-
--- the number of v and the k bytes after it, greatest first; a byte past the end counts as 0
-unfoldable pub lead : ℕ → ℕ → List ℕ → ℕ
-lead zero v s = v
-lead (suc k) v [] = lead k (v * 256) []
-lead (suc k) v (b ∷ s) = lead k (v * 256 + b) s
 
 abbrev pub keyOf : List ℕ → ℕ
 keyOf name = lead 8 0 name

@@ -3,7 +3,7 @@ ghost use mathlib.Core.Path.{_≡_};
 ghost use Prim.Native.Nat.{_+_, _≤_};
 ghost use lib.ListN.{length, take, drop};
 ghost use Rattle.notice.specs.Layout.{standsAt};
-ghost use Rattle.notice.specs.Key.{keyOf, rightKey, keyAt, lastNameAt, Last};
+ghost use Rattle.notice.specs.Key.{rightKey, keyAt, lastNameAt, Last};
 use crate::field::field_size;
 use crate::field::lies;
 use crate::field::name_size;
@@ -11,27 +11,13 @@ use crate::field::size_right;
 use crate::name::word_right;
 use crate::name::words_right;
 
-// Eight bytes as one number, the first greatest.
-fn eight(s: &[u8], at: usize) -> u64
-    requires { ⌜ at + 8 ≤ length (now s) ⌝ }
-    ensures { λ r. ⌜ r ≡ keyOf (drop at (now (s .entry))) ⌝ }
-{
-    let mut v: u64 = 0;
-    let mut i = 0;
-    while i < 8 {
-        v = v * 256 + s[at + i] as u64;
-        i += 1;
-    }
-    v
-}
-
 // The key of a name of n bytes at `at`, or 0 if it is not right. A short one is read with bytes before it, which the shift drops; its key is judged in place of its bytes.
 fn short_key(notice: &[u8], at: usize, n: usize) -> u64
     requires { ⌜ (8 ≤ at) × (1 ≤ n) × (n ≤ 8) × (at + n ≤ length (now notice)) ⌝ }
     ensures { λ r. ⌜ r ≡ rightKey (take n (drop at (now (notice .entry)))) ⌝ }
 {
     let m = 8 - n;
-    let key = eight(notice, at + n - 8) << (m * 8);
+    let key = octets::eight(notice, at + n - 8) << (m * 8);
     if word_right(key, m) {
         return key;
     }
@@ -44,7 +30,7 @@ fn long_key(notice: &[u8], at: usize, n: usize) -> u64
 {
     let end = at + n;
     if words_right(&notice[at..end]) {
-        return eight(notice, at);
+        return octets::eight(notice, at);
     }
     0
 }

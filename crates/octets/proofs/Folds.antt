@@ -1,18 +1,19 @@
 -- The bytes of a word folded at once, over the width. Assumes nothing.
-use mathlib.Core.Path.{_≡_, refl, ap, ap₂, _∙_}
-use mathlib.Core.Bool.{Bool, true, false, _&&_}
+use mathlib.Core.Path.{_≡_, refl, sym, ap, ap₂, _∙_}
+use mathlib.Core.Logic.{_↔_}
+use mathlib.Core.Bool.{Bool, true, false, cond, _&&_}
 use mathlib.Core.List.{List, [], _∷_, map}
 use Prim.Native.Nat.{ℕ, zero, suc, _+_, _*_, _/_, _%_, _^_, _≤_, _<_}
 use native.Mathlib.Nat.{pow-zero, pow-suc}
 use native.Mathlib.Decide.{decLt}
 use native.Mathlib.Omega.{arith}
-use lib.Bits.{bitAnd, bitXor, and-block, xor-block, and-le-r, and-zero-r, and-lt, xor-lt}
-use lib.Dec.{eqb, ltb, lit<}
+use lib.Bits.{bitAnd, bitOr, bitXor, and-block, xor-block, and-le-r, and-zero-r, or-zero-r, and-lt, xor-lt}
+use lib.Dec.{eqb, leb, ltb, lit<}
 use lib.ListN.{getD, List·getD-map}
 use borrow.Author.Tests.{eqb-true, ltb-true}
 use Rattle.word.specs.Word.{wordAt, wordBytes, Bytes}
 use Rattle.word.proofs.Theorems.{word-shift}
-use Rattle.octets.specs.Octets.{lower, folded}
+use Rattle.octets.specs.Octets.{lower, fold, folded}
 use Rattle.octets.proofs.Theorems.{and-parts, not-folded}
 
 -- the word of k bytes c
@@ -34,23 +35,56 @@ upperByte b = upperBy 127 63 37 128 b
 abbrev right : ℕ → Bool
 right b = eqb (b + upperByte b / 4) (lower b) && (eqb (upperByte b % 4) 0 && ltb (lower b) 256)
 
-abbrev tested : ℕ → Bool
-tested zero = true
-tested (suc n) = right n && tested n
+abbrev tested : (ℕ → Bool) → ℕ → Bool
+tested q zero = true
+tested q (suc n) = q n && tested q n
 
-tested-each : (n b : ℕ) → tested n ≡ true → b < n → right b ≡ true
-tested-each zero b e h = absurd (omega arith)
-tested-each (suc n) b e h = go (decLt b n) (and-parts (right n) (tested n) e) (tested-each n b)
+tested-each : (q : ℕ → Bool) (n b : ℕ) → tested q n ≡ true → b < n → q b ≡ true
+tested-each q zero b e h = absurd (omega arith)
+tested-each q (suc n) b e h = go (decLt b n) (and-parts (q n) (tested q n) e) (tested-each q n b)
   where
-    go : Dec (b < n) → (right n ≡ true) × (tested n ≡ true) → (tested n ≡ true → b < n → right b ≡ true) → right b ≡ true
+    go : Dec (b < n) → (q n ≡ true) × (tested q n ≡ true) → (tested q n ≡ true → b < n → q b ≡ true) → q b ≡ true
     go (yes l) p ih = ih (p .1) l
-    go (no f) p ih = let q : b ≡ n = omega arith in ap right q ∙ p .0
+    go (no f) p ih = let e2 : b ≡ n = omega arith in ap q e2 ∙ p .0
 
 byte-right : (b : ℕ) → b < 256 → (b + upperByte b / 4 ≡ lower b) × (upperByte b % 4 ≡ 0) × (lower b < 256)
 byte-right b h =
-    let p = and-parts (eqb (b + upperByte b / 4) (lower b)) (eqb (upperByte b % 4) 0 && ltb (lower b) 256) (tested-each 256 b refl h) in
+    let p = and-parts (eqb (b + upperByte b / 4) (lower b)) (eqb (upperByte b % 4) 0 && ltb (lower b) 256) (tested-each right 256 b refl h) in
     let q = and-parts (eqb (upperByte b % 4) 0) (ltb (lower b) 256) (p .1) in
     (eqb-true _ _ (p .0), eqb-true _ _ (q .0), ltb-true _ _ (q .1))
+
+-- the bit in which a..z differ from A..Z, if b is a letter
+abbrev bit : ℕ → ℕ
+bit b = cond (leb 97 (bitOr b 32) && leb (bitOr b 32) 122) 32 0
+
+abbrev bitRight : ℕ → Bool
+bitRight c = eqb (lower c) (bitOr c (bit c)) && (eqb (bit (lower c)) (bit c) && eqb (bit (bitOr c 32)) (bit c))
+
+byte-bit : (c : ℕ) → c < 256 → (lower c ≡ bitOr c (bit c)) × (bit (lower c) ≡ bit c) × (bit (bitOr c 32) ≡ bit c)
+byte-bit c h =
+    let p = and-parts (eqb (lower c) (bitOr c (bit c))) (eqb (bit (lower c)) (bit c) && eqb (bit (bitOr c 32)) (bit c)) (tested-each bitRight 256 c refl h) in
+    let q = and-parts (eqb (bit (lower c)) (bit c)) (eqb (bit (bitOr c 32)) (bit c)) (p .1) in
+    (eqb-true _ _ (p .0), eqb-true _ _ (q .0), eqb-true _ _ (q .1))
+
+-- which bytes fold to b: those that are b with its bit
+module _ (b c : ℕ) (h : c < 256) where
+  same-bit : bitOr c (bit b) ≡ b → bit b ≡ bit c
+  same-bit = go (leb 97 (bitOr b 32) && leb (bitOr b 32) 122) refl
+    where
+      go : (l : Bool) → (leb 97 (bitOr b 32) && leb (bitOr b 32) 122) ≡ l → bitOr c (cond l 32 0) ≡ b → bit b ≡ bit c
+      go true m e = ap bit (sym e) ∙ byte-bit c h .2
+      go false m e = ap bit (sym e ∙ or-zero-r c)
+
+  lower-told : (bitOr c (bit b) ≡ b) ↔ (lower c ≡ b)
+  lower-told =
+      let p = byte-bit c h in (
+        λ e. p .0 ∙ (ap (bitOr c) (sym (same-bit e)) ∙ e),
+        λ e. ap (bitOr c) (ap bit (sym e) ∙ p .1) ∙ (sym (p .0) ∙ e),
+      )
+
+pub folds-to : (mark : Bool) (b c : ℕ) → c < 256 → (bitOr c (cond ((mark && leb 97 (bitOr b 32)) && leb (bitOr b 32) 122) 32 0) ≡ b) ↔ (fold mark c ≡ b)
+folds-to true b c h = lower-told b c h
+folds-to false b c h = (λ e. sym (or-zero-r c) ∙ e, λ e. or-zero-r c ∙ e)
 
 -- each step goes byte by byte: of the lowest byte b and of the rest r
 module _ (k b r : ℕ) (h : b < 256) where

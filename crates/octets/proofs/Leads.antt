@@ -3,11 +3,12 @@ use mathlib.Core.Path.{_≡_, refl, sym, ap, ap₂, _∙_}
 use mathlib.Core.Logic.{_⊎_, ⊎-elim}
 use mathlib.Core.Bool.{Bool, true, false, _||_}
 use mathlib.Core.List.{List, [], _∷_, _++_}
-use Prim.Native.Nat.{ℕ, zero, suc, _+_, _*_, _-_, _≤_, _<_}
+use Prim.Native.Nat.{ℕ, zero, suc, _+_, _*_, _-_, _^_, _≤_, _<_}
+use native.Mathlib.Nat.{pow-zero, pow-suc, add-mul, mul-assoc, mul-comm}
 use native.Mathlib.Omega.{arith}
 use lib.Dec.{ltb}
 use lib.ListN.{length, getD, take, drop, drop-of-length-le, length-drop}
-use lib.Seq.{drop-cons, getD-drop}
+use lib.Seq.{drop-nil, drop-cons, getD-drop}
 use borrow.Author.Tests.{lt-ltb, le-ltb, ltb-true, ltb-false, eq-eqb, ne-eqb}
 use Rattle.common.proofs.Choice.{true-false}
 use Rattle.word.specs.Word.{wordAt, wordBytes, Bytes}
@@ -25,7 +26,7 @@ neither-below a b n = go (ltb a n) (ltb b n) refl refl
 
 -- ---- equal starts
 
-same-first : (a b : ℕ) (s t : List ℕ) → a ≡ b → beforeOf (a ∷ s) (b ∷ t) ≡ beforeOf s t
+pub same-first : (a b : ℕ) (s t : List ℕ) → a ≡ b → beforeOf (a ∷ s) (b ∷ t) ≡ beforeOf s t
 same-first a b s t e = rw (le-ltb a b (omega arith), eq-eqb a b e)
 
 pub after-same : (i : ℕ) (s t : List ℕ) → i ≤ length s → i ≤ length t → take i s ≡ take i t → beforeOf (drop i s) (drop i t) ≡ beforeOf s t
@@ -56,7 +57,7 @@ all-alike n s t g h o e = go (ltb (length s) (length t)) refl ∙ after-same n s
 -- ---- numbers of bytes, greatest first
 
 -- the greater number stays greater, whatever bytes come after it
-lead-less : (k v w : ℕ) (s t : List ℕ) → Bytes s → v < w → lead k v s < lead k w t
+pub lead-less : (k v w : ℕ) (s t : List ℕ) → Bytes s → v < w → lead k v s < lead k w t
 unfolding lead
 lead-less zero v w s t b h = h
 lead-less (suc k) v w [] [] b h = lead-less k (v * 256) (w * 256) [] [] b (omega arith)
@@ -119,6 +120,45 @@ lead-more v at i s h l =
 pub lead-all : (v : ℕ) (s : List ℕ) → lead 0 v s ≡ v
 unfolding lead
 lead-all v s = refl
+
+-- after no bytes, after others, in parts, of a start
+pub lead-nil : (k v : ℕ) → lead k v [] ≡ v * 256 ^ k
+unfolding lead
+lead-nil zero v = rw (pow-zero 256) (omega arith)
+lead-nil (suc k) v = lead-nil k (v * 256) ∙ rw (pow-suc 256 k, mul-assoc, mul-comm (256 ^ k) 256) refl
+
+pub lead-from : (k v : ℕ) (s : List ℕ) → lead k v s ≡ v * 256 ^ k + lead k 0 s
+unfolding lead
+lead-from zero v s = rw (pow-zero 256) (omega arith)
+lead-from (suc k) v [] =
+    let e = lead-nil (suc k) v in
+    let o : lead k (0 * 256) [] ≡ 0 = lead-nil k 0 ∙ omega arith in
+    e ∙ omega (arith, o)
+lead-from (suc k) v (b ∷ s) =
+    let e = lead-from k (v * 256 + b) s in
+    let f = lead-from k (0 * 256 + b) s in
+    let p1 : (v * 256 + b) * 256 ^ k ≡ v * 256 * 256 ^ k + b * 256 ^ k = add-mul (v * 256) b (256 ^ k) in
+    let p2 : v * 256 * 256 ^ k ≡ v * (256 ^ k * 256) = mul-assoc v 256 (256 ^ k) ∙ ap (λ (n : ℕ). v * n) (mul-comm 256 (256 ^ k)) in
+    let p3 : v * 256 ^ suc k ≡ v * (256 ^ k * 256) = ap (λ (n : ℕ). v * n) (pow-suc 256 k) in
+    let z : 0 * 256 + b ≡ b = omega arith in
+    let p4 : (0 * 256 + b) * 256 ^ k ≡ b * 256 ^ k = ap (λ (n : ℕ). n * 256 ^ k) z in
+    omega (arith, e, f, p1, p2, p3, p4)
+
+pub lead-parts : (j k v : ℕ) (s : List ℕ) → lead (j + k) v s ≡ lead k (lead j v s) (drop j s)
+unfolding lead
+lead-parts zero k v s = let z : 0 + k ≡ k = omega arith in rw z refl
+lead-parts (suc j) k v [] = let z : suc j + k ≡ suc (j + k) = omega arith in rw z (lead-parts j k (v * 256) [] ∙ ap (lead k (lead j (v * 256) [])) (drop-nil j))
+lead-parts (suc j) k v (b ∷ s) = let z : suc j + k ≡ suc (j + k) = omega arith in rw z (lead-parts j k (v * 256 + b) s)
+
+pub lead-take : (k n v : ℕ) (s : List ℕ) → k ≤ n → lead k v (take n s) ≡ lead k v s
+unfolding lead
+lead-take zero n v s h = refl
+lead-take (suc k) zero v s h = absurd (omega arith)
+lead-take (suc k) (suc n) v [] h = refl
+lead-take (suc k) (suc n) v (b ∷ s) h = lead-take k n (v * 256 + b) s (omega arith)
+
+pub lead-short : (k : ℕ) (s : List ℕ) → Bytes s → lead k 0 s < 256 ^ k
+lead-short k s b = let m = lead-less k 0 1 s [] b (omega arith) in let e = lead-nil k 1 in omega (arith, m, e)
 
 -- ---- the first words that differ
 

@@ -5,6 +5,8 @@ ghost use Rattle.octets.specs.Octets.{fold as foldOf, folded, sameOf, be
 mod searching;
 mod words;
 
+pub use words::eight;
+
 pub fn fold(mark: bool, b: u8) -> u8
     ensures { λ r. ⌜ r ≡ foldOf mark b ⌝ }
 {
@@ -81,7 +83,7 @@ pub fn begins(s: &[u8], s_mark: bool, p: &[u8], p_mark: bool) -> bool
     same(&s[0..n], s_mark, p, p_mark)
 }
 
-// In time proportional to value plus literal, if the literal has at most 4,096 bytes.
+// In time proportional to value plus literal, if the literal has at most 4,096 bytes. A folded side goes to a function of its own with parts made anew, as in `same`.
 pub fn contains(s: &[u8], s_mark: bool, p: &[u8], p_mark: bool) -> bool
     ensures { λ r. ⌜ r ≡ containsOf (folded «s_mark» (now (s .entry))) (folded «p_mark» (now (p .entry))) ⌝ }
 {
@@ -91,8 +93,11 @@ pub fn contains(s: &[u8], s_mark: bool, p: &[u8], p_mark: bool) -> bool
     if s.len() < p.len() {
         return false;
     }
-    if s_mark | p_mark {
-        return searching::marked(s, s_mark, p, p_mark);
+    if s_mark {
+        return searching::marked(&s[0..], true, &p[0..], p_mark);
+    }
+    if p_mark {
+        return searching::marked(&s[0..], false, &p[0..], true);
     }
     searching::plain(s, p)
 }

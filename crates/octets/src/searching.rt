@@ -1,7 +1,9 @@
 // The search of `contains`, in time proportional to value plus literal: place by place while little is compared in vain, then by the literal's borders (Knuth, Morris and Pratt).
 ghost use mathlib.Core.Path.{_≡_};
 ghost use mathlib.Core.Bool.{false};
-ghost use Prim.Native.Nat.{_+_, _-_, _≤_, _<_};
+ghost use mathlib.Core.Logic.{_↔_};
+ghost use Prim.Native.Nat.{ℕ, _+_, _-_, _≤_, _<_};
+ghost use lib.Bits.{bitOr};
 ghost use lib.Dec.{eqb};
 ghost use lib.ListN.{length, getD, drop};
 ghost use Rattle.octets.specs.Octets.{fold as foldOf, folded, beginsOf, containsOf};
@@ -111,18 +113,31 @@ fn left(credit: usize, spent: usize) -> usize
     if credit < spent { 0 } else { credit - spent }
 }
 
+// The bit in which a..z differ from A..Z if b is a letter and the side is folded, else 0: the bytes that are b with this bit are those that fold to b.
+fn case_bit(mark: bool, b: u8) -> u8
+    ensures { λ r. ⌜ ((c : ℕ) → c < 256 → (bitOr c r ≡ b) ↔ (foldOf «mark» c ≡ b)) ⌝ }
+{
+    let low = b | 32;
+    if mark & (97 <= low) & (low <= 122) {
+        32
+    } else {
+        0
+    }
+}
+
 // Place by place, on a credit of bytes that agree in vain. Once it is spent, the rest of s is searched by borders.
-// A literal of more than 4,096 bytes, the most of a pool, is searched place by place to the end.
+// A literal of more than 4,096 bytes, the most of a pool, is searched place by place to the end. The last call has parts made anew, so that p stays out of memory.
 pub fn marked(s: &[u8], s_mark: bool, p: &[u8], p_mark: bool) -> bool
     requires { ⌜ (0 < length (now p)) × (length (now p) ≤ length (now s)) ⌝ }
     ensures { λ r. ⌜ r ≡ containsOf (folded «s_mark» (now (s .entry))) (folded «p_mark» (now (p .entry))) ⌝ }
 {
     let first = fold(p_mark, p[0]);
+    let bit = case_bit(s_mark, first);
     let last = s.len() - p.len();
     let mut credit = 64 + s.len() / 2;
     let mut i = 0;
     while i <= last {
-        if fold(s_mark, s[i]) != first {
+        if (s[i] | bit) != first {
             i += 1;
             continue;
         }
@@ -132,7 +147,7 @@ pub fn marked(s: &[u8], s_mark: bool, p: &[u8], p_mark: bool) -> bool
         }
         credit = left(credit, j);
         if (credit == 0) & (p.len() <= 4096) {
-            return by_borders(&s[i..], s_mark, p, p_mark);
+            return by_borders(&s[i..], s_mark, &p[0..], p_mark);
         }
         i += 1;
     }
@@ -159,7 +174,7 @@ pub fn plain(s: &[u8], p: &[u8]) -> bool
         }
         credit = left(credit, j);
         if (credit == 0) & (p.len() <= 4096) {
-            return by_borders(&s[i..], false, p, false);
+            return by_borders(&s[i..], false, &p[0..], false);
         }
         i += 1;
     }

@@ -107,7 +107,7 @@ pub fn same_folded(s: &[u8], t: &[u8], t_mark: bool) -> bool
 }
 
 // Eight bytes as one number, the first greatest.
-fn eight(s: &[u8], at: usize) -> u64
+pub fn eight(s: &[u8], at: usize) -> u64
     requires { ⌜ at + 8 ≤ length (now s) ⌝ }
     ensures { λ r. ⌜ r ≡ lead 8 0 (drop at (now (s .entry))) ⌝ }
 {

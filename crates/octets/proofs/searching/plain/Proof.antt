@@ -90,22 +90,31 @@ part-by-borders-start c = search needs
 part-by-borders-end : tie.Need-part-by-borders-end Inv-loop μ-loop
 part-by-borders-end c = search needs
 
+sub-by-borders-2 : tie.Need-sub-by-borders-2 Inv-loop μ-loop
+sub-by-borders-2 c = search needs
+
+part-by-borders-start-2 : tie.Need-part-by-borders-start-2 Inv-loop μ-loop
+part-by-borders-start-2 c = search needs
+
+part-by-borders-end-2 : tie.Need-part-by-borders-end-2 Inv-loop μ-loop
+part-by-borders-end-2 c = search needs
+
 by-borders-requires : tie.Need-by-borders-requires Inv-loop μ-loop
 by-borders-requires c κs =
-    let b = c .before .before .before .before .before .before in
-    let o = b .before .before in
-    let l = o .loop in
-    let a = o .before .before .before .before .args in
-    let h = and-parts (eqb (c .before .before .left .result) 0) (leb (length (a .p .now)) 4096) (c .before .if3 .taken) in
-    (omega arith, leb-true (length (a .p .now)) 4096 (h .1))
-
-returns-2 : tie.Need-returns-2 Inv-loop μ-loop
-returns-2 c =
     let b = c .before .before .before .before .before .before .before in
     let o = b .before .before in
     let l = o .loop in
     let a = o .before .before .before .before .args in
-    (rw (rest (a .s .now) (l .i)) at (c .by-borders .ensures)) ∙ l .inv .1
+    let h = and-parts (eqb (c .before .before .before .left .result) 0) (leb (length (a .p .now)) 4096) (c .before .before .if3 .taken) in
+    rw (rest (a .p .now) 0) (omega arith, leb-true (length (a .p .now)) 4096 (h .1))
+
+returns-2 : tie.Need-returns-2 Inv-loop μ-loop
+returns-2 c =
+    let b = c .before .before .before .before .before .before .before .before in
+    let o = b .before .before in
+    let l = o .loop in
+    let a = o .before .before .before .before .args in
+    (rw (rest (a .s .now) (l .i), rest (a .p .now) 0) at (c .by-borders .ensures)) ∙ l .inv .1
 
 add-i-2 : tie.Need-add-i-2 Inv-loop μ-loop
 add-i-2 c = search needs
@@ -150,6 +159,9 @@ plain-spec =
     sub-by-borders
     part-by-borders-start
     part-by-borders-end
+    sub-by-borders-2
+    part-by-borders-start-2
+    part-by-borders-end-2
     by-borders-requires
     returns-2
     add-i-2
