@@ -1,9 +1,13 @@
-//! Links the static libraries that `rt staticlib router` and `rt staticlib repeat` write.
+//! Links the static libraries that `rt staticlib router` and `rt staticlib repeat` write, and says by how many bytes the program's code is moved.
 
 use std::path::PathBuf;
 
 fn main() {
     println!("cargo:rerun-if-env-changed=VIRENTOLEX_LIB");
+    println!("cargo:rerun-if-env-changed=BENCH_PLACE");
+    let place = std::env::var("BENCH_PLACE").unwrap_or("0".to_string());
+    let bytes = 16 * place.parse::<usize>().expect("BENCH_PLACE: a number");
+    println!("cargo:rustc-env=BENCH_SKIP={bytes}");
     let folder = match std::env::var("VIRENTOLEX_LIB") {
         Ok(folder) => PathBuf::from(folder),
         Err(_) => {

@@ -25,6 +25,19 @@ use bench::{expert, ours, translate};
 use clock::{compare, Pace};
 use std::hint::black_box;
 
+// Bytes before all other code, so that code of both sides stands elsewhere modulo 64 from one place to the next: that alone moves some rows by a third.
+std::arch::global_asm!(
+    ".text",
+    ".globl bench_place",
+    "bench_place:",
+    concat!(".skip ", env!("BENCH_SKIP"), ", 0x90"),
+    "ret"
+);
+
+extern "C" {
+    fn bench_place();
+}
+
 /// The table of the first edition.
 fn table_of(text: &str) -> Vec<u8> {
     let mut table = vec![0u8; 10250];
@@ -256,6 +269,8 @@ fn records() {
 }
 
 fn main() {
+    // kept by the linker
+    black_box(bench_place as *const ());
     let word = std::env::args().nth(1).unwrap_or_default();
     let (pace, records) = match word.as_str() {
         "" => (WHOLE, 1_000_000),

@@ -19,15 +19,20 @@ use Rattle.opcode.specs.declared.Binary.{Binary}
 use Rattle.opcode.specs.declared.Many.{Many}
 use Rattle.opcode.specs.declared.Skip.{Skip}
 use Rattle.opcode.specs.declared.Op.{Op}
+use Rattle.notice.specs.Field.{sizeRight}
+use Rattle.notice.specs.Lookup.{lookupOf}
+use Rattle.notice.specs.declared.Found.{Found}
+use Rattle.notice.specs.declared.Found.the-variants.{At, Nothing}
 use Rattle.table.specs.Table.{editionOf, countOf, entryAt, poolOf, decode}
 use Rattle.table.specs.Check.{partRight, skipOp, checkOf}
 use Rattle.table.proofs.Tests.{both-true}
 use Rattle.table.proofs.Theorems.{checked-layout, checked-skip}
 use Rattle.table.proofs.Laid.{laid}
 use Rattle.table.proofs.Reading.{length-entries}
-use Rattle.value.specs.Value.{Item, logic, truthIn, isBottom, kindOf, unaryOf, binaryOf, loadOf, startOf, openOf, moreOf, tallyOf}
+use Rattle.value.specs.Value.{bottom, Item, logic, value, truthIn, isBottom, kindOf, unaryOf, binaryOf, fieldValue, foundValue, inPool, loadOf, startOf, openOf, moreOf, tallyOf}
 use Rattle.value.specs.Held.{itemOf, itemIn}
 use Rattle.value.specs.declared.Slot.{Slot}
+use Rattle.value.proofs.FieldValues.{field-known}
 use Rattle.value.proofs.Theorems.{tally, settled}
 use Rattle.interpreter.specs.declared.Machine.{Machine}
 use Rattle.interpreter.specs.Run.{State, slotAt, skips, stackBy, strideBy, visit, rule, afterFrom, after}
@@ -52,7 +57,7 @@ itemAt pool notice stack i = itemIn pool notice (getD stack i blank)
 abbrev pub itemsUp : List ℕ → List ℕ → List Slot → ℕ → ℕ → List Item
 itemsUp pool notice stack depth j = reverse (take (depth - j) (items pool notice stack depth))
 
--- The loop's variables at the head of a turn: their machine follows the rule, and has visited the entries below the next but those that were passed over; n and pool are those of the table, which passes the check.
+-- The loop's variables at the head of a turn, with the numbers of the entries whose places they are (Places.antt): their machine follows the rule, and has visited the entries below the next but those that were passed over; n and pool are those of the table, which passes the check.
 pub record Going (s pool notice : List ℕ) (n budget : ℕ) (stack : List Slot) (next depth passed end first : ℕ) : Type 0 where
   pub checked : checkOf s ≡ true
   pub count : n ≡ countOf s
@@ -276,7 +281,7 @@ module _ {s pool notice : List ℕ} {n budget : ℕ} {stack : List Slot} {next d
         answered v 0 depth (depth + 1) first′ r (isBottom (itemIn pool notice r)) (omega arith) refl load-fits
         (rw (← p, ← q) (ap (λ (x : Item). x ∷ items pool notice stack depth) (sym f))) refl (λ c. refl) u
 
-    -- a number or a string is never bottom
+    -- one that is known not to be bottom: a number, a string, a field's value
     pub load-known : {a b : ℕ} (r : Slot) → a ≡ entryAt s next .a → b ≡ entryAt s next .b → itemIn pool notice r ≡ loadOf pool notice k a b
         → isBottom (loadOf pool notice k a b) ≡ false
         → Going s pool notice n budget (set stack depth r) (next + 1) (depth + 1) passed end first
@@ -289,6 +294,21 @@ module _ {s pool notice : List ℕ} {n budget : ℕ} {stack : List Slot} {next d
       let right = rw (v .op) at (known notice (v .going .checked) (sound (v .going)) (here v) .right) in
       let part = leb-true (e .a + e .b) (length (poolOf s)) (both-true (partRight (poolOf s) e) _ right .0) in
       omega (arith, part, p, q, ap length (v .going .strings))
+
+  -- it gives the value of its field, which is not bottom, or bottom where no field has it
+  module _ (v : Visiting s pool notice n budget stack next depth passed end first (Op.Load Load.Name)) {a b : ℕ} {found : Found} (p : a ≡ entryAt s next .a) (q : b ≡ entryAt s next .b) (h : found ≡ lookupOf notice (inPool pool a b)) where
+    named : {f : Found} → found ≡ f → loadOf pool notice Load.Name a b ≡ value (foundValue notice f)
+    named e = ap (λ (x : Found). value (foundValue notice x)) (sym h ∙ e)
+
+    pub name-found : {kind start len : ℕ} (r : Slot) → found ≡ At kind start len → sizeRight kind len ≡ true
+        → itemIn pool notice r ≡ value (fieldValue kind (take len (drop start notice)))
+        → Going s pool notice n budget (set stack depth r) (next + 1) (depth + 1) passed end first
+    name-found {kind} {start} {len} r e z f = load-known v r p q (f ∙ sym (named e)) (ap isBottom (named e) ∙ field-known kind len (take len (drop start notice)) z)
+
+    pub name-missing : {first′ : ℕ} (r : Slot) → found ≡ Nothing → itemIn pool notice r ≡ value bottom
+        → first′ ≡ withNext first next (isBottom (itemIn pool notice r))
+        → Going s pool notice n budget (set stack depth r) (next + 1) (depth + 1) passed end first′
+    name-missing r e f u = load-law v r p q (f ∙ sym (named e)) u
 
   module _ {k : Unary} (v : Visiting s pool notice n budget stack next depth passed end first (Op.Unary k)) where
     pub unary-fits : (1 ≤ depth) × (depth ≤ 32)

@@ -2,8 +2,8 @@
 ghost use mathlib.Core.Path.{_≡_};
 ghost use mathlib.Core.Bool.{true, cond, _&&_};
 ghost use mathlib.Core.List.{List};
-ghost use Prim.Native.Nat.{ℕ, _+_, _≤_, _<_};
-ghost use lib.Dec.{eqb};
+ghost use Prim.Native.Nat.{ℕ, _+_, _-_, _*_, _/_, _≤_, _<_};
+ghost use lib.Dec.{eqb, ltb};
 ghost use Rattle.notice.specs.Layout.{checkOf as noticeCheck, Indexed};
 ghost use Rattle.notice.specs.declared.Layout.the-variants.{WellFormed};
 ghost use Rattle.table.specs.Table.{decode};
@@ -13,6 +13,7 @@ ghost use Rattle.value.specs.Held.{itemIn};
 ghost use Rattle.interpreter.specs.Run.{skips};
 ghost use Rattle.interpreter.specs.Machine.{limitOf, Visited};
 ghost use Rattle.interpreter.specs.Running.{refused as refusedWith, answerOf, runningOf};
+use notice::Found;
 use notice::Layout;
 use opcode::Skip;
 use opcode::groups;
@@ -40,27 +41,37 @@ fn skips_on(skip: Skip, top: Truth) -> bool
     }
 }
 
-// How far the visits go: to entry N, or, if the budget ends first, to as many entries as it has and those that skips have passed over.
+// How far the visits go: to entry N, or, if the budget ends first, to as many entries as it has and those that skips have passed over; said as the place in the table where that entry starts.
 fn limit(n: usize, budget: usize, passed: usize) -> usize
-    requires { ⌜ passed ≤ n ⌝ }
-    ensures { λ r. ⌜ r ≡ limitOf n budget passed ⌝ }
+    requires { ⌜ (passed ≤ n) × (n ≤ 512) ⌝ }
+    ensures { λ r. ⌜ r ≡ 10 + 12 * limitOf n budget passed ⌝ }
 {
     if n - passed <= budget {
-        n
+        10 + 12 * n
     } else {
-        budget + passed
+        10 + 12 * (budget + passed)
     }
 }
 
-// The first undecided entry with one more visited: `first` so far, 65535 for none; the entry `at` left `top` on the stack.
-fn noted(first: u16, at: usize, top: Slot) -> u16
-    requires { ⌜ at < 512 ⌝ }
-    ensures { λ r. ⌜ ((p : List ℕ) → (q : List ℕ) → r ≡ cond (eqb first 65535 && isBottom (itemIn p q top)) at first) ⌝ }
+// Where the first undecided entry ends, with one more visited: `first` so far, 0 for none; the entry that ends at `end` left `top` on the stack.
+fn noted(first: u16, end: usize, top: Slot) -> u16
+    requires { ⌜ end < 65536 ⌝ }
+    ensures { λ r. ⌜ ((p : List ℕ) → (q : List ℕ) → r ≡ cond (eqb first 0 && isBottom (itemIn p q top)) end first) ⌝ }
 {
-    if (first == 65535) & value::is_bottom(top) {
-        return at as u16;
+    if (first == 0) & value::is_bottom(top) {
+        return end as u16;
     }
     first
+}
+
+// The number of the entry that ends at a place, of which the first is 22; 65535 for those before it, so for 0, which is none.
+fn ending_at(place: u16) -> u16
+    ensures { λ r. ⌜ r ≡ cond (ltb place 22) 65535 ((place - 22) / 12) ⌝ }
+{
+    if place < 22 {
+        return 65535;
+    }
+    (place - 22) / 12
 }
 
 // The inner run: at most `budget` visits, or as many as there are. It asks for a table that passes the check, a notice found well-formed and the starts of its fields, so that a caller checks each once and runs often.
@@ -68,6 +79,7 @@ fn noted(first: u16, at: usize, top: Slot) -> u16
 // at most 32. Where a string lies is not told: its slot names some stretch of the pool or of the notice, with a mark or without, that gives the string's bytes.
 // The stack is updated in place, and the numbers stand beside it, so that they stay in registers. Each group of operators stores its own answer: where the groups meet, a slot would be put together from its parts.
 // Of two operands the second is read first: the slot that is written is then the one that was read last, and the compiler copies nothing between the two.
+// It goes by places in the table, `next` and `end`, so that no entry costs a product and nothing but the place is kept; `first` is where the first undecided entry ends, 0 for none.
 pub fn run_indexed<'a>(
     table: &'a [u8],
     notice: &'a [u8],
@@ -83,51 +95,59 @@ pub fn run_indexed<'a>(
     let mut stack = [Slot {
         held: Held::Logic(Truth::False),
     }; 32];
-    let mut next = 0;
+    let mut next = 10;
     let mut depth = 0;
     let mut passed = 0;
     let mut end = limit(n, budget, 0);
-    let mut first: u16 = 65535;
+    let mut first: u16 = 0;
     while next < end {
-        let at = next;
-        next = at + 1;
-        let number = table::op_at(table, at);
+        let number = table::op_from(table, next);
+        next = next + 12;
         let group = groups::group_of(number);
         match group {
             Group::Int32 => {
-                stack[depth] = value::load_int32(table::b_at(table, at));
+                stack[depth] = value::load_int32(table::b_to(table, next));
                 depth = depth + 1;
             }
             Group::Int64 => {
-                stack[depth] = value::load_int64(table::b_at(table, at));
+                stack[depth] = value::load_int64(table::b_to(table, next));
                 depth = depth + 1;
             }
             Group::Real64 => {
-                stack[depth] = value::load_real64(table::b_at(table, at));
+                stack[depth] = value::load_real64(table::b_to(table, next));
                 depth = depth + 1;
             }
             Group::Text => {
-                stack[depth] = value::load_text(table::a_at(table, at), table::b_at(table, at));
+                stack[depth] = value::load_text(table::a_to(table, next), table::b_to(table, next));
                 depth = depth + 1;
             }
             Group::Name => {
-                let r = value::load_name(
+                let found = value::find_name(
                     pool,
                     notice,
                     starts,
-                    table::a_at(table, at),
-                    table::b_at(table, at),
+                    table::a_to(table, next),
+                    table::b_to(table, next),
                 );
-                stack[depth] = r;
-                first = noted(first, at, r);
+                let i = depth;
                 depth = depth + 1;
+                match found {
+                    Found::At { kind, start, len } => {
+                        stack[i] = value::field(notice, kind, start, len);
+                    }
+                    Found::Nothing => {
+                        let r = value::missing();
+                        stack[i] = r;
+                        first = noted(first, next, r);
+                    }
+                }
             }
             Group::Change => {
                 let i = depth - 1;
                 let x = stack[i];
                 let r = value::change(pool, notice, groups::change_of(number), x);
                 stack[i] = r;
-                first = noted(first, at, r);
+                first = noted(first, next, r);
             }
             Group::Combine => {
                 let i = depth - 2;
@@ -136,7 +156,7 @@ pub fn run_indexed<'a>(
                 let x = stack[i];
                 let r = value::combine(edition, groups::combine_of(number), x, y);
                 stack[i] = r;
-                first = noted(first, at, r);
+                first = noted(first, next, r);
             }
             Group::Equality => {
                 let i = depth - 2;
@@ -145,7 +165,7 @@ pub fn run_indexed<'a>(
                 let x = stack[i];
                 let r = value::equality(pool, notice, groups::is_not_equal(number), x, y);
                 stack[i] = r;
-                first = noted(first, at, r);
+                first = noted(first, next, r);
             }
             Group::Order => {
                 let i = depth - 2;
@@ -154,7 +174,7 @@ pub fn run_indexed<'a>(
                 let x = stack[i];
                 let r = value::ordered(groups::order_of(number), x, y);
                 stack[i] = r;
-                first = noted(first, at, r);
+                first = noted(first, next, r);
             }
             Group::Not => {
                 let i = depth - 1;
@@ -186,8 +206,8 @@ pub fn run_indexed<'a>(
                 let i = depth - 1;
                 let x = stack[i];
                 if skips_on(Skip::IfFalse, value::truth_in(x)) {
-                    let a = table::a_at(table, at) as usize;
-                    next = next + a;
+                    let a = table::a_to(table, next) as usize;
+                    next = next + 12 * a;
                     passed = passed + a;
                     end = limit(n, budget, passed);
                 }
@@ -196,8 +216,8 @@ pub fn run_indexed<'a>(
                 let i = depth - 1;
                 let x = stack[i];
                 if skips_on(Skip::IfTrue, value::truth_in(x)) {
-                    let a = table::a_at(table, at) as usize;
-                    next = next + a;
+                    let a = table::a_to(table, next) as usize;
+                    next = next + 12 * a;
                     passed = passed + a;
                     end = limit(n, budget, passed);
                 }
@@ -209,7 +229,7 @@ pub fn run_indexed<'a>(
             }
             Group::Many => {
                 let k = groups::many_of(number);
-                let i = depth - (table::a_at(table, at) as usize + 1);
+                let i = depth - (table::a_to(table, next) as usize + 1);
                 let x = stack[i];
                 let mut known = value::start(k, x);
                 let mut j = i + 1;
@@ -220,17 +240,18 @@ pub fn run_indexed<'a>(
                 }
                 let r = value::decided(known);
                 stack[i] = r;
-                first = noted(first, at, r);
+                first = noted(first, next, r);
                 depth = i + 1;
             }
             Group::Unknown => {}
         }
     }
+    let at = (next - 10) / 12;
     Machine {
-        next,
+        next: at,
         depth,
-        steps: next - passed,
-        undecided: first,
+        steps: at - passed,
+        undecided: ending_at(first),
         stack,
     }
 }

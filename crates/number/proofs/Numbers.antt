@@ -1,5 +1,5 @@
 -- Numbers by their kinds: what each operator's tests lead to. Assumes nothing.
-use mathlib.Core.Path.{_≡_, refl, sym, ap, _∙_}
+use mathlib.Core.Path.{_≡_, refl, sym, ap, ap₂, _∙_}
 use mathlib.Core.Bool.{Bool, true, false, not, _&&_, _||_}
 use Prim.Native.Nat.{ℕ, suc, _-_, _%_, _^_, _<_, _≤_}
 use native.Mathlib.Nat.{mod-lt}
@@ -52,6 +52,16 @@ int32-integer (Int64 z) e = true-false (sym e)
 int32-integer (Real x) e = true-false (sym e)
 int32-integer None e = true-false (sym e)
 
+-- and the number of its int32, so that two of them give what their int32 give
+is-int32 : (a : Number) → isInt32 a ≡ true → Int32 (int32Of a) ≡ a
+is-int32 (Int32 z) e = refl
+is-int32 (Int64 z) e = true-false (sym e)
+is-int32 (Real x) e = true-false (sym e)
+is-int32 None e = true-false (sym e)
+
+pub int32-each : {A : Type 0} (f : Number → Number → A) (a b : Number) → (isInt32 a && isInt32 b) ≡ true → f (Int32 (int32Of a)) (Int32 (int32Of b)) ≡ f a b
+int32-each f a b e = ap₂ f (is-int32 a (and-left (isInt32 a) (isInt32 b) e)) (is-int32 b (and-right (isInt32 a) (isInt32 b) e))
+
 -- 0 by its bits, over the width, and in f64
 pub zero-bits : (w : Width) (z : ℤ) → SFits w z → eqb (ofZ w z) 0 ≡ eqb (natAbs z) 0
 zero-bits w (pos n) f = refl
@@ -62,6 +72,13 @@ zero-bits w (negsuc n) f =
 pub zero-real : ofBits binary64 0 ≡ zeroReal
 unfolding ofBits
 zero-real = refl
+
+-- an integer is 0 by its value, whatever its width
+zero-is : (b : Number) → isInteger b ≡ true → eqb (natAbs (integerOf b)) 0 ≡ isZero b
+zero-is (Int32 z) e = refl
+zero-is (Int64 z) e = refl
+zero-is (Real x) e = true-false (sym e)
+zero-is None e = true-false (sym e)
 
 -- arithmetic
 module _ (op : Arithmetic) (a b : Number) where
@@ -75,18 +92,13 @@ module _ (op : Arithmetic) (a b : Number) where
     pub two-reals : (isInteger a && isInteger b) ≡ false → (x y : Number) → x ≡ inArithmetic a → y ≡ inArithmetic b → onReals x y (realArithmetic op) None ≡ arithmeticOf op a b
     two-reals i x y e f = rw (z, i, e, f)
 
-    -- the divisor of two integers is not 0
-    pub divisor : (isInteger a && isInteger b) ≡ true → divides op ≡ true → 0 < natAbs (integerOf b)
-    divisor i d = go b (and-right (isInteger a) (isInteger b) i) (rw d at z)
-      where
-        above : (n : ℕ) → eqb n 0 ≡ false → 0 < n
-        above n e = let h = eqb-false n 0 e in omega arith
+  -- integers that are not two int32, in 64 bits
+  pub as-int64 : (isInt32 a && isInt32 b) ≡ false → (isInteger a && isInteger b) ≡ true → arithmeticOf op (Int64 (integerOf a)) (Int64 (integerOf b)) ≡ arithmeticOf op a b
+  as-int64 t i = rw (t, i, zero-is b (and-right (isInteger a) (isInteger b) i))
 
-        go : (b : Number) → isInteger b ≡ true → isZero b ≡ false → 0 < natAbs (integerOf b)
-        go (Int32 y) i e = above (natAbs y) e
-        go (Int64 y) i e = above (natAbs y) e
-        go (Real y) i e = true-false (sym i)
-        go None i e = true-false (sym i)
+-- a divisor past the test is not 0, over the width
+pub divisor : (w : Width) (op : Arithmetic) (y : ℤ) → SFits w y → (divides op && eqb (natAbs y) 0) ≡ false → divides op ≡ true → 0 < natAbs (toZ w (ofZ w y))
+divisor w op y f z d = let h = eqb-false (natAbs y) 0 (rw d at z) in rw (toZ-ofZ w y f) (omega arith)
 
 -- two reals
 module _ (op : Arithmetic) (a b : Number) where
@@ -101,19 +113,12 @@ module _ (w : Width) (a b : Number) (x y : ℤ) (fx : mag x < 2 ^ hbits w) (fy :
   pub on-values : {A : Type 0} (f : ℤ → ℤ → A) → f (toZ w (ofZ w x)) (toZ w (ofZ w y)) ≡ f (integerOf a) (integerOf b)
   on-values f = rw (toZ-ofZ w x (record { sfits = fx }), toZ-ofZ w y (record { sfits = fy }), ex, ey)
 
-  pub divisor-read : (op : Arithmetic) → (divides op ≡ true → 0 < natAbs (integerOf b)) → divides op ≡ true → 0 < natAbs (toZ w (ofZ w y))
-  divisor-read op d e = rw (toZ-ofZ w y (record { sfits = fy }), ey) (d e)
-
 -- a result that the machine reads back
 pub result-read : (w : Width) (r : ℤ) → mag r < 2 ^ hbits w → toZ w (ofZ w r) ≡ r
 result-read w r f = toZ-ofZ w r (record { sfits = f })
 
--- the result's type, and bits, by the test of both types
+-- values, and bits, by the test of both types
 module _ (a b : Number) where
-  pub typed-by : (op : Arithmetic) (t : Bool) → (isInt32 a && isInt32 b) ≡ t
-      → typed t (exactOf op (integerOf a) (integerOf b)) ≡ typed (isInt32 a && isInt32 b) (exactOf op (integerOf a) (integerOf b))
-  typed-by op t e = sym (ap (λ (u : Bool). typed u (exactOf op (integerOf a) (integerOf b))) e)
-
   module _ (t : (isInt32 a && isInt32 b) ≡ true) where
     pub left-int32 : int32Of a ≡ integerOf a
     left-int32 = int32-integer a (and-left (isInt32 a) (isInt32 b) t) .1

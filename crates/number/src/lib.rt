@@ -1,10 +1,7 @@
 // Numbers: int32, int64 and real64, with the operators of document 01, "Meaning".
 ghost use mathlib.Core.Path.{_≡_};
-ghost use mathlib.Core.Bool.{true, _&&_};
 ghost use Prim.Native.Nat.{_<_};
-ghost use lib.IntN.{natAbs};
-ghost use Rattle.number.specs.Integer.{exactOf};
-ghost use Rattle.number.specs.Number.{isInt32, isInteger, isReal, integerOf, int32Of, realOf, typed, inArithmetic, onReals, realArithmetic, divides, isZero, zeroDivisor, arithmeticOf, bitwiseOf, complementOf, countOf, remainder as remainderBy, remainderOf, countIn, shiftOf, equalOf, orderOf};
+ghost use Rattle.number.specs.Number.{isInt32, isInteger, isReal, integerOf, int32Of, realOf, inArithmetic, onReals, realArithmetic, divides, isZero, zeroDivisor, arithmeticOf, bitwiseOf, complementOf, countOf, remainder as remainderBy, remainderOf, countIn, shiftOf, equalOf, orderOf};
 
 mod bits;
 mod integer;
@@ -138,28 +135,40 @@ fn is_zero(b: Number) -> bool
     }
 }
 
-// `+ - * / %`
+// `+ - * / %`, by the kinds of both sides, two int32 first: they are the common case. Each kind has its own test of a zero divisor.
 pub fn arithmetic(op: Arithmetic, a: Number, b: Number) -> Number
     ensures { λ r. ⌜ r ≡ arithmeticOf op a b ⌝ }
 {
-    if zero_divisor(op, b) {
-        return Number::None;
+    if is_int32(a) & is_int32(b) {
+        return on_int32(op, int32_of(a), int32_of(b));
     }
     if is_integer(a) & is_integer(b) {
-        return on_integers(op, a, b);
+        return on_int64(op, integer_of(a), integer_of(b));
+    }
+    if zero_divisor(op, b) {
+        return Number::None;
     }
     on_reals(op, in_arithmetic(a), in_arithmetic(b))
 }
 
-// Two integers, the divisor not 0: two int32 in their own width, other integers in 64 bits.
-fn on_integers(op: Arithmetic, a: Number, b: Number) -> Number
-    requires { ⌜ (divides op ≡ true → 0 < natAbs (integerOf b)) ⌝ }
-    ensures { λ r. ⌜ r ≡ typed (isInt32 a && isInt32 b) (exactOf op (integerOf a) (integerOf b)) ⌝ }
+// Two int32 in their own width. "A zero divisor, whole or real, gives bottom."
+fn on_int32(op: Arithmetic, a: i32, b: i32) -> Number
+    ensures { λ r. ⌜ r ≡ arithmeticOf op (Number.Int32 a) (Number.Int32 b) ⌝ }
 {
-    if is_int32(a) & is_int32(b) {
-        return integer::narrow(integer::arithmetic_i32(op, int32_of(a), int32_of(b)));
+    if divides(op) & (b == 0) {
+        return Number::None;
     }
-    integer::arithmetic_i64(op, integer_of(a), integer_of(b))
+    integer::narrow(integer::arithmetic_i32(op, a, b))
+}
+
+// Other integers in 64 bits, likewise.
+fn on_int64(op: Arithmetic, a: i64, b: i64) -> Number
+    ensures { λ r. ⌜ r ≡ arithmeticOf op (Number.Int64 a) (Number.Int64 b) ⌝ }
+{
+    if divides(op) & (b == 0) {
+        return Number::None;
+    }
+    integer::arithmetic_i64(op, a, b)
 }
 
 fn on_reals(op: Arithmetic, a: Number, b: Number) -> Number
@@ -275,7 +284,7 @@ pub fn equal(a: Number, b: Number) -> Truth
     ensures { λ r. ⌜ r ≡ equalOf a b ⌝ }
 {
     if is_int32(a) & is_int32(b) {
-        return truth::of_bool(mixed::equal_i64(int32_of(a) as i64, int32_of(b) as i64));
+        return equal_int32(int32_of(a), int32_of(b));
     }
     match a {
         Number::Int32(x) => int32_equal(x, b),
@@ -283,6 +292,13 @@ pub fn equal(a: Number, b: Number) -> Truth
         Number::Real(x) => real_equal(x, b),
         Number::None => Truth::Bottom,
     }
+}
+
+// The same of two int32, for a caller that has told them.
+pub fn equal_int32(x: i32, y: i32) -> Truth
+    ensures { λ r. ⌜ r ≡ equalOf (Number.Int32 x) (Number.Int32 y) ⌝ }
+{
+    truth::of_bool(mixed::equal_i64(x as i64, y as i64))
 }
 
 fn int32_equal(x: i32, b: Number) -> Truth

@@ -87,6 +87,28 @@ pub fn b_at(table: &[u8], i: usize) -> u64
     word::read_u64(table, 14 + 12 * i)
 }
 
+// The same by where the entry lies, for a reader that goes along the table: the op of the entry that starts there, the a and the b of the entry that ends there.
+pub fn op_from(table: &[u8], start: usize) -> u16
+    requires { ⌜ start + 12 ≤ length (now table) ⌝ }
+    ensures { λ r. ⌜ ((i : ℕ) → start ≡ 10 + 12 * i → r ≡ entryAt (now (table .entry)) i .op) ⌝ }
+{
+    word::read_u16(table, start)
+}
+
+pub fn a_to(table: &[u8], end: usize) -> u16
+    requires { ⌜ (12 ≤ end) × (end ≤ length (now table)) ⌝ }
+    ensures { λ r. ⌜ ((i : ℕ) → end ≡ 22 + 12 * i → r ≡ entryAt (now (table .entry)) i .a) ⌝ }
+{
+    word::read_u16(table, end - 10)
+}
+
+pub fn b_to(table: &[u8], end: usize) -> u64
+    requires { ⌜ (12 ≤ end) × (end ≤ length (now table)) ⌝ }
+    ensures { λ r. ⌜ ((i : ℕ) → end ≡ 22 + 12 * i → r ≡ entryAt (now (table .entry)) i .b) ⌝ }
+{
+    word::read_u64(table, end - 8)
+}
+
 // The entry i. It asks for the same.
 pub fn entry_at(table: &[u8], i: usize) -> Entry
     requires { ⌜ 22 + 12 * i ≤ length (now table) ⌝ }

@@ -1,5 +1,5 @@
 -- The theorems that specs/Theorems.antt states. Assumes nothing.
-use mathlib.Core.Path.{_≡_, refl, sym, ap, _∙_}
+use mathlib.Core.Path.{_≡_, refl, sym, ap, ap₂, _∙_}
 use mathlib.Core.Logic.{_⊎_, inl, inr}
 use mathlib.Core.Bool.{Bool, true, false, cond, _&&_, _||_}
 use mathlib.Core.List.{List, [], _∷_, _++_, map}
@@ -19,6 +19,7 @@ use Rattle.truth.specs.declared.Truth.the-variants.{False, Bottom, True}
 use Rattle.truth.specs.Truth.{orOf, xorOf, ofBool}
 use Rattle.truth.proofs.Theorems.{false-and as false-and-t, true-or as true-or-t}
 use Rattle.common.proofs.Choice.{true-false}
+use Rattle.octets.proofs.Theorems.{and-parts}
 use Rattle.utf8.specs.declared.Counted.{Counted}
 use Rattle.utf8.specs.declared.Counted.the-variants.{Characters, IllFormed}
 use Rattle.utf8.specs.Utf8.{HasCharacters, WellFormed, Counts}
@@ -41,7 +42,7 @@ use Rattle.opcode.specs.declared.Binary.{Binary}
 use Rattle.opcode.specs.declared.Fit.{Fit}
 use Rattle.opcode.specs.declared.Many.{Many}
 use Rattle.number.specs.declared.Number.{Number}
-use Rattle.number.specs.Number.{equalOf}
+use Rattle.number.specs.Number.{int32Of, equalOf}
 use Rattle.number.proofs.Theorems.{left-none, right-none, real-bits}
 use Rattle.notice.specs.declared.Found.{Found}
 use Rattle.notice.specs.Field.{Field}
@@ -146,6 +147,20 @@ combine-bottom edition o v w e = go (which-bottom v w e)
     go : (v ≡ bottom) ⊎ (w ≡ bottom) → bottom ≡ combineOf edition o v w
     go (inl m) = rw m (sym (bottom-combine edition o w .0))
     go (inr m) = rw m (sym (bottom-combine edition o v .1))
+
+-- two values that are told to be int32, compared as such
+is-int32 : (v : Value) → eqb (typeOf v) 1 ≡ true → int32 (int32Of (numberOf v)) ≡ v
+is-int32 bottom e = true-false (sym e)
+is-int32 (int32 z) e = refl
+is-int32 (int64 z) e = true-false (sym e)
+is-int32 (real x) e = true-false (sym e)
+is-int32 (text s) e = true-false (sym e)
+is-int32 (opaque s) e = true-false (sym e)
+
+pub int32-equal : (v w : Value) {m n : ℕ} → m ≡ typeOf v → n ≡ typeOf w → (eqb m 1 && eqb n 1) ≡ true → equalOf (Number.Int32 (int32Of (numberOf v))) (Number.Int32 (int32Of (numberOf w))) ≡ equalValues v w
+int32-equal v w d e h =
+    let g = and-parts (eqb (typeOf v) 1) (eqb (typeOf w) 1) (rw (d, e) at h) in
+    ap₂ equalValues (is-int32 v (g .0)) (is-int32 w (g .1))
 
 pub bottom-xor : (t : Truth) → (xorOf Bottom t ≡ Bottom) × (xorOf t Bottom ≡ Bottom)
 bottom-xor True = (refl, refl)

@@ -5,17 +5,14 @@ ghost use mathlib.Core.List.{List};
 ghost use Prim.Native.Nat.{ℕ, _+_, _≤_};
 ghost use lib.ListN.{length, take, drop};
 ghost use Rattle.notice.specs.Field.{sizeRight};
-ghost use Rattle.notice.specs.Layout.{checkOf as noticeCheck, Indexed};
-ghost use Rattle.notice.specs.declared.Layout.the-variants.{WellFormed};
-ghost use Rattle.value.specs.Value.{fieldValue, valueNamed};
+ghost use Rattle.value.specs.Value.{fieldValue};
 ghost use Rattle.value.specs.Held.{noticed, typedOf};
 use crate::Origin;
 use crate::Piece;
 use crate::Typed;
-use notice::Found;
 
 // The value of a field of a kind whose value lies at `start`. It asks that the value has the kind's size and lies in the notice.
-fn field_value(notice: &[u8], kind: u16, start: u16, len: u16) -> Typed
+pub fn field_value(notice: &[u8], kind: u16, start: u16, len: u16) -> Typed
     requires { ⌜ (sizeRight kind len ≡ true) × (start + len ≤ length (now notice)) ⌝ }
     ensures { λ r. ⌜ ((p : List ℕ) → typedOf p (now (notice .entry)) r ≡ fieldValue kind (take len (drop start (now (notice .entry))))) ⌝ }
 {
@@ -38,17 +35,5 @@ fn in_notice(start: u16, len: u16) -> Piece
         start,
         len,
         folded: false,
-    }
-}
-
-// The value of the field of a name, or bottom. It asks for a notice found well-formed and the starts of its fields.
-pub fn named(notice: &[u8], starts: &[u16; 64], name: &[u8]) -> Typed
-    requires { ⌜ (noticeCheck (now notice) ≡ WellFormed) × Indexed (now notice) (now starts) ⌝ }
-    ensures { λ r. ⌜ ((p : List ℕ) → typedOf p (now (notice .entry)) r ≡ valueNamed (now (notice .entry)) (now (name .entry))) ⌝ }
-{
-    let found = notice::lookup_in(notice, starts, name);
-    match found {
-        Found::At { kind, start, len } => field_value(notice, kind, start, len),
-        Found::Nothing => Typed::Bottom,
     }
 }

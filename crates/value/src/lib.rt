@@ -1,11 +1,15 @@
 // Values as a table's run holds them, and what each operator and function gives. Document 01, "Meaning", "Table".
 // No function here asks anything of its operands: what a piece names beyond its source is not there, and an operand of the other kind counts as bottom.
-// Only `load_name` asks something, which the two checks have answered: that the notice was found well-formed and the starts of its fields are at hand, so that a name is found by halving, and that the name lies in the pool.
+// Only `find_name` and `field` ask something, which the two checks have answered: that the notice was found well-formed and the starts of its fields are at hand, so that a name is found by halving, that the name lies in the pool, and that the
+// field found is right.
 ghost use mathlib.Core.Path.{_≡_};
+ghost use mathlib.Core.Bool.{true};
 ghost use mathlib.Core.List.{List};
 ghost use Prim.Native.Nat.{ℕ, _+_, _%_, _≤_};
-ghost use lib.ListN.{length};
+ghost use lib.ListN.{length, take, drop};
+ghost use Rattle.notice.specs.Field.{sizeRight};
 ghost use Rattle.notice.specs.Layout.{checkOf as noticeCheck, Indexed};
+ghost use Rattle.notice.specs.Lookup.{lookupOf};
 ghost use Rattle.notice.specs.declared.Layout.the-variants.{WellFormed};
 ghost use Rattle.opcode.specs.Groups.{equalityBy};
 ghost use Rattle.opcode.specs.declared.Edition.{Edition};
@@ -14,13 +18,14 @@ ghost use Rattle.opcode.specs.declared.Unary.{Unary};
 ghost use Rattle.opcode.specs.declared.Compare.{Compare};
 ghost use Rattle.opcode.specs.declared.Connective.{Connective};
 ghost use Rattle.opcode.specs.declared.Binary.{Binary};
-ghost use Rattle.value.specs.Value.{logic, value, isBottom, truthIn, valueIn, unaryOf, binaryOf, startOf, openOf, joinOf, besideOf, moreOf, loadOf};
-ghost use Rattle.value.specs.Held.{typedOf, itemIn, pooled};
+ghost use Rattle.value.specs.Value.{bottom, logic, value, isBottom, truthIn, valueIn, unaryOf, binaryOf, startOf, openOf, joinOf, besideOf, moreOf, fieldValue, inPool, loadOf};
+ghost use Rattle.value.specs.Held.{typedOf, itemIn, PairOf, pooled};
 
 mod fields;
 mod texts;
 mod values;
 
+use notice::Found;
 use opcode::Change;
 use opcode::Combine;
 use opcode::Edition;
@@ -101,6 +106,39 @@ fn value_in(s: Slot) -> Typed
     }
 }
 
+// Two operands that are values, or one of them is bottom.
+enum Pair {
+    Bottom,
+    Both(Typed, Typed),
+}
+
+// The operands of an operator on two values. Each slot is told before its value: of a value made from either kind of slot the compiler reads the type wider than it was stored, which takes a tenth of a run.
+fn paired(s: Slot, t: Slot) -> Pair
+    ensures { λ r. ⌜ ((p : List ℕ) → (q : List ℕ) → PairOf p q r (itemIn p q s) (itemIn p q t)) ⌝ }
+{
+    let h = s.held;
+    match h {
+        Held::Logic(_) => Pair::Bottom,
+        Held::Value(v) => paired_with(v, t),
+    }
+}
+
+fn paired_with(v: Typed, t: Slot) -> Pair
+    ensures { λ r. ⌜ ((p : List ℕ) → (q : List ℕ) → PairOf p q r (value (typedOf p q v)) (itemIn p q t)) ⌝ }
+{
+    let h = t.held;
+    match h {
+        Held::Logic(_) => Pair::Bottom,
+        Held::Value(w) => {
+            if values::any_bottom(v, w) {
+                Pair::Bottom
+            } else {
+                Pair::Both(v, w)
+            }
+        }
+    }
+}
+
 // Whether a slot holds bottom.
 pub fn is_bottom(s: Slot) -> bool
     ensures { λ r. ⌜ ((p : List ℕ) → (q : List ℕ) → r ≡ isBottom (itemIn p q s)) ⌝ }
@@ -131,32 +169,45 @@ pub fn change<'a>(pool: &'a [u8], notice: &'a [u8], op: Change, s: Slot) -> Slot
     valued(values::change(pool, notice, op, value_in(s)))
 }
 
-// Ops 48..54.
+// Ops 48..54. The slot is told first, as in `paired`.
 pub fn test(op: Test, s: Slot) -> Slot
     ensures { λ r. ⌜ ((p : List ℕ) → (q : List ℕ) → itemIn p q r ≡ unaryOf (Unary.Test op) (itemIn p q s)) ⌝ }
 {
-    decided(values::test(op, value_in(s)))
+    let h = s.held;
+    match h {
+        Held::Logic(_) => decided(Truth::Bottom),
+        Held::Value(v) => decided(values::test(op, v)),
+    }
 }
 
 // Ops 16..26.
 pub fn combine(edition: Edition, op: Combine, s: Slot, t: Slot) -> Slot
     ensures { λ r. ⌜ ((p : List ℕ) → (q : List ℕ) → itemIn p q r ≡ binaryOf edition (Binary.Combine op) (itemIn p q s) (itemIn p q t)) ⌝ }
 {
-    valued(values::combine(edition, op, value_in(s), value_in(t)))
+    match paired(s, t) {
+        Pair::Bottom => valued(Typed::Bottom),
+        Pair::Both(v, w) => valued(values::combine(edition, op, v, w)),
+    }
 }
 
 // Ops 32 and 33; `!=` is the negated one.
 pub fn equality<'a>(pool: &'a [u8], notice: &'a [u8], negated: bool, s: Slot, t: Slot) -> Slot
     ensures { λ r. ⌜ ((e : Edition) → itemIn (now (pool .entry)) (now (notice .entry)) r ≡ binaryOf e (Binary.Compare (equalityBy negated)) (itemIn (now (pool .entry)) (now (notice .entry)) s) (itemIn (now (pool .entry)) (now (notice .entry)) t)) ⌝ }
 {
-    decided(values::equality(pool, notice, negated, value_in(s), value_in(t)))
+    match paired(s, t) {
+        Pair::Bottom => decided(Truth::Bottom), // a missing value is neither equal nor different
+        Pair::Both(v, w) => decided(values::equality(pool, notice, negated, v, w)),
+    }
 }
 
 // Ops 34..37.
 pub fn ordered(op: Order, s: Slot, t: Slot) -> Slot
     ensures { λ r. ⌜ ((e : Edition) → (p : List ℕ) → (q : List ℕ) → itemIn p q r ≡ binaryOf e (Binary.Compare (Compare.Order op)) (itemIn p q s) (itemIn p q t)) ⌝ }
 {
-    decided(values::ordered(op, value_in(s), value_in(t)))
+    match paired(s, t) {
+        Pair::Bottom => decided(Truth::Bottom),
+        Pair::Both(v, w) => decided(values::ordered(op, v, w)),
+    }
 }
 
 // Ops 41..43, a function for each.
@@ -269,14 +320,29 @@ pub fn load_text(a: u16, b: u64) -> Slot
     valued(Typed::Text(in_pool(a, b)))
 }
 
-// It asks for a notice found well-formed and the starts of its fields, and that the name lies in the pool, as the table check has found.
-pub fn load_name<'a>(pool: &'a [u8], notice: &'a [u8], starts: &[u16; 64], a: u16, b: u64) -> Slot
+// A name in two steps, so that a run looks for bottom only where no field has the name. Where its field's value lies: it asks for a notice found well-formed and the starts of its fields, and that the name lies in the pool, as the table check has found.
+pub fn find_name<'a>(pool: &'a [u8], notice: &'a [u8], starts: &[u16; 64], a: u16, b: u64) -> Found
     requires { ⌜ (noticeCheck (now notice) ≡ WellFormed) × Indexed (now notice) (now starts) × (b % 65536 + a ≤ length (now pool)) ⌝ }
-    ensures { λ r. ⌜ itemIn (now (pool .entry)) (now (notice .entry)) r ≡ loadOf (now (pool .entry)) (now (notice .entry)) Load.Name a b ⌝ }
+    ensures { λ r. ⌜ r ≡ lookupOf (now (notice .entry)) (inPool (now (pool .entry)) a b) ⌝ }
 {
     let start = (b % 65536) as usize;
     let end = start + a as usize;
-    valued(fields::named(notice, starts, &pool[start..end]))
+    notice::lookup_in(notice, starts, &pool[start..end])
+}
+
+// "5 the field's or bottom": the value of a field that was found. It asks that the value has its kind's size and lies in the notice.
+pub fn field(notice: &[u8], kind: u16, start: u16, len: u16) -> Slot
+    requires { ⌜ (sizeRight kind len ≡ true) × (start + len ≤ length (now notice)) ⌝ }
+    ensures { λ r. ⌜ ((p : List ℕ) → itemIn p (now (notice .entry)) r ≡ value (fieldValue kind (take len (drop start (now (notice .entry)))))) ⌝ }
+{
+    valued(fields::field_value(notice, kind, start, len))
+}
+
+// .. and that of a missing name.
+pub fn missing() -> Slot
+    ensures { λ r. ⌜ ((p : List ℕ) → (q : List ℕ) → itemIn p q r ≡ value bottom) ⌝ }
+{
+    valued(Typed::Bottom)
 }
 
 // "a length, b pool offset"

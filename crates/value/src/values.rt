@@ -8,6 +8,7 @@ ghost use Rattle.truth.specs.declared.Truth.the-variants.{False, Bottom};
 ghost use Rattle.utf8.specs.Scan.{countOf};
 ghost use Rattle.opcode.specs.Groups.{equalityBy};
 ghost use Rattle.opcode.specs.declared.Compare.{Compare};
+ghost use Rattle.number.specs.Number.{int32Of};
 ghost use Rattle.value.specs.Value.{numberOf, valueOf, typeOf, isText, textIn, foldCaseOf, sizeBy, sizeOf, changeOf, ifPresent, typeTest, nanOf, testOf, combineNumbers, combineOf, equalValues, compareOf, fitValues, strictOr};
 ghost use Rattle.value.specs.Held.{pooled, foldedPiece, textOf, typedOf};
 use crate::Origin;
@@ -209,7 +210,7 @@ fn combine_numbers(edition: Edition, op: Combine, a: Number, b: Number) -> Numbe
 }
 
 // "bottom in a value makes the enclosing value or comparison bottom": told first, since names are often missing and the operator then need not be looked at.
-fn any_bottom(v: Typed, w: Typed) -> bool
+pub fn any_bottom(v: Typed, w: Typed) -> bool
     ensures { λ r. ⌜ ((p : List ℕ) → (q : List ℕ) → r ≡ (eqb (typeOf (typedOf p q v)) 0 || eqb (typeOf (typedOf p q w)) 0)) ⌝ }
 {
     (type_of(v) == 0) | (type_of(w) == 0)
@@ -219,16 +220,30 @@ fn any_bottom(v: Typed, w: Typed) -> bool
 pub fn combine(edition: Edition, op: Combine, v: Typed, w: Typed) -> Typed
     ensures { λ r. ⌜ ((p : List ℕ) → (q : List ℕ) → typedOf p q r ≡ combineOf edition op (typedOf p q v) (typedOf p q w)) ⌝ }
 {
-    if any_bottom(v, w) {
-        return Typed::Bottom;
-    }
     value_of(combine_numbers(edition, op, number_of(v), number_of(w)))
 }
 
-// `==`: "string with string by bytes, number with number; otherwise bottom"
+// The int32 that a value is, and 0 of what is none.
+fn int32_in(v: Typed) -> i32
+    ensures { λ r. ⌜ ((p : List ℕ) → (q : List ℕ) → r ≡ int32Of (numberOf (typedOf p q v))) ⌝ }
+{
+    match v {
+        Typed::Bottom => 0,
+        Typed::Int32(x) => x,
+        Typed::Int64(_) => 0,
+        Typed::Real(_) => 0,
+        Typed::Text(_) => 0,
+        Typed::Opaque(_) => 0,
+    }
+}
+
+// `==`: "string with string by bytes, number with number; otherwise bottom". Two int32 are told first, and compared as they stand.
 fn equal<'a>(pool: &'a [u8], notice: &'a [u8], v: Typed, w: Typed) -> Truth
     ensures { λ r. ⌜ r ≡ equalValues (typedOf (now (pool .entry)) (now (notice .entry)) v) (typedOf (now (pool .entry)) (now (notice .entry)) w) ⌝ }
 {
+    if (type_of(v) == 1) & (type_of(w) == 1) {
+        return number::equal_int32(int32_in(v), int32_in(w));
+    }
     if is_text(v) & is_text(w) {
         return truth::of_bool(texts::same_text(pool, notice, text_in(v), text_in(w)));
     }
@@ -249,9 +264,6 @@ pub fn equals<'a>(pool: &'a [u8], notice: &'a [u8], v: Typed, w: Typed) -> Truth
 pub fn equality<'a>(pool: &'a [u8], notice: &'a [u8], negated: bool, v: Typed, w: Typed) -> Truth
     ensures { λ r. ⌜ r ≡ compareOf (equalityBy negated) (typedOf (now (pool .entry)) (now (notice .entry)) v) (typedOf (now (pool .entry)) (now (notice .entry)) w) ⌝ }
 {
-    if any_bottom(v, w) {
-        return Truth::Bottom;
-    }
     let t = equal(pool, notice, v, w);
     if negated { truth::not(t) } else { t }
 }
@@ -260,11 +272,7 @@ pub fn equality<'a>(pool: &'a [u8], notice: &'a [u8], negated: bool, v: Typed, w
 pub fn ordered(op: Order, v: Typed, w: Typed) -> Truth
     ensures { λ r. ⌜ ((p : List ℕ) → (q : List ℕ) → r ≡ compareOf (Compare.Order op) (typedOf p q v) (typedOf p q w)) ⌝ }
 {
-    if any_bottom(v, w) {
-        Truth::Bottom
-    } else {
-        number::order(op, number_of(v), number_of(w))
-    }
+    number::order(op, number_of(v), number_of(w))
 }
 
 // Ops 56..58, 60 and 61: what is known before any literal, and what one literal says.

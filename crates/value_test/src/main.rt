@@ -2,6 +2,7 @@
 // All but the last give the operands in their order: ops 1..5, with 256 added where the value is folded, or 0 for the truth value of rank a.
 // The last is the op to run; 0 gives its one operand. An answer is a truth value, or a type and its bits or bytes in hex.
 use libc::STDOUT_FILENO;
+use notice::Found;
 use notice::Layout;
 use opcode::Change;
 use opcode::Edition;
@@ -101,16 +102,20 @@ fn folded<'a>(pool: &'a [u8], notice: &'a [u8], number: u16, s: Slot) -> Slot {
 
 // A name that lies beyond the pool, and in a notice that is not well-formed every name, is missing.
 fn load_name<'a>(pool: &'a [u8], notice: &'a [u8], a: u16, b: u64) -> Slot {
-    let missing = Slot {
-        held: Held::Value(Typed::Bottom),
-    };
+    let missing = value::missing();
     if pool.len() < (b % 65536) as usize + a as usize {
         return missing;
     }
     let mut starts: [u16; 64] = [0; 64];
     let layout = notice::index(notice, &mut starts);
     match layout {
-        Layout::WellFormed => value::load_name(pool, notice, &starts, a, b),
+        Layout::WellFormed => {
+            let found = value::find_name(pool, notice, &starts, a, b);
+            match found {
+                Found::At { kind, start, len } => value::field(notice, kind, start, len),
+                Found::Nothing => missing,
+            }
+        }
         Layout::Fault(_) => missing,
     }
 }

@@ -1,12 +1,10 @@
-use mathlib.Core.Path.{sym, ap, _∙_}
-use lib.Ieee.{eq}
+use mathlib.Core.Path.{sym, ap, ap₂, _∙_}
 use mir.Syntax.{w32, w64}
 use mir.ValLaws.{toZ-ofZ}
 use Rattle.number.specs.Number.{equalOf}
 use Rattle.number.specs.declared.Number.{Number}
 use Rattle.number.specs.declared.Number.the-variants.{Int32, Int64}
-use Rattle.number.proofs.Integers.{wide-fits}
-use Rattle.number.proofs.Numbers.{joined, two-int32}
+use Rattle.number.proofs.Numbers.{joined, int32-each}
 use borrow.Author.Needs.{needs}
 use Rattle.number.proofs.equal.Statement.{statement}
 use Rattle.number.proofs.equal.Tie as tie
@@ -20,27 +18,18 @@ is-int32-requires-2 c κs = search needs
 int32-of-requires : tie.Need-int32-of-requires
 int32-of-requires c κs = search needs
 
-cast-equal-i64 : tie.Need-cast-equal-i64
-cast-equal-i64 c = wide-fits (c .int32-of .result) (record { sfits = c .int32-of .ok })
-
 int32-of-requires-2 : tie.Need-int32-of-requires-2
 int32-of-requires-2 c κs = search needs
 
-cast-equal-i64-2 : tie.Need-cast-equal-i64-2
-cast-equal-i64-2 c = wide-fits (c .int32-of2 .result) (record { sfits = c .int32-of2 .ok })
-
-equal-i64-requires : tie.Need-equal-i64-requires
-equal-i64-requires c κs = search needs
-
-of-bool-requires : tie.Need-of-bool-requires
-of-bool-requires c κs = search needs
+equal-int32-requires : tie.Need-equal-int32-requires
+equal-int32-requires c κs = search needs
 
 returns : tie.Need-returns
 returns c =
-    let e = c .before in let v2 = e .before in let v1 = v2 .before in let i = v1 .before in let q2 = i .before in let q1 = q2 .before in let s = q1 .before in
-    c .of-bool .ensures
-    ∙ two-int32 eq (s .args .a) (s .args .b) (joined (q1 .is-int32 .ensures) (q2 .is-int322 .ensures) (i .if1 .taken)) (v1 .int32-of .result) (v2 .int32-of2 .result)
-    (record { sfits = v1 .int32-of .ok }) (record { sfits = v2 .int32-of2 .ok }) (v1 .int32-of .ensures) (v2 .int32-of2 .ensures) (e .equal-i64 .ensures)
+    let v2 = c .before in let v1 = v2 .before in let i = v1 .before in let q2 = i .before in let q1 = q2 .before in let s = q1 .before in
+    c .equal-int32 .ensures
+    ∙ ap₂ (λ x y. equalOf (Int32 x) (Int32 y)) (toZ-ofZ w32 (v1 .int32-of .result) (record { sfits = v1 .int32-of .ok }) ∙ v1 .int32-of .ensures) (toZ-ofZ w32 (v2 .int32-of2 .result) (record { sfits = v2 .int32-of2 .ok }) ∙ v2 .int32-of2 .ensures)
+    ∙ int32-each equalOf (s .args .a) (s .args .b) (joined (q1 .is-int32 .ensures) (q2 .is-int322 .ensures) (i .if1 .taken))
 
 enum-known-a : tie.Need-enum-known-a
 enum-known-a c = search needs
@@ -88,11 +77,8 @@ equal-spec =
     is-int32-requires
     is-int32-requires-2
     int32-of-requires
-    cast-equal-i64
     int32-of-requires-2
-    cast-equal-i64-2
-    equal-i64-requires
-    of-bool-requires
+    equal-int32-requires
     returns
     enum-known-a
     int32-equal-requires

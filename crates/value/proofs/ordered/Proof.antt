@@ -1,26 +1,49 @@
 use mathlib.Core.Path.{ap, ap₂, _∙_}
 use Rattle.opcode.specs.declared.Compare.{Compare}
-use Rattle.value.specs.Value.{logic, compareOf}
+use Rattle.value.specs.Value.{logic, valueIn, compareOf}
+use Rattle.value.specs.Held.{itemIn}
+use Rattle.value.proofs.Theorems.{compare-bottom}
 use borrow.Author.Needs.{needs}
 use Rattle.value.proofs.ordered.Statement.{statement}
 use Rattle.value.proofs.ordered.Tie as tie
 
-value-in-requires : tie.Need-value-in-requires
-value-in-requires c κs = search needs
+paired-requires : tie.Need-paired-requires
+paired-requires c κs = search needs
 
-value-in-requires-2 : tie.Need-value-in-requires-2
-value-in-requires-2 c κs = search needs
-
-ordered-requires : tie.Need-ordered-requires
-ordered-requires c κs = search needs
+enum-told : tie.Need-enum-told
+enum-told c = search needs
 
 decided-requires : tie.Need-decided-requires
 decided-requires c κs = search needs
 
+enum-known-v : tie.Need-enum-known-v
+enum-known-v c = search needs
+
+ordered-requires : tie.Need-ordered-requires
+ordered-requires c κs = search needs
+
+decided-requires-2 : tie.Need-decided-requires-2
+decided-requires-2 c κs = search needs
+
 returns : tie.Need-returns
 returns c =
     let s : tie.Start = search in
-    λ e p q. c .decided .ensures p q ∙ ap logic (c .before .ordered .ensures p q ∙ ap₂ (compareOf (Compare.Order (s .args .op))) (c .before .before .before .value-in .ensures p q) (c .before .before .value-in2 .ensures p q))
+    λ e p q. let h = c .before .before .before .paired .ensures p q in c .decided .ensures p q ∙ ap logic (compare-bottom (Compare.Order (s .args .op)) (valueIn (itemIn p q (s .args .s))) (valueIn (itemIn p q (s .args .t))) (rw (c .before .enum-told .given .1) at h))
+
+returns-2 : tie.Need-returns-2
+returns-2 c =
+    let s : tie.Start = search in let g = c .before .before .before in
+    λ e p q. let f = g .before .before .paired .ensures p q in let h = (rw (g .v .given .1) at f) in c .decided2 .ensures p q ∙ ap logic (c .before .ordered .ensures p q ∙ ap₂ (compareOf (Compare.Order (s .args .op))) (h .1) (h .2))
 
 pub ordered-spec : {M : Type 1} → statement M
-ordered-spec = tie.close (tie.spec value-in-requires value-in-requires-2 ordered-requires decided-requires returns)
+ordered-spec =
+    tie.close
+    (tie.spec
+    paired-requires
+    enum-told
+    decided-requires
+    enum-known-v
+    ordered-requires
+    decided-requires-2
+    returns
+    returns-2)
