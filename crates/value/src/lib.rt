@@ -112,7 +112,7 @@ enum Pair {
     Both(Typed, Typed),
 }
 
-// The operands of an operator on two values. Each slot is told before its value: of a value made from either kind of slot the compiler reads the type wider than it was stored, which takes a tenth of a run.
+// The operands of an operator on two values. Each slot is told before its value: of a value made from either kind of slot the compiler reads the type wider than it was stored, and the processor waits for the store.
 fn paired(s: Slot, t: Slot) -> Pair
     ensures { λ r. ⌜ ((p : List ℕ) → (q : List ℕ) → PairOf p q r (itemIn p q s) (itemIn p q t)) ⌝ }
 {
