@@ -49,10 +49,10 @@
  *
  *    virentolex_translate      53,920   the deepest texts: 24 parentheses or calls, every operator level
  *                                       and 24 prefix operators between each two; a flat one 24,616
- *    virentolex_run            25,015   with `regex`; 13,976 if `contains` goes on by borders; else 5,680
- *    virentolex_run_many       24,983   likewise: 13,944; else 5,648
- *    virentolex_store_match    25,111   likewise: 14,072; else 5,776
- *    virentolex_quorum_show    25,063   likewise: 14,024; else 5,728
+ *    virentolex_run            24,999   with `regex`; 13,960 if `contains` goes on by borders; else 5,664
+ *    virentolex_run_many       24,967   likewise: 13,928; else 5,632
+ *    virentolex_store_match    25,095   likewise: 14,056; else 5,760
+ *    virentolex_quorum_show    25,047   likewise: 14,008; else 5,712
  *    virentolex_mend            8,672
  *    virentolex_store_add       5,352
  *    virentolex_quorum_open     5,224

@@ -260,8 +260,20 @@ def beyond(rng):
         yield "/", (kind, -(2 ** (WIDTH[kind] - 1))), (kind, -1)
 
 
-def beyond_cases(rng):
-    for op, a, b in beyond(rng):
+def multiples(rng):
+    """Request 6: integers beyond 2^53 at and next to multiples of 2^32, beside the reals around them and around the multiple, and beside reals with a fraction up to 2^53 in size."""
+    fractions = [2.0**52 - 0.5, 2.0**51 + 0.25, 0.5, 5e-324]
+    for op in TESTS:
+        for _ in range(40):
+            multiple = rng.choice((1, -1)) * rng.randrange(2**21 + 1, 2**31) * 2**32
+            z = multiple + rng.choice((0, 1, -1, 2**31, -(2**31), 5, 2**32 - 1))
+            x = rng.choice([*neighbours(z), *neighbours(multiple), *fractions, *(-f for f in fractions)])
+            for pair in (((INT64, z), (REAL, x)), ((REAL, x), (INT64, z))):
+                yield op, *pair
+
+
+def beyond_cases(cases):
+    for op, a, b in cases:
         group = next(i for i, ops in enumerate(GROUPS) if op in ops)
         (ka, va), (kb, vb) = raw(a), raw(b)
         yield bytes([group, GROUPS[group].index(op), ka, kb]) + struct.pack("<QQ", va, vb), answer(op, a, b)
@@ -305,7 +317,7 @@ def patterns(rng):
 def main():
     here = Path(__file__).resolve().parent.parent / "crates" / "number_test"
     rng = random.Random(4)
-    cases = [*operators(rng), *literals(rng), *patterns(rng), *beyond_cases(random.Random(6)), *second_edition(random.Random(9))]
+    cases = [*operators(rng), *literals(rng), *patterns(rng), *beyond_cases(beyond(random.Random(6))), *second_edition(random.Random(9)), *beyond_cases(multiples(random.Random(32)))]
     (here / "stdin").write_bytes(b"".join(struct.pack("<I", len(part)) + part for part, _ in cases))
     (here / "stdout").write_text("".join(row + "\n" for _, row in cases))
 

@@ -1,3 +1,4 @@
 pub mod Weights
 pub mod Theorems
 pub mod Compare
+pub mod Beyond

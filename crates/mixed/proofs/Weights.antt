@@ -1,52 +1,19 @@
 -- Comparisons of signed numbers as those of two natural numbers: a number weighs on its own side where it is positive, and on the other where it is
 -- negative. Assumes nothing.
-use mathlib.Core.Path.{_≡_, refl, sym, ap, _∙_}
-use mathlib.Core.Logic.{_⊎_, inl, inr}
+use mathlib.Core.Path.{_≡_, refl, sym, _∙_}
 use mathlib.Core.Bool.{Bool, true, false, _&&_}
-use Prim.Native.Nat.{ℕ, zero, suc, _+_, _*_, _<_}
-use native.Mathlib.Nat.{mul-one, zero-mul, add-mul, mul-lt-mul-of-pos-right}
+use Prim.Native.Nat.{ℕ, suc, _+_, _*_}
+use native.Mathlib.Nat.{zero-mul, add-mul}
 use native.Mathlib.Omega.{arith}
-use lib.IntN.{ℤ, pos, negsuc, negℤ}
+use lib.IntN.{ℤ, pos, negsuc}
 use lib.Signed.{ltZ}
 use lib.Dec.{ltb, eqb, leb·suc-suc}
 use lib.Ieee.{below, level}
-use borrow.Author.Tests.{eqb-true, eqb-false, lt-ltb, le-ltb, eq-eqb, ne-eqb}
-use Rattle.common.proofs.Choice.{true-false, false-true}
+use borrow.Author.Tests.{eqb-true, lt-ltb, le-ltb, eq-eqb, ne-eqb}
+use Rattle.common.proofs.Choice.{false-true}
 use Rattle.nearest.specs.Nearest.{signedOf}
 use Rattle.nearest.proofs.Ints.{up, dn, neg}
-use Rattle.nearest.proofs.Rounding.{parts}
 use Rattle.mixed.specs.Theorems.{equalZ}
-
--- ---- a beside b compares as c beside d
-abbrev pub Agree : ℕ → ℕ → ℕ → ℕ → Type 0
-Agree a b c d = ((a < b) × (c < d)) ⊎ (((a ≡ b) × (c ≡ d)) ⊎ ((b < a) × (d < c)))
-
-pub turned : {a b c d : ℕ} → Agree a b c d → Agree b a d c
-turned h = elim h [ inl l ↦ inr (inr l) | inr (inl e) ↦ inr (inl (sym (e .0), sym (e .1))) | inr (inr l) ↦ inl l ]
-
-pub ltb-agrees : (a b c d : ℕ) → Agree a b c d → ltb a b ≡ ltb c d
-ltb-agrees a b c d h = elim h [
-  | inl l ↦ lt-ltb a b (l .0) ∙ sym (lt-ltb c d (l .1))
-  | inr (inl e) ↦ le-ltb a b (omega (arith, e .0)) ∙ sym (le-ltb c d (omega (arith, e .1)))
-  | inr (inr l) ↦ le-ltb a b (omega (arith, l .0)) ∙ sym (le-ltb c d (omega (arith, l .1)))
-]
-
-pub eqb-agrees : (a b c d : ℕ) → Agree a b c d → eqb a b ≡ eqb c d
-eqb-agrees a b c d h = elim h [
-  | inl l ↦ ne-eqb a b (λ e. omega (arith, l .0)) ∙ sym (ne-eqb c d (λ e. omega (arith, l .1)))
-  | inr (inl e) ↦ eq-eqb a b (e .0) ∙ sym (eq-eqb c d (e .1))
-  | inr (inr l) ↦ ne-eqb a b (λ e. omega (arith, l .0)) ∙ sym (ne-eqb c d (λ e. omega (arith, l .1)))
-]
-
-pub scaled : (a b c : ℕ) → 0 < c → Agree (a * c) (b * c) a b
-scaled a b c p = elim (parts a b) [
-  | inl l ↦ inl (mul-lt-mul-of-pos-right l p, l)
-  | inr (inl e) ↦ inr (inl (ap (λ x. x * c) e, e))
-  | inr (inr l) ↦ inr (inr (mul-lt-mul-of-pos-right l p, l))
-]
-
-pub agrees : (a b c d : ℕ) → a ≡ c → b ≡ d → Agree a b c d
-agrees a b c d e f = elim (parts a b) [ inl l ↦ inl (l, omega (arith, l)) | inr (inl k) ↦ inr (inl (k, sym e ∙ k ∙ f)) | inr (inr l) ↦ inr (inr (l, omega (arith, l))) ]
 
 -- ---- what ±a weighs on its own side, and on the other
 abbrev pub own : Bool → ℕ → ℕ

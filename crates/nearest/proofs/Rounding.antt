@@ -1,5 +1,5 @@
 -- What rounding to the nearest sees of an integer. Assumes nothing.
--- `whole-sum`, `add-at`, `whole-scaled`, `scale-at`, `negated` are those of std's proofs/num/Nearest.antt, which keeps them private.
+-- `whole-sum`, `add-at`, `whole-scaled`, `scale-at`, `negated` are those of std's proofs/num/Nearest.antt, which keeps them private; `scale-at` is over the sign here.
 use mathlib.Core.Path.{_≡_, refl, sym, ap, _∙_, subst}
 use mathlib.Core.Logic.{_⊎_, inl, inr}
 use mathlib.Core.Bool.{Bool, true, false, not, cond}
@@ -18,9 +18,9 @@ use lib.Ieee.Exact.{HasValue, round-exact}
 use lib.Ieee.Nearest.{closest}
 use lib.Ieee.Scale.{round-same}
 use lib.Ieee.Back.{round-whole}
-use Rattle.common.proofs.Choice.{true-false}
+use Rattle.common.proofs.Choice.{true-false, false-true}
 
--- ---- a sum and a scaling of whole numbers that are not negative
+-- ---- a sum of whole numbers that are not negative, and a scaling of one of either sign
 whole-sum : (m g n e a b : ℕ) → m * 1 ≡ a * e → n * 1 ≡ b * g → (m * g + n * e) * 1 ≡ (a + b) * (e * g)
 whole-sum m g n e a b p q =
     mul-one (m * g + n * e)
@@ -50,12 +50,15 @@ whole-scaled m e a p h =
     ∙ mul-right-comm a e p
     ∙ sym (ap (λ (z : ℕ). a * p * z) (mul-one e))
 
-scale-at : (f : Format) (x : Float) (a k : ℕ) → HasValue x false a 1 → mul f x (fin false 1 (pos k)) ≡ round f false (a * 2 ^ k) 1
+scale-at : (f : Format) (s : Bool) (x : Float) (a k : ℕ) → HasValue x s a 1 → mul f x (fin false 1 (pos k)) ≡ round f s (a * 2 ^ k) 1
 unfolding mul
-scale-at f nan a k h = absurd h
-scale-at f (inf s) a k h = absurd h
-scale-at f (fin true m e) a k h = true-false (h .0)
-scale-at f (fin false m e) a k h =
+scale-at f s nan a k h = absurd h
+scale-at f s (inf t) a k h = absurd h
+scale-at f true (fin false m e) a k h = false-true (h .0)
+scale-at f false (fin true m e) a k h = true-false (h .0)
+scale-at f true (fin true m e) a k h =
+    round-same f true (m * up e * (1 * 2 ^ k)) (down e * 1) (a * 2 ^ k) 1 (mul-pos (down-pos e) (zero-lt-suc 0)) (zero-lt-suc 0) (whole-scaled (m * up e) (down e) a (2 ^ k) (h .1))
+scale-at f false (fin false m e) a k h =
     round-same f false (m * up e * (1 * 2 ^ k)) (down e * 1) (a * 2 ^ k) 1 (mul-pos (down-pos e) (zero-lt-suc 0)) (zero-lt-suc 0) (whole-scaled (m * up e) (down e) a (2 ^ k) (h .1))
 
 ofInt-is : (f : Format) (n : ℕ) → ofInt f (pos n) ≡ round f false n 1
@@ -66,15 +69,18 @@ ofInt-is f n = refl
 pub held : (a : ℕ) → a < 2 ^ 53 → HasValue (ofInt binary64 (pos a)) false a 1
 held a h = subst (λ (z : Float). HasValue z false a 1) (sym (ofInt-is binary64 a)) (round-whole binary64 false a (le-of-lt h))
 
-pub scaled : (a k : ℕ) (c : Float) → c ≡ fin false 1 (pos k) → a < 2 ^ 53 → k ≤ 900 → HasValue (mul binary64 (ofInt binary64 (pos a)) c) false (a * 2 ^ k) 1
-scaled a k c e h K =
-    subst (λ (z : Float). HasValue z false (a * 2 ^ k) 1) (sym (ap (mul binary64 (ofInt binary64 (pos a))) e ∙ scale-at binary64 (ofInt binary64 (pos a)) a k (held a h)))
-    (round-exact binary64 false (a * 2 ^ k) 1 a (k + 1074) (zero-lt-suc 0) h
+pub scaled-by : (s : Bool) (x : Float) (a k : ℕ) (c : Float) → HasValue x s a 1 → c ≡ fin false 1 (pos k) → a < 2 ^ 53 → k ≤ 900 → HasValue (mul binary64 x c) s (a * 2 ^ k) 1
+scaled-by s x a k c v e h K =
+    subst (λ (z : Float). HasValue z s (a * 2 ^ k) 1) (sym (ap (mul binary64 x) e ∙ scale-at binary64 s x a k v))
+    (round-exact binary64 s (a * 2 ^ k) 1 a (k + 1074) (zero-lt-suc 0) h
     (lt-of-lt-of-le (shl-lt 53 (k + 1074) h) (pow-mono (room k K)))
     (mul-assoc a (2 ^ k) (2 ^ 1074) ∙ ap (λ (z : ℕ). a * z) (sym (pow-add 2 k 1074)) ∙ sym (mul-one (a * 2 ^ (k + 1074)))))
   where
     room : (k : ℕ) → k ≤ 900 → 53 + (k + 1074) ≤ 1074 + 1024
     room k h = omega arith
+
+pub scaled : (a k : ℕ) (c : Float) → c ≡ fin false 1 (pos k) → a < 2 ^ 53 → k ≤ 900 → HasValue (mul binary64 (ofInt binary64 (pos a)) c) false (a * 2 ^ k) 1
+scaled a k c e h K = scaled-by false (ofInt binary64 (pos a)) a k c (held a h) e h K
 
 -- the one rounded sum of two parts that are reals
 pub joined : (x y : Float) (a b n : ℕ) → HasValue x false a 1 → HasValue y false b 1 → a + b ≡ n → add binary64 x y ≡ ofInt binary64 (pos n)
@@ -260,7 +266,7 @@ sticky f g q k r s Q R S z w =
     none : {x : ℕ} → x ≡ 0 → x * 2 ^ I.low f ≡ 0
     none h = ap (λ (y : ℕ). y * 2 ^ I.low f) h ∙ zero-mul (2 ^ I.low f)
 
--- ---- a negative integer's real is its magnitude's, negated
+-- ---- a negative number's real is its magnitude's, negated
 neg-odd : (d q k l : ℕ) → neg (odd d false q k l) ≡ odd d true q k l
 unfolding neg odd
 neg-odd d zero k l = refl
@@ -274,9 +280,12 @@ neg-units f q k = go (ltb (q * 2 ^ k) (2 ^ (I.low f + suc (emax f))))
     go true = neg-odd (suc (prec f)) q k (I.low f)
     go false = refl
 
+pub neg-round : (f : Format) (n d : ℕ) → neg (round f false n d) ≡ round f true n d
+neg-round f n d = ap neg (round-is f false n d) ∙ neg-units f _ _ ∙ sym (round-is f true n d)
+
 pub negated : (f : Format) (n : ℕ) → neg (ofInt f (pos (suc n))) ≡ ofInt f (negsuc n)
 unfolding ofInt
-negated f n = ap neg (round-is f false (suc n) 1) ∙ neg-units f _ _ ∙ sym (round-is f true (suc n) 1)
+negated f n = neg-round f (suc n) 1
 
 -- ---- `nearest_wide`, by its two ranges
 pub two-to-53 : ofBits binary64 0x4340_0000_0000_0000 ≡ fin false 1 (pos 53)

@@ -27,9 +27,8 @@ use Rattle.opcode.specs.declared.Bitwise.{Bitwise}
 use Rattle.opcode.specs.declared.Edition.{Edition}
 use Rattle.opcode.specs.declared.Shift.{Shift}
 use Rattle.opcode.specs.declared.Order.{Order}
-use Rattle.mixed.specs.declared.Relation.{Relation}
-use Rattle.mixed.specs.Mixed.{exactly, orderReal, relationOf, isLevel, holdsOf, flippedOf}
-use Rattle.mixed.proofs.Compare.{Same, exact-left, exact-right, level-says, holds-says, flip-says, eq-back}
+use Rattle.mixed.specs.Mixed.{exactly, orderReal, Same, flippedOf}
+use Rattle.mixed.proofs.Compare.{exact-left, exact-right, flip-says, eq-back}
 use Rattle.nearest.proofs.Ints.{R}
 use Rattle.number.proofs.Integers.{Wide, wide-is}
 
@@ -302,23 +301,16 @@ module _ (z : ℤ) (f : SFits w32 z) where
   pub int32-right : (x : Float) → Same x (ofInt binary64 (toZ w32 (ofZ w32 z))) x (exactly z)
   int32-right x = rw (toZ-ofZ w32 z f) (exact-right z (int32-small z f) x)
 
--- an int64 beside a real, by the relation of the two; q is what the code was told
-module _ (z : ℤ) (f : mag z < 2 ^ 63) (x : Float) (q : Relation) (e : q ≡ relationOf (exactly (R z)) x) where
-  is-relation : q ≡ relationOf (exactly z) x
-  is-relation = rw (toZ-ofZ w64 z (record { sfits = f })) at e
+-- an int64 beside a real, on either side; t is what the code was told of the integer as the machine reads it back
+module _ (z : ℤ) (fz : mag z < 2 ^ 63) (x : Float) {t : Bool} where
+  pub int64-left : (f : Float → Float → Bool) → t ≡ f (exactly (R z)) x → t ≡ f (exactly z) x
+  int64-left f h = rw (toZ-ofZ w64 z (record { sfits = fz })) at h
 
-  module _ {t : Bool} where
-    pub level-left : t ≡ isLevel q → t ≡ eq (exactly z) x
-    level-left h = h ∙ ap isLevel is-relation ∙ level-says (exactly z) x
+  pub equal-right : t ≡ eq (exactly (R z)) x → t ≡ eq x (exactly z)
+  equal-right h = int64-left eq h ∙ eq-back (exactly z) x
 
-    pub level-right : t ≡ isLevel q → t ≡ eq x (exactly z)
-    level-right h = level-left h ∙ eq-back (exactly z) x
-
-    pub holds-left : (op : Order) → t ≡ holdsOf op q → t ≡ orderReal op (exactly z) x
-    holds-left op h = h ∙ ap (holdsOf op) is-relation ∙ holds-says op (exactly z) x
-
-    pub holds-right : (op o : Order) → o ≡ flippedOf op → t ≡ holdsOf o q → t ≡ orderReal op x (exactly z)
-    holds-right op o g h = holds-left o h ∙ ap (λ (p : Order). orderReal p (exactly z) x) g ∙ flip-says op x (exactly z)
+  pub order-right : (op o : Order) → o ≡ flippedOf op → t ≡ orderReal o (exactly (R z)) x → t ≡ orderReal op x (exactly z)
+  order-right op o g h = int64-left (orderReal o) h ∙ ap (λ (p : Order). orderReal p (exactly z) x) g ∙ flip-says op x (exactly z)
 
 -- shifts, over the edition and the width: `make` is the left side's type, x its value, and c its count
 module _ (e : Edition) (w : Width) (make : ℤ → Number) (width : ℕ) (op : Shift) (a b : Number) (x : ℤ) (c : Count) (ea : a ≡ make x) (ec : c ≡ countIn e width b)

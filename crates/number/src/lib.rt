@@ -318,7 +318,7 @@ fn int64_equal(x: i64, b: Number) -> Truth
     match b {
         Number::Int32(y) => truth::of_bool(mixed::equal_i64(x, y as i64)),
         Number::Int64(y) => truth::of_bool(mixed::equal_i64(x, y)),
-        Number::Real(y) => truth::of_bool(mixed::is_level(mixed::compared(x, y))),
+        Number::Real(y) => truth::of_bool(mixed::equal(x, y)),
         Number::None => Truth::Bottom,
     }
 }
@@ -328,7 +328,7 @@ fn real_equal(x: f64, b: Number) -> Truth
 {
     match b {
         Number::Int32(y) => truth::of_bool(x == (y as f64)),
-        Number::Int64(y) => truth::of_bool(mixed::is_level(mixed::compared(y, x))),
+        Number::Int64(y) => truth::of_bool(mixed::equal(y, x)),
         Number::Real(y) => truth::of_bool(x == y),
         Number::None => Truth::Bottom,
     }
@@ -366,7 +366,7 @@ fn int64_order(op: Order, x: i64, b: Number) -> Truth
     match b {
         Number::Int32(y) => truth::of_bool(mixed::order_i64(op, x, y as i64)),
         Number::Int64(y) => truth::of_bool(mixed::order_i64(op, x, y)),
-        Number::Real(y) => truth::of_bool(mixed::holds(op, mixed::compared(x, y))),
+        Number::Real(y) => truth::of_bool(mixed::order(op, x, y)),
         Number::None => Truth::Bottom,
     }
 }
@@ -376,7 +376,7 @@ fn real_order(op: Order, x: f64, b: Number) -> Truth
 {
     match b {
         Number::Int32(y) => truth::of_bool(mixed::order_real(op, x, y as f64)),
-        Number::Int64(y) => truth::of_bool(mixed::holds(mixed::flipped(op), mixed::compared(y, x))),
+        Number::Int64(y) => truth::of_bool(mixed::order(mixed::flipped(op), y, x)),
         Number::Real(y) => truth::of_bool(mixed::order_real(op, x, y)),
         Number::None => Truth::Bottom,
     }

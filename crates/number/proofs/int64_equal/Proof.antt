@@ -4,7 +4,7 @@ use mir.Syntax.{w64}
 use mir.ValLaws.{toZ-ofZ}
 use Rattle.number.specs.declared.Number.the-variants.{Int32, Int64, Real}
 use Rattle.number.proofs.Integers.{wide-is, wide-fits}
-use Rattle.number.proofs.Numbers.{compared, reread, level-left}
+use Rattle.number.proofs.Numbers.{compared, reread, int64-left}
 use borrow.Author.Needs.{needs}
 use Rattle.number.proofs.int64_equal.Statement.{statement}
 use Rattle.number.proofs.int64_equal.Tie as tie
@@ -33,11 +33,8 @@ of-bool-requires-2 c κs = search needs
 enum-known-b-3 : tie.Need-enum-known-b-3
 enum-known-b-3 c = search needs
 
-compared-requires : tie.Need-compared-requires
-compared-requires c κs = search needs
-
-is-level-requires : tie.Need-is-level-requires
-is-level-requires c κs = search needs
+equal-requires : tie.Need-equal-requires
+equal-requires c κs = search needs
 
 of-bool-requires-3 : tie.Need-of-bool-requires-3
 of-bool-requires-3 c κs = search needs
@@ -59,9 +56,9 @@ returns-2 c =
 
 returns-3 : tie.Need-returns-3
 returns-3 c =
-    let l = c .before in let q = l .before in let m = q .before in let g = m .before in let s = g .before .before in let x = s .args .x in let y = g .b3 .given .0 .0 in
+    let q = c .before in let m = q .before in let g = m .before in let s = g .before .before in let x = s .args .x in let y = g .b3 .given .0 .0 in
     c .of-bool3 .ensures
-    ∙ compared eq (Int64 x) (Real y) (s .args .b) refl refl (g .b3 .given .1) (level-left x (s .fits .x .sfits) y _ (q .compared .ensures) (l .is-level .ensures))
+    ∙ compared eq (Int64 x) (Real y) (s .args .b) refl refl (g .b3 .given .1) (int64-left x (s .fits .x .sfits) y eq (q .equal .ensures))
 
 returns-4 : tie.Need-returns-4
 returns-4 c = search needs
@@ -78,8 +75,7 @@ int64-equal-spec =
     equal-i64-requires-2
     of-bool-requires-2
     enum-known-b-3
-    compared-requires
-    is-level-requires
+    equal-requires
     of-bool-requires-3
     enum-told
     returns

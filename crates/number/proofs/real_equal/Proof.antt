@@ -1,7 +1,7 @@
 use mathlib.Core.Path.{refl, _∙_}
 use lib.Ieee.{eq}
 use Rattle.number.specs.declared.Number.the-variants.{Int32, Int64, Real}
-use Rattle.number.proofs.Numbers.{compared, int32-right, level-right}
+use Rattle.number.proofs.Numbers.{compared, int32-right, equal-right}
 use borrow.Author.Needs.{needs}
 use Rattle.number.proofs.real_equal.Statement.{statement}
 use Rattle.number.proofs.real_equal.Tie as tie
@@ -18,11 +18,8 @@ of-bool-requires c κs = search needs
 enum-known-b-2 : tie.Need-enum-known-b-2
 enum-known-b-2 c = search needs
 
-compared-requires : tie.Need-compared-requires
-compared-requires c κs = search needs
-
-is-level-requires : tie.Need-is-level-requires
-is-level-requires c κs = search needs
+equal-requires : tie.Need-equal-requires
+equal-requires c κs = search needs
 
 of-bool-requires-2 : tie.Need-of-bool-requires-2
 of-bool-requires-2 c κs = search needs
@@ -43,9 +40,9 @@ returns c =
 
 returns-2 : tie.Need-returns-2
 returns-2 c =
-    let l = c .before in let q = l .before in let m = q .before in let g = m .before in let s = g .before .before in let x = s .args .x in let y = g .b2 .given .0 .0 in
+    let q = c .before in let m = q .before in let g = m .before in let s = g .before .before in let x = s .args .x in let y = g .b2 .given .0 .0 in
     c .of-bool2 .ensures
-    ∙ compared eq (Real x) (Int64 y) (s .args .b) refl refl (g .b2 .given .1) (level-right y (m .known-told2 .given .0 .1) x _ (q .compared .ensures) (l .is-level .ensures))
+    ∙ compared eq (Real x) (Int64 y) (s .args .b) refl refl (g .b2 .given .1) (equal-right y (m .known-told2 .given .0 .1) x (q .equal .ensures))
 
 returns-3 : tie.Need-returns-3
 returns-3 c =
@@ -63,8 +60,7 @@ real-equal-spec =
     int-to-float-of-bool
     of-bool-requires
     enum-known-b-2
-    compared-requires
-    is-level-requires
+    equal-requires
     of-bool-requires-2
     enum-known-b-3
     of-bool-requires-3

@@ -2,7 +2,7 @@ use mathlib.Core.Path.{refl, _∙_}
 use Rattle.mixed.specs.Mixed.{orderReal}
 use Rattle.mixed.proofs.Compare.{same-order}
 use Rattle.number.specs.declared.Number.the-variants.{Int32, Int64, Real}
-use Rattle.number.proofs.Numbers.{compared, int32-right, holds-right}
+use Rattle.number.proofs.Numbers.{compared, int32-right, order-right}
 use borrow.Author.Needs.{needs}
 use Rattle.number.proofs.real_order.Statement.{statement}
 use Rattle.number.proofs.real_order.Tie as tie
@@ -25,11 +25,8 @@ enum-known-b-2 c = search needs
 flipped-requires : tie.Need-flipped-requires
 flipped-requires c κs = search needs
 
-compared-requires : tie.Need-compared-requires
-compared-requires c κs = search needs
-
-holds-requires : tie.Need-holds-requires
-holds-requires c κs = search needs
+order-requires : tie.Need-order-requires
+order-requires c κs = search needs
 
 of-bool-requires-2 : tie.Need-of-bool-requires-2
 of-bool-requires-2 c κs = search needs
@@ -54,9 +51,9 @@ returns c =
 
 returns-2 : tie.Need-returns-2
 returns-2 c =
-    let l = c .before in let q = l .before in let o = q .before in let m = o .before in let g = m .before in let s = g .before .before in let x = s .args .x in let y = g .b2 .given .0 .0 in let op = s .args .op in
+    let q = c .before in let o = q .before in let m = o .before in let g = m .before in let s = g .before .before in let x = s .args .x in let y = g .b2 .given .0 .0 in let op = s .args .op in
     c .of-bool2 .ensures
-    ∙ compared (orderReal op) (Real x) (Int64 y) (s .args .b) refl refl (g .b2 .given .1) (holds-right y (m .known-told2 .given .0 .1) x _ (q .compared .ensures) op _ (o .flipped .ensures) (l .holds .ensures))
+    ∙ compared (orderReal op) (Real x) (Int64 y) (s .args .b) refl refl (g .b2 .given .1) (order-right y (m .known-told2 .given .0 .1) x op _ (o .flipped .ensures) (q .order .ensures))
 
 returns-3 : tie.Need-returns-3
 returns-3 c =
@@ -76,8 +73,7 @@ real-order-spec =
     of-bool-requires
     enum-known-b-2
     flipped-requires
-    compared-requires
-    holds-requires
+    order-requires
     of-bool-requires-2
     enum-known-b-3
     order-real-requires-2
