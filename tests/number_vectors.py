@@ -261,7 +261,7 @@ def beyond(rng):
 
 
 def multiples(rng):
-    """Request 6: integers beyond 2^53 at and next to multiples of 2^32, beside the reals around them and around the multiple, and beside reals with a fraction up to 2^53 in size."""
+    """Request 6: integers beyond 2^53 at and next to multiples of 2^32, beside the reals around them and around the multiple, and beside reals with a fraction."""
     fractions = [2.0**52 - 0.5, 2.0**51 + 0.25, 0.5, 5e-324]
     for op in TESTS:
         for _ in range(40):
