@@ -7,7 +7,7 @@ use native.Mathlib.Numerals.{add-one}
 use lib.ListN.{length, get_or, set, take, drop, replicate, drop_of_length-le}
 use native.Mathlib.Omega.{arith}
 use lib.Seq.{drop-cons, take-suc-set, take_all}
-use Rattle.automaton.specs.Pass.{Token, started, pass, left}
+use Rattle.automaton.specs.Pass.{Token, started, pass, left, level_of, cells_of}
 use Rattle.automaton.specs.Decide.{walk_on, run_on}
 use Rattle.automaton.specs.declared.Level.{Level}
 

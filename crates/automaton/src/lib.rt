@@ -294,7 +294,7 @@ fn shift(text: &[u8], kinds: &[u8], args: &[u16], marks: &mut [bool], k: bool, c
 
 // ---- the value
 
-// The value from an index on: `ended` and `enters` say whether a way ended before it and whether one enters, `empty` whether nothing fits, `sf` and `ef` whether the stretch's start and end are free.
+// The value from an index on: `fin` and `k` say whether a way ended before it and whether one enters, `empty` whether nothing fits, `sf` and `ef` whether the stretch's start and end are free.
 fn walk(
     text: &[u8],
     kinds: &[u8],
@@ -597,7 +597,7 @@ fn more(a: usize, b: usize) -> usize
     if a < b { b } else { a }
 }
 
-// As `walk_on`, with a transition cache of up to seven words: `held` has them from 1 on, `next` the number of the word where a byte leads, or 0.
+// The same, and what was told is kept for up to seven words: `held` has them from 1 on, `next` the number of the word where a byte leads, or 0.
 fn walk_told(
     text: &[u8],
     kinds: &[u8],
@@ -843,7 +843,7 @@ fn walk_plain(
     fin | (k & empty)
 }
 
-// Whether a stretch of the value fits the table; room for a mark for each token is lent. Afterwards the marks are unspecified.
+// Whether a stretch of the value fits the table; room for a mark for each token is lent. What the marks are afterwards is left free.
 pub fn finds(
     text: &[u8],
     kinds: &[u8],

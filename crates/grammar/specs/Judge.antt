@@ -4,7 +4,7 @@ use Rattle.std.specs.Prelude.{ℕ, Bool, true, false, cond, not, ◌&&◌, ◌||
 use Rattle.opcode.specs.Number.{fold_case_op, size_op, equal_op, not_op, is_int32_op, require_op, begins_with_op, equals_op, wildcard_op, regex_op}
 use Rattle.lexer.specs.Kind.{text_kind, naming}
 use Rattle.lexer.specs.Token.{Token, name, int32, int64, real, text, symbol, kind_of}
-use Rattle.pattern.specs.Computed.{well_formed}
+use Rattle.pattern.specs.Wildcard.{well_formed}
 use Rattle.regexp.specs.Regex.{well_formed as regexFormed}
 use Rattle.grammar.specs.Tree.{Tree, leaf, group, unary, binary, call, Trees, none, ◌then◌}
 use Rattle.grammar.specs.Function.{function_of}

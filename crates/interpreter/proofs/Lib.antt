@@ -5,4 +5,3 @@ pub mod Visits
 pub mod Places
 pub mod Theorems
 pub mod Answers
-pub mod Editions

@@ -1,15 +1,13 @@
--- What holds of the run of every checked table, compiled or not, on every notice. The proofs are in proofs/Theorems.antt, that of `SameRun` in proofs/Editions.antt, under the same names.
+-- What holds of the run of every checked table, compiled or not, on every notice. The proofs are in proofs/Theorems.antt, under the same names.
 use Rattle.std.specs.Prelude.{ℕ, suc, ◌≤◌, ◌<◌, ◌≡◌, ◌↔◌, true, false, List, [], ◌∷◌, ◌++◌, map, length}
 use Rattle.std.proofs.Math.Option.{some}
 use Rattle.opcode.specs.Opcode.{op_of, Kind, takes_of}
 use Rattle.table.specs.Table.{count_of, entry_at, entries_of, decode}
 use Rattle.table.specs.Check.{shape_at, check_of}
-use Rattle.table.specs.Theorems.{AlikeButKind}
 use Rattle.truth.specs.declared.Truth.TheVariants.{Bottom}
 use Rattle.value.specs.Value.{logic, kind_of, is_bottom}
 use Rattle.interpreter.specs.Run.{slot_at, after, run_of, verdict_of}
 use Rattle.interpreter.specs.Undecided.{entry_after, leaves_bottom, no_entry, undecided_after, undecided_of}
-use Rattle.interpreter.specs.Running.{running_of}
 
 -- After any number of visits the stack's kinds are those that the check found before the next entry, which is at most N.
 abbrev pub StackKinds : Type 0
@@ -59,13 +57,3 @@ UndecidedFirst =
 -- With verdict bottom there is one.
 abbrev pub UndecidedBottom : Type 0
 UndecidedBottom = (s notice : List ℕ) → check_of s ≡ true → verdict_of (run_of (decode s) notice) ≡ Bottom → undecided_of (decode s) notice ≡ no_entry → ⊥
-
--- ---- document 02, request 9: the editions "differ in the three shifts alone"
-
--- no entry is `<<`, `>>` or `>>>`
-abbrev pub NoShift : List ℕ → Type 0
-NoShift s = (i : ℕ) → i < count_of s → 16 ≤ (entry_at s i).op → (entry_at s i).op ≤ 18 → ⊥
-
--- Tables alike but for the kind, with no shift, are answered alike on every notice, refused or not: number, place, verdict, steps and first undecided entry. That they have the same check is `SameButKind` of crate table, shifts or not.
-abbrev pub SameRun : Type 0
-SameRun = (s t notice : List ℕ) → AlikeButKind s t → NoShift s → running_of s notice ≡ running_of t notice

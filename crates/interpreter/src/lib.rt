@@ -273,6 +273,16 @@ fn refused(number: u8, place: usize) -> Ran
     }
 }
 
+// The same for a caller who has no starts: it makes them.
+pub fn run_checked<'a>(table: &'a [u8], notice: &'a [u8], budget: usize) -> Machine
+    requires { (check_of table.now ≡ true) × (noticeCheck notice.now ≡ WellFormed) }
+    ensures { Visited table.now notice.now budget result }
+{
+    let mut starts: [u16; 64] = [0; 64];
+    notice::index(notice, &mut starts);
+    run_indexed(table, notice, &starts, budget)
+}
+
 // The whole run, with what `run_indexed` asks: "At N it ends and the one slot is the verdict."
 pub fn run_whole<'a>(table: &'a [u8], notice: &'a [u8], starts: &[u16; 64]) -> Ran
     requires { (check_of table.now ≡ true) × (noticeCheck notice.now ≡ WellFormed) × Indexed notice.now starts.now }

@@ -1,4 +1,4 @@
-// Runs each table on standard input on the notice after it, and prints number, place, verdict, steps and the first undecided entry.
+// Runs each table on standard input on the notice after it, and prints number, place, verdict and steps.
 use interpreter::Ran;
 use libc::STDOUT_FILENO;
 use truth::Truth;

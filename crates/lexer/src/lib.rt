@@ -2,7 +2,6 @@
 ghost use Rattle.std.specs.Prelude.{◌≡◌, true, ◌+◌, ◌-◌, ◌≤◌, ◌<◌, length, get_or, drop};
 ghost use Rattle.std.proofs.lemmas.List.Edits.{sets};
 ghost use Rattle.lexer.specs.Byte.{is_quote, starts_number};
-ghost use Rattle.lexer.specs.Kind.{ending};
 ghost use Rattle.lexer.specs.Run.{GoesOn, all_common};
 ghost use Rattle.lexer.specs.Digits.{sign_length};
 ghost use Rattle.lexer.specs.Token.{scan_name, scan_integer, scan_number, scan_string, scan_of, tokens_of, kinds_of, starts_of, name_at, escaped_at, name_is, string_at, integer_at, real_at};
@@ -46,13 +45,6 @@ pub const COMMA: u8 = 11;
 
 // What stands past the last token.
 pub const END: u8 = 99;
-
-// Holds the constant to its definition.
-fn end_kind() -> u8
-    ensures { result ≡ ending }
-{
-    END
-}
 
 // What stands first: a token's kind number and how many bytes it takes; or the number by which it is refused.
 #[derive(Drop)]
@@ -111,7 +103,7 @@ fn scan_integer(bytes: &[u8], whole: Numeral) -> Scanned
     Scanned::Good(INT32, bytes.len())
 }
 
-// Any other form of a number: the forms are tried one after the other.
+// The digits of a number are read once, but those of an octal or hex integer, which are read as decimal ones too.
 fn scan_odd_number(text: &[u8], at: usize) -> Scanned
     ensures { result ≡ scanned_of (scan_number (drop at text.now)) }
 {
@@ -154,7 +146,7 @@ fn again(r: Scanned) -> Scanned
     }
 }
 
-// Decimal digits alone whose value fits, `0` or without a leading zero, are an int32, and an int64 with its suffix; else, and where they are no plain real, all forms are tried, which is called for at two places and so not laid in line.
+// Decimal digits alone whose value fits, without a leading zero, are an int32, and an int64 with its suffix; else, and where they are no plain real, all forms are tried, which is called for at two places and so not laid in line.
 fn scan_number(text: &[u8], at: usize) -> Scanned
     requires { (length text.now ≤ 4096) × (at < length text.now) }
     ensures { result ≡ scanned_of (scan_number (drop at text.now)) }

@@ -262,7 +262,7 @@ pub fn ended(s: &[u8], at: usize) -> bool
     }
 }
 
-// Of the name that stands first: its bytes, how many they are without escapes, whether they are legal.
+// Of the name that stands first: its bytes, how many they are without escapes, whether they are legal. It is known to go on after the first bytes.
 #[derive(Drop)]
 pub struct Measured {
     pub bytes: usize,
@@ -270,7 +270,6 @@ pub struct Measured {
     pub legal: bool,
 }
 
-// Precondition: the name goes on past its `first` first bytes.
 pub fn measure_name(s: &[u8], first: usize) -> Measured
     requires { GoesOn s.now first }
     ensures { (result.bytes ≡ length (run_of 0 s.now)) × (result.plain ≡ length (unescaped false (run_of 0 s.now))) × (result.legal ≡ legal_name false (run_of 0 s.now)) }

@@ -35,8 +35,8 @@ module _ (store notice : List ℕ) where
   pub bytes_64 : length (held_verdicts store notice) ≡ 64
   bytes_64 = length-map (places_in store) (place_byte notice) ∙ places_64 store
 
-  pub byte_at_lem : (n : ℕ) → n < 64 → get_or (held_verdicts store notice) n 0 ≡ place_byte notice (get_or (places_in store) n none)
-  byte_at_lem n h = no_default (held_verdicts store notice) n 0 4 (omega (arith, bytes_64)) ∙ get_or-map (place_byte notice) (places_in store) n none
+  pub byte_at : (n : ℕ) → n < 64 → get_or (held_verdicts store notice) n 0 ≡ place_byte notice (get_or (places_in store) n none)
+  byte_at n h = no_default (held_verdicts store notice) n 0 4 (omega (arith, bytes_64)) ∙ get_or-map (place_byte notice) (places_in store) n none
 
 -- the first i places have their bytes: with those that are left they are all.
 pub record Filling (store notice was now : List ℕ) (i : ℕ) : Type 0 where
@@ -51,7 +51,7 @@ module _ (store notice was now : List ℕ) (i : ℕ) (g : Filling store notice w
   pub filling_on : (v : ℕ) → i < 64 → v ≡ place_byte notice (get_or (places_in store) i none) → Filling store notice was (set now i v) (i + 1)
   filling_on v h e =
       let x = held_verdicts store notice in
-      let w : v ≡ get_or x i 0 = e ∙ sym (byte_at_lem store notice i h) in
+      let w : v ≡ get_or x i 0 = e ∙ sym (byte_at store notice i h) in
       let z : i ≡ 0 + i = omega arith in
       let c = copied_one now x 0 i (omega (arith, bytes_64 store notice)) in
       record {

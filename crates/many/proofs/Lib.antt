@@ -2,4 +2,3 @@ pub mod Stretches
 pub mod Verdicts
 pub mod Holding
 pub mod Theorems
-pub mod Calls

@@ -1,6 +1,6 @@
 -- The theorems that specs/Theorems.antt states. Assumes nothing.
 use mathlib.Core.Path.{◌≡◌, refl, sym, ap, ◌∙◌}
-use mathlib.Core.Bool.{Bool, true, false, cond, ◌&&◌}
+use mathlib.Core.Bool.{Bool, true, false, cond}
 use mathlib.Core.List.{List, [], ◌∷◌, ◌++◌}
 use mathlib.Core.Option.{none, some}
 use Prim.Native.Nat.{ℕ, zero, suc, ◌+◌, ◌≤◌, ◌<◌}
@@ -8,16 +8,12 @@ use native.Mathlib.Omega.{arith}
 use native.Mathlib.Decide.{dec_le}
 use lib.Dec.{leb, eqb}
 use lib.ListN.{length, get_or, take, drop, length-drop, length-map, take-append-drop, get_or-append, get_or-map}
-use lib.Seq.{sets-eq, drop_at, length-take-le}
+use lib.Seq.{sets-eq, drop_at}
 use borrow.Author.Tests.{leb-true, eq-eqb, ne_eqb}
 use Rattle.common.specs.Choice.{pick}
-use Rattle.word.specs.Word.{word_at}
-use Rattle.word.proofs.Theorems.{word_grows}
 use Rattle.notice.specs.Layout.{check_of as noticeCheck}
 use Rattle.notice.specs.declared.Layout.{Layout}
 use Rattle.notice.specs.declared.Layout.TheVariants.{WellFormed, Fault}
-use Rattle.table.specs.Table.{decode, layout_of}
-use Rattle.table.specs.Check.{check_of as tableCheck, program_right}
 use Rattle.interpreter.specs.Running.{running_of}
 use Rattle.interpreter.specs.declared.Ran.{Ran}
 use Rattle.store.specs.declared.Part.{Part}
@@ -27,10 +23,10 @@ use Rattle.many.specs.declared.Delivered.{Delivered}
 use Rattle.many.specs.declared.Matched.{Matched}
 use Rattle.many.specs.Many.{extent_of, stretches_from, stretches_of, verdict_byte, verdicts_of, refusal_of, many_refusal, Delivers}
 use Rattle.many.specs.Held.{place_byte, held_verdicts, refused_by, match_refusal, Matches}
-use Rattle.many.specs.Theorems.{joined, EndToEnd, OneByOne, RemainderLast, RemainderRefused, PastStays, StoreOneByOne, StorePastStays}
+use Rattle.many.specs.Theorems.{joined, EndToEnd, OneByOne, PastStays, StoreOneByOne, StorePastStays}
 use Rattle.many.proofs.Stretches.{extent_bounds, from_none, from_some}
-use Rattle.many.proofs.Verdicts.{no_default, byte_refused}
-use Rattle.many.proofs.Holding.{byte_free, byte_held, bytes_64, byte_at_lem}
+use Rattle.many.proofs.Verdicts.{no_default}
+use Rattle.many.proofs.Holding.{byte_free, byte_held, bytes_64, byte_at}
 
 -- ---- the stretches
 
@@ -48,55 +44,6 @@ joined_from (suc n) (x ∷ xs) h =
 
 pub end_to_end : EndToEnd
 end_to_end tables = joined_from (length tables) tables (omega arith)
-
--- a length word that is not the stretch's own length: the stretch takes all that is left
-takes_all : (s : List ℕ) → 0 < length s → (4 + word_at 4 (take (extent_of s) s) 0 ≡ length (take (extent_of s) s) → ⊥) → extent_of s ≡ length s
-takes_all s h n = go (leb 4 (length s)) (leb (4 + word_at 4 s 0) (length s)) refl refl
-  where
-    go : (a b : Bool) → leb 4 (length s) ≡ a → leb (4 + word_at 4 s 0) (length s) ≡ b → extent_of s ≡ length s
-    go true true p q =
-        let e : extent_of s ≡ 4 + word_at 4 s 0 = rw (p, q) in
-        let t = take (extent_of s) s in
-        let l : length t ≡ extent_of s = length-take-le (extent_of s) s (extent_bounds s h).1 in
-        let w : word_at 4 s 0 ≡ word_at 4 t 0 =
-        ap (λ (x : List ℕ). word_at 4 x 0) (sym (take-append-drop (extent_of s) s)) ∙ word_grows 4 0 t (drop (extent_of s) s) (omega arith) in
-        absurd (n (omega arith))
-    go true false p q = rw (p, q)
-    go false b p q = rw p
-
-last_from : (n : ℕ) (s : List ℕ) → length s ≤ n → (i : ℕ) → i < length (stretches_from n s) → (4 + word_at 4 (get_or (stretches_from n s) i []) 0 ≡ length (get_or (stretches_from n s) i []) → ⊥)
-    → suc i ≡ length (stretches_from n s)
-last_from zero s h i l n = absurd (omega (arith, ap length (from_none s zero (omega arith))))
-last_from (suc n) [] h i l w = absurd (omega (arith, ap length (from_none [] (suc n) refl)))
-last_from (suc n) (x ∷ xs) h i l w =
-    let s : List ℕ = x ∷ xs in
-    let some : 0 < length s = omega arith in
-    let e = from_some s n some in
-    let b = extent_bounds s some in
-    let d = length-drop (extent_of s) s in
-    go s (drop (extent_of s) s) refl some (λ j. last_from n (drop (extent_of s) s) (omega arith) j) i (rw e at l) (rw e at w) ∙ sym (ap length e)
-  where
-    go : (s rest : List ℕ) → rest ≡ drop (extent_of s) s → 0 < length s
-        → ((j : ℕ) → j < length (stretches_from n rest) → (4 + word_at 4 (get_or (stretches_from n rest) j []) 0 ≡ length (get_or (stretches_from n rest) j []) → ⊥) → suc j ≡ length (stretches_from n rest))
-        → (i : ℕ) → i < suc (length (stretches_from n rest)) → (4 + word_at 4 (get_or (take (extent_of s) s ∷ stretches_from n rest) i []) 0 ≡ length (get_or (take (extent_of s) s ∷ stretches_from n rest) i []) → ⊥)
-        → suc i ≡ suc (length (stretches_from n rest))
-    go s rest r q ih zero l w =
-        let a = takes_all s q w in
-        let z : length rest ≡ 0 = omega (arith, ap length r, length-drop (extent_of s) s) in
-        ap suc (sym (ap length (from_none rest n z)))
-    go s rest r q ih (suc i) l w = ap suc (ih i (omega arith) w)
-
-pub remainder_last : RemainderLast
-remainder_last tables i l n = last_from (length tables) tables (omega arith) i l n
-
--- a table whose length word is not its own length fails its check
-wrong_length : (t : List ℕ) → (4 + word_at 4 t 0 ≡ length t → ⊥) → tableCheck t ≡ false
-unfolding tableCheck layout_of
-wrong_length t n = rw (ne_eqb (4 + word_at 4 t 0) (length t) n) (go (leb 10 (length t)))
-  where
-    go : (b : Bool) → ((b && false) && program_right (decode t)) ≡ false
-    go true = refl
-    go false = refl
 
 -- ---- what is not refused
 
@@ -150,11 +97,6 @@ one_by_one tables notice verdicts after r d z =
         ∙ (no_default (verdicts_of tables notice) i 0 (f []) l
         ∙ (get_or-map f (stretches_of tables) i [] ∙ ap verdict_byte (sym e))))
 
-pub remainder_refused : RemainderRefused
-remainder_refused tables notice verdicts after r d z i h n =
-    let t = get_or (stretches_of tables) i [] in
-    (one_by_one tables notice verdicts after r d z).2 i (running_of t notice) h refl ∙ sym (byte_refused t notice (wrong_length t n))
-
 pub past_stays : PastStays
 past_stays tables notice verdicts after r d = go (dec_le 1 r.number)
   where
@@ -175,18 +117,17 @@ module _ (store notice verdicts after : List ℕ) (r : Matched) (m : Matches sto
   match_number = ap (λ (a : Matched). a.number) m.answer
 
   module _ (z : r.number ≡ 0) where
-    pub unrefused : (right_of store ≡ true) × (64 ≤ length verdicts) × (noticeCheck notice ≡ WellFormed)
-    unrefused = go (right_of store) refl (noticeCheck notice) refl (sym match_number ∙ z)
+    unrefused : (right_of store ≡ true) × (64 ≤ length verdicts)
+    unrefused = go (right_of store) refl (noticeCheck notice) (sym match_number ∙ z)
       where
         by_room : (b : Bool) → leb 64 (length verdicts) ≡ b → ◌≡◌ {A = ℕ} (cond b 0 9) 0 → 64 ≤ length verdicts
         by_room true p e = leb-true 64 (length verdicts) p
         by_room false p e = absurd (omega arith)
 
-        go : (b : Bool) → right_of store ≡ b → (l : Layout) → noticeCheck notice ≡ l → refused_by (pick b (λ _. some (places_in store)) (λ _. none)) l (length verdicts) ≡ 0
-            → (right_of store ≡ true) × (64 ≤ length verdicts) × (noticeCheck notice ≡ WellFormed)
-        go false p l q e = absurd (omega arith)
-        go true p (Fault place) q e = absurd (omega arith)
-        go true p WellFormed q e = (p, by_room (leb 64 (length verdicts)) refl e, q)
+        go : (b : Bool) → right_of store ≡ b → (l : Layout) → refused_by (pick b (λ _. some (places_in store)) (λ _. none)) l (length verdicts) ≡ 0 → (right_of store ≡ true) × (64 ≤ length verdicts)
+        go false p l e = absurd (omega arith)
+        go true p (Fault place) e = absurd (omega arith)
+        go true p WellFormed e = (p, by_room (leb 64 (length verdicts)) refl e)
 
     match_accepted : eqb (match_refusal store notice (length verdicts)) 0 ≡ true
     match_accepted = eq-eqb (match_refusal store notice (length verdicts)) 0 (sym match_number ∙ z)
@@ -199,10 +140,10 @@ module _ (store notice verdicts after : List ℕ) (r : Matched) (m : Matches sto
         let y : 0 + length (held_verdicts store notice) ≡ length (held_verdicts store notice) = omega arith in
         (rw match_accepted at m.bytes) ∙ (rw y at (sets-eq (held_verdicts store notice) verdicts 0 room))
 
-    pub match_byte : (n : ℕ) → n < 64 → get_or after n 0 ≡ place_byte notice (get_or (places_in store) n none)
+    match_byte : (n : ℕ) → n < 64 → get_or after n 0 ≡ place_byte notice (get_or (places_in store) n none)
     match_byte n h =
         ap (λ (t : List ℕ). get_or t n 0) match_bytes
-        ∙ (get_or-append (held_verdicts store notice) (drop (length (held_verdicts store notice)) verdicts) 0 n (omega (arith, bytes_64 store notice)) ∙ byte_at_lem store notice n h)
+        ∙ (get_or-append (held_verdicts store notice) (drop (length (held_verdicts store notice)) verdicts) 0 n (omega (arith, bytes_64 store notice)) ∙ byte_at store notice n h)
 
 pub store_one_by_one : StoreOneByOne
 store_one_by_one store notice verdicts after r m z n p h e =

@@ -1,4 +1,3 @@
 pub mod Many
 pub mod Held
-pub mod Calls
 pub mod Theorems

@@ -1,6 +1,5 @@
 -- What holds of many tables. The proofs are in proofs/Theorems.antt, under the same names.
-use Rattle.std.specs.Prelude.{ℕ, suc, ◌+◌, ◌≤◌, ◌<◌, ◌≡◌, List, [], ◌∷◌, ◌++◌, length, get_or, drop}
-use Rattle.word.specs.Word.{word_at}
+use Rattle.std.specs.Prelude.{ℕ, ◌≤◌, ◌<◌, ◌≡◌, List, [], ◌∷◌, ◌++◌, length, get_or, drop}
 use Rattle.interpreter.specs.Running.{running_of}
 use Rattle.interpreter.specs.declared.Ran.{Ran}
 use Rattle.store.specs.Calls.{part_of, fetched_of}
@@ -24,18 +23,6 @@ OneByOne =
     (tables notice verdicts after : List ℕ) (r : Delivered) → Delivers tables notice verdicts after r → r.number ≡ 0 →
     (r.count ≡ length (stretches_of tables)) × (r.count ≤ 64)
     × ((i : ℕ) (ran : Ran) → i < r.count → ran ≡ running_of (get_or (stretches_of tables) i []) notice → get_or after i 0 ≡ verdict_byte ran)
-
--- "if that passes the end, or 1 to 3 bytes are left, the remainder counts as one refused table": a stretch whose length word is not its own length is the last one ..
-abbrev pub RemainderLast : Type 0
-RemainderLast =
-    (tables : List ℕ) (i : ℕ) → i < length (stretches_of tables) → (4 + word_at 4 (get_or (stretches_of tables) i []) 0 ≡ length (get_or (stretches_of tables) i []) → ⊥)
-    → suc i ≡ length (stretches_of tables)
-
--- .. and where `run_many` is not refused, its byte is 3.
-abbrev pub RemainderRefused : Type 0
-RemainderRefused =
-    (tables notice verdicts after : List ℕ) (r : Delivered) → Delivers tables notice verdicts after r → r.number ≡ 0 →
-    (i : ℕ) → i < r.count → (4 + word_at 4 (get_or (stretches_of tables) i []) 0 ≡ length (get_or (stretches_of tables) i []) → ⊥) → get_or after i 0 ≡ 3
 
 -- "Bytes past the last verdict stay."
 abbrev pub PastStays : Type 0

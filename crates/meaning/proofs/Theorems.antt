@@ -5,7 +5,7 @@ use Rattle.word.specs.Word.{word_at}
 use Rattle.notice.specs.Layout.{starts_from}
 use Rattle.opcode.specs.declared.Edition.{Edition}
 use Rattle.lexer.specs.Token.{scan_of, tokens_from, tokens_of}
-use Rattle.pattern.specs.Computed.{items_from}
+use Rattle.pattern.specs.Wildcard.{items_from}
 use Rattle.grammar.specs.Grammar.{rank}
 use Rattle.grammar.specs.Parse.{level, level_of, parse_all}
 use Rattle.meaning.specs.Meaning.{item_of}

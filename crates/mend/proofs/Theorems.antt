@@ -11,6 +11,7 @@ use borrow.Author.Tests.{le-leb, leb-true, eqb-true, ne_eqb, lt-ltb}
 use Rattle.common.specs.Each.{Each}
 use Rattle.common.proofs.Each.{each_map}
 use Rattle.word.specs.Word.{word_at, word_bytes}
+use Rattle.notice.specs.declared.Layout.TheVariants as layouts
 use Rattle.notice.specs.Field.{Field}
 use Rattle.notice.specs.Render.{field_bytes, fields_bytes, header_bytes, render, NoticeFields}
 use Rattle.notice.specs.Layout.{unless, size_at, field_at, count_of, check_of, starts_from, starts_of, fields_of}

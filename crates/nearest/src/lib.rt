@@ -2,7 +2,7 @@
 ghost use Rattle.std.specs.Prelude.{◌≡◌, ◌+◌, ◌*◌, ◌^◌, ◌≤◌, pos, negsuc, ◌+ℤ◌, ◌-ℤ◌, ◌*ℤ◌, int_div, unsigned_abs};
 ghost use Rattle.nearest.specs.Nearest.{nearest_real, is_negative};
 
-// "the integer is rounded to the nearest f64, ties to even". Up to 2^53 a cast is exact, and faster than the call.
+// "the integer is rounded to the nearest f64, ties to even". Up to 2^53 it is a real.
 pub fn integer_real(z: i64) -> f64
     ensures { result ≡ nearest_real z }
 {
@@ -44,7 +44,7 @@ fn sticky(r: u64) -> u64
 }
 
 // Below 2^106 a number is two parts of 53 digits, both of them reals, and only their sum rounds. From 2^106 on the last 32 digits decide
-// nothing but a tie, so that one digit stands for them: again two parts of at most 53 digits.
+// nothing but a tie, so that one digit stands for them: two parts of 53 digits again.
 fn nearest_wide(hi: u64, lo: u64) -> f64
     ensures { result ≡ nearest_real (pos (hi * 2 ^ 64 + lo)) }
 {

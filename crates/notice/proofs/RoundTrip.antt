@@ -1,5 +1,5 @@
 -- The theorems that specs/RoundTrip.antt states. Assumes nothing.
-use Rattle.std.proofs.Common.{◌≡◌, ℕ, zero, suc, ◌+◌, ◌-◌, ◌<◌, ◌≤◌, List, [], ◌∷◌, ◌++◌, map, length, get_or, take, drop, sym, ap, ◌∙◌, ap₂, arith, length-append, drop-cons, get_or-append-add}
+use Rattle.std.proofs.Common.{◌≡◌, ℕ, zero, suc, ◌+◌, ◌-◌, ◌<◌, ◌≤◌, List, [], ◌∷◌, ◌++◌, map, length, get_or, take, drop, sym, refl, ap, ◌∙◌, ap₂, arith, length-append, drop-cons, get_or-append-add}
 use mathlib.Core.List.{Permᴰ}
 use lib.ListN.{get_or-append}
 use lib.Seq.{drop-length, get_or-append_seam}
@@ -10,7 +10,7 @@ use Rattle.notice.specs.Field.{Field}
 use Rattle.notice.specs.Layout.{count_of, check_of, fields_of}
 use Rattle.notice.specs.Read.{blank, read_field}
 use Rattle.notice.specs.Write.{field, insert_field, written_of, written_bytes, Writes}
-use Rattle.notice.specs.RoundTrip.{ReadCall, Copies, NoneRefused, numbers_from, ReadWrittenAgain, answered, Gives, ReadsBack, WrittenReadBack}
+use Rattle.notice.specs.RoundTrip.{ReadCall, WriteCall, Copies, NoneRefused, numbers_from, ReadWrittenAgain, answered, Gives, ReadsBack, WrittenReadBack}
 use Rattle.notice.proofs.Renders.{rendered_count}
 use Rattle.notice.proofs.Keys.{bytes_take}
 use Rattle.notice.proofs.Theorems.{count_fields, read_below, number_zero, left_by, write_adds, insert_adds, written_again}

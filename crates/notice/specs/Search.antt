@@ -55,7 +55,7 @@ StandsTo s name Standing.Below = before_of s name ≡ true
 StandsTo s name Standing.Same = s ≡ name
 StandsTo s name Standing.Above = before_of name s ≡ true
 
--- What a search in the notice s answers: how many names are not below the one sought, and where the field stands if one has the name; without one the place is free.
+-- Where the search stops in the notice s: all names below the one sought are before it, and if a field has the name, it is there.
 pub record Stops (s name : List ℕ) (r : Stop) : Type 0 where
   pub left : below_of name (fields_of s) + r.left ≡ count_of s
   pub index : index_of name (fields_of s) ≡ cond r.found (some (below_of name (fields_of s))) none

@@ -1,5 +1,4 @@
 // The search for a name. Document 02, request 11: "Names rise, so in a notice found well-formed the search for a field should stop at the first name not below the one sought".
-// `search` and `walked` stop there. `halved` is a binary search, which looks at some names above the one sought too, at most 7 names in all; it has the same promise.
 ghost use Rattle.std.specs.Prelude.{◌≡◌, true, ◌∷◌, drop};
 ghost use Rattle.notice.specs.Layout.{name_at, right_at, check_of, Indexed};
 ghost use Rattle.notice.specs.declared.Layout.TheVariants.{WellFormed};
@@ -16,8 +15,7 @@ enum Standing {
     Above,
 }
 
-// What a search answers: how many fields have names not below the one sought, whether one of them has the name, and if so its start.
-// If none has it, `at` is free: `search` leaves the first field not below or the notice's end, the others the last field looked at.
+// Where the search stops: the start of the first field whose name is not below the one sought, how many fields are left from there on, and whether that field has the name.
 #[derive(Drop)]
 pub(crate) struct Stop {
     pub at: usize,

@@ -144,7 +144,7 @@ pub fn arithmetic(op: Arithmetic, a: Number, b: Number) -> Number
     on_reals(op, in_arithmetic(a), in_arithmetic(b))
 }
 
-// Two int32: computed in 64 bits, `/` and `%` in 32, and narrowed where the result fits. "A zero divisor, whole or real, gives bottom."
+// Two int32 in their own width. "A zero divisor, whole or real, gives bottom."
 fn on_int32(op: Arithmetic, a: i32, b: i32) -> Number
     ensures { result ≡ arithmetic_of op (Number.Int32 a) (Number.Int32 b) }
 {
@@ -288,7 +288,7 @@ pub fn equal(a: Number, b: Number) -> Truth
     }
 }
 
-// The same of two int32, for a caller that has matched both.
+// The same of two int32, for a caller that has told them.
 pub fn equal_int32(x: i32, y: i32) -> Truth
     ensures { result ≡ equal_of (Number.Int32 x) (Number.Int32 y) }
 {

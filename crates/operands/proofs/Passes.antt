@@ -12,7 +12,7 @@ use lib.Seq.{drop-cons}
 use borrow.Author.Tests.{ltb-false}
 use Rattle.common.proofs.Choice.{true_false}
 use Rattle.opcode.specs.Number.{wildcard_op, regex_op}
-use Rattle.pattern.specs.Computed.{well_formed}
+use Rattle.pattern.specs.Wildcard.{well_formed}
 use Rattle.regexp.specs.Regex.{well_formed as regexFormed}
 use Rattle.lexer.specs.Token.{string_at}
 use Rattle.grammar.specs.Judge.{takes_patterns, pattern_test}

@@ -14,9 +14,8 @@ use lib.Seq.{drop-drop}
 use Rattle.common.specs.Choice.{pick}
 use Rattle.common.proofs.Choice.{true_false, false_true}
 use Rattle.octets.proofs.Theorems.{and_parts, or_parts}
-use Rattle.pattern.specs.Sets.{spans_of, width_of, is_set}
-use Rattle.pattern.specs.Wildcard.{Item, plain, any, set, run, Part, part, fault, escaped_part, set_from, set_part, part_of, takes}
-use Rattle.pattern.specs.Computed.{with_first, items_of, first_fits, some_rest, fits_read, wildcard_of}
+use Rattle.pattern.specs.Sets.{spans_of, width_of}
+use Rattle.pattern.specs.Wildcard.{Item, plain, any, set, run, Part, part, fault, escaped_part, is_set, set_from, set_part, part_of, takes, with_first, items_of, first_fits, some_rest, fits_read, wildcard_of}
 use Rattle.pattern.specs.Steps.{begins, taken_of, only_runs}
 use Rattle.pattern.proofs.Texts.{sign_here}
 use Rattle.pattern.proofs.Items.{PartTold, part_told, part_head, fault_head, items_nil}

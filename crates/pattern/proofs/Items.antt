@@ -13,9 +13,8 @@ use borrow.Author.Tests.{eq-eqb, ne_eqb}
 use Rattle.common.specs.Choice.{pick}
 use Rattle.octets.specs.Octets.{fold, folded}
 use Rattle.octets.proofs.Laws.{drop_map}
-use Rattle.pattern.specs.Sets.{spans_of, in_spans, width_of, is_set}
-use Rattle.pattern.specs.Wildcard.{Item, plain, any, set, run, Part, part, fault, escaped_part, set_from, set_part, part_of}
-use Rattle.pattern.specs.Computed.{with_first, and_more, items_from, items_of, is_some, well_formed}
+use Rattle.pattern.specs.Sets.{spans_of, in_spans, width_of}
+use Rattle.pattern.specs.Wildcard.{Item, plain, any, set, run, Part, part, fault, escaped_part, is_set, set_from, set_part, part_of, with_first, and_more, items_from, items_of, is_some, well_formed}
 use Rattle.pattern.specs.Steps.{begins, test_at, end_of, taken_of, set_end_of, set_taken_of, plain_taken, only_runs}
 use Rattle.pattern.specs.declared.sets.SetTest.TheVariants.{Ends, Bad}
 use Rattle.pattern.proofs.Texts.{run_sign, any_sign, set_sign, back_sign, keeps, here, past, is_sign, no_sign, inside, sign_here}

@@ -3,5 +3,4 @@ pub mod Ranges
 pub mod Items
 pub mod Greedy
 pub mod Local
-pub mod Causes
 pub mod Theorems

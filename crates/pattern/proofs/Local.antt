@@ -9,8 +9,8 @@ use lib.ListN.{length, take}
 use Rattle.common.specs.Choice.{pick}
 use Rattle.common.proofs.Choice.{false_true}
 use Rattle.octets.proofs.Theorems.{and_parts}
-use Rattle.pattern.specs.Sets.{Member, member, members, spans, spans_of, closes_by, closes, is_closed, rises, is_empty, width_by, width_from, width_of, is_set}
-use Rattle.pattern.specs.Wildcard.{Item, plain, any, set, run, Part, part, fault, escaped_part, set_from, set_part, part_of}
+use Rattle.pattern.specs.Sets.{Member, member, members, spans, spans_of, closes_by, closes, is_closed, rises, is_empty, width_by, width_from, width_of}
+use Rattle.pattern.specs.Wildcard.{Item, plain, any, set, run, Part, part, fault, escaped_part, is_set, set_from, set_part, part_of}
 use Rattle.pattern.specs.Steps.{begins}
 use Rattle.pattern.proofs.Items.{no_mark}
 

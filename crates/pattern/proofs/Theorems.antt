@@ -1,7 +1,7 @@
 -- The theorems that specs/Theorems.antt states. Assumes nothing.
 use mathlib.Core.Path.{◌≡◌, refl, sym, ap, ◌∙◌, subst}
 use mathlib.Core.Logic.{◌⊎◌, inl, inr}
-use mathlib.Core.Bool.{Bool, true, false, or-true}
+use mathlib.Core.Bool.{Bool, true, false, not, ◌&&◌, or-true, and-false}
 use mathlib.Core.List.{List, [], ◌∷◌, ◌++◌, append_assoc}
 use mathlib.Core.Option.{Option, none, some}
 use Prim.Native.Nat.{ℕ, zero, suc, ◌+◌, ◌≤◌}
@@ -13,13 +13,10 @@ use borrow.Author.Tests.{eqb-true, ne_eqb}
 use Rattle.common.specs.Choice.{pick}
 use Rattle.common.proofs.Choice.{true_false, false_true}
 use Rattle.octets.proofs.Theorems.{and_parts, or_parts}
-use Rattle.pattern.specs.Sets.{spans_of, width_of, is_set}
-use Rattle.pattern.specs.Wildcard.{Item, plain, any, set, run, Part, part, fault, escaped_part, set_from, set_part, part_of, Reads, end, next, WellFormed, takes, FitsOne, FitsRun, Fits, Accepts}
-use Rattle.pattern.specs.Computed.{with_first, items_of, is_some, first_fits, some_rest, fits_items, fits_read, wildcard_of}
+use Rattle.pattern.specs.Sets.{spans_of, is_closed, is_empty, rises, width_of}
+use Rattle.pattern.specs.Wildcard.{Item, plain, any, set, run, Part, part, fault, escaped_part, is_set, set_from, set_part, part_of, Reads, end, next, WellFormed, takes, FitsOne, FitsRun, Fits, Accepts, with_first, items_of, is_some, first_fits, some_rest, fits_items, fits_read, wildcard_of}
 use Rattle.pattern.specs.Steps.{begins}
-use Rattle.pattern.specs.Causes.{Behind, Fault, backslash_last, IllFormed, faulty}
-use Rattle.pattern.specs.Theorems.{ReadsExactly, OneReading, WellFormedExactly, IllFormedExactly, RefusesExactly, FitsExactly}
-use Rattle.pattern.proofs.Causes.{set_fault, of_fault}
+use Rattle.pattern.specs.Theorems.{OneReading, WellFormedExactly, FitsExactly, Behind, Fault, backslash, unclosed, empty, falling, IllFormedExactly}
 use Rattle.pattern.proofs.Items.{no_mark, part_head, fault_head, items_nil}
 use Rattle.pattern.proofs.Local.{local, no_part}
 
@@ -66,14 +63,11 @@ read_as (suc n) (b ∷ r) h = go (part_of (b ∷ r)) refl (λ k. read_as n (drop
 items_reads : (p : List ℕ) (is : List Item) → items_of p ≡ some is → Reads p is
 items_reads p is e = subst (ReadAs p) e (read_as (length p) p (omega arith))
 
-pub reads_exactly : ReadsExactly
-reads_exactly p is = (items_reads p is, reads_items p is)
-
 pub one_reading : OneReading
 one_reading p is js r s = ap unread (sym (reads_items p is r) ∙ reads_items p js s)
 
 pub well_formed_exactly : WellFormedExactly
-well_formed_exactly p answer a = (λ e. go (items_of p) refl (sym a ∙ e), λ w. a ∙ ap is_some (reads_items p w.0 w.1))
+well_formed_exactly p = (λ e. go (items_of p) refl e, λ w. ap is_some (reads_items p w.0 w.1))
   where
     go : (o : Option (List Item)) → items_of p ≡ o → is_some o ≡ true → WellFormed p
     go none e h = false_true h
@@ -122,7 +116,7 @@ fits_computed (set out xs ∷ is) x f = fits_one (set out xs) is (fits_computed 
 fits_computed (run ∷ is) x f = fits_run is (fits_computed is) x f
 
 pub fits_exactly : FitsExactly
-fits_exactly x p answer a = (λ e. go (items_of p) refl (sym a ∙ e), λ y. a ∙ back y.0 y.1 y.2)
+fits_exactly x p = (λ e. go (items_of p) refl e, λ a. back a.0 a.1 a.2)
   where
     go : (o : Option (List Item)) → items_of p ≡ o → fits_read o x ≡ true → Accepts p x
     go none e h = false_true h
@@ -135,6 +129,24 @@ fits_exactly x p answer a = (λ e. go (items_of p) refl (sym a ∙ e), λ y. a �
 no_item : {A : Type 0} (i : Item) (k : ℕ) → part i k ≡ fault → A
 no_item i k e = no_part i k (sym e)
 
+bad_set : (s : List ℕ) → is_set s ≡ false → (is_closed s ≡ false) ⊎ ((is_empty (spans_of s) ≡ true) ⊎ (rises (spans_of s) ≡ false))
+bad_set s e = go (is_closed s) (is_empty (spans_of s)) (rises (spans_of s)) refl refl refl e
+  where
+    go : (x y z : Bool) → is_closed s ≡ x → is_empty (spans_of s) ≡ y → rises (spans_of s) ≡ z → x && (not y && z) ≡ false
+        → (is_closed s ≡ false) ⊎ ((is_empty (spans_of s) ≡ true) ⊎ (rises (spans_of s) ≡ false))
+    go false y z a b c h = inl a
+    go true true z a b c h = inr (inl b)
+    go true false false a b c h = inr (inr c)
+    go true false true a b c h = true_false h
+
+set_fault : (r s : List ℕ) → Behind r s → is_set s ≡ false → Fault (91 ∷ r)
+set_fault r s b e = go (bad_set s e)
+  where
+    go : (is_closed s ≡ false) ⊎ ((is_empty (spans_of s) ≡ true) ⊎ (rises (spans_of s) ≡ false)) → Fault (91 ∷ r)
+    go (inl h) = unclosed r s b h
+    go (inr (inl h)) = empty r s b h
+    go (inr (inr h)) = falling r s b h
+
 from_fault : (out : Bool) (k : ℕ) (s : List ℕ) → set_from out k s ≡ fault → is_set s ≡ false
 from_fault out k s e = go (is_set s) e
   where
@@ -146,30 +158,30 @@ abbrev first : List ℕ → ℕ
 first [] = 0
 first (b ∷ r) = b
 
-fault_set : (r : List ℕ) → set_part r ≡ fault → Fault 33 (91 ∷ r)
-fault_set [] e = set_fault 33 [] [] (inr (refl, λ t q. let z : ◌≡◌ {A = ℕ} 0 (suc (length t)) = ap length q in absurd (omega arith))) refl
+fault_set : (r : List ℕ) → set_part r ≡ fault → Fault (91 ∷ r)
+fault_set [] e = set_fault [] [] (inr (refl, λ t q. let z : ◌≡◌ {A = ℕ} 0 (suc (length t)) = ap length q in absurd (omega arith))) refl
 fault_set (b ∷ s) e = go (eqb b 33) refl e
   where
-    go : (x : Bool) → eqb b 33 ≡ x → pick x (λ _. set_from true 1 s) (λ _. set_from false 0 (b ∷ s)) ≡ fault → Fault 33 (91 ∷ (b ∷ s))
-    go true q h = set_fault 33 (b ∷ s) s (inl (ap (λ (k : ℕ). k ∷ s) (eqb-true b 33 q))) (from_fault true 1 s h)
-    go false q h = set_fault 33 (b ∷ s) (b ∷ s) (inr (refl, λ t z. no (ap first z))) (from_fault false 0 (b ∷ s) h)
+    go : (x : Bool) → eqb b 33 ≡ x → pick x (λ _. set_from true 1 s) (λ _. set_from false 0 (b ∷ s)) ≡ fault → Fault (91 ∷ (b ∷ s))
+    go true q h = set_fault (b ∷ s) s (inl (ap (λ (k : ℕ). k ∷ s) (eqb-true b 33 q))) (from_fault true 1 s h)
+    go false q h = set_fault (b ∷ s) (b ∷ s) (inr (refl, λ t z. no (ap first z))) (from_fault false 0 (b ∷ s) h)
       where
         no : b ≡ 33 → ⊥
         no z = let w : eqb 33 33 ≡ false = (rw z at q) in true_false w
 
-fault_escaped : (r : List ℕ) → escaped_part r ≡ fault → Fault 33 (92 ∷ r)
-fault_escaped [] e = backslash_last
+fault_escaped : (r : List ℕ) → escaped_part r ≡ fault → Fault (92 ∷ r)
+fault_escaped [] e = backslash
 fault_escaped (b ∷ r) e = no_item (plain b) 1 e
 
-fault_kind : (b : ℕ) (r : List ℕ) → part_of (b ∷ r) ≡ fault → Fault 33 (b ∷ r)
+fault_kind : (b : ℕ) (r : List ℕ) → part_of (b ∷ r) ≡ fault → Fault (b ∷ r)
 fault_kind b r e = go (eqb b 42) (eqb b 63) (eqb b 92) (eqb b 91) refl refl e
   where
     go : (x y u w : Bool) → eqb b 92 ≡ u → eqb b 91 ≡ w
-        → pick x (λ _. part run 0) (λ _. pick y (λ _. part any 0) (λ _. pick u (λ _. escaped_part r) (λ _. pick w (λ _. set_part r) (λ _. part (plain b) 0)))) ≡ fault → Fault 33 (b ∷ r)
+        → pick x (λ _. part run 0) (λ _. pick y (λ _. part any 0) (λ _. pick u (λ _. escaped_part r) (λ _. pick w (λ _. set_part r) (λ _. part (plain b) 0)))) ≡ fault → Fault (b ∷ r)
     go true y u w g h q = no_item run 0 q
     go false true u w g h q = no_item any 0 q
-    go false false true w g h q = subst (λ (k : ℕ). Fault 33 (k ∷ r)) (sym (eqb-true b 92 g)) (fault_escaped r q)
-    go false false false true g h q = subst (λ (k : ℕ). Fault 33 (k ∷ r)) (sym (eqb-true b 91 h)) (fault_set r q)
+    go false false true w g h q = subst (λ (k : ℕ). Fault (k ∷ r)) (sym (eqb-true b 92 g)) (fault_escaped r q)
+    go false false false true g h q = subst (λ (k : ℕ). Fault (k ∷ r)) (sym (eqb-true b 91 h)) (fault_set r q)
     go false false false false g h q = no_item (plain b) 0 q
 
 -- and the other way
@@ -177,28 +189,37 @@ unmarked : (s : List ℕ) → ((t : List ℕ) → s ≡ 33 ∷ t → ⊥) → be
 unmarked [] h = refl
 unmarked (b ∷ t) h = ne_eqb b 33 (λ e. h t (ap (λ (k : ℕ). k ∷ t) e))
 
-behind_fault : (r s : List ℕ) → Behind 33 r s → is_set s ≡ false → set_part r ≡ fault
+behind_fault : (r s : List ℕ) → Behind r s → is_set s ≡ false → set_part r ≡ fault
 behind_fault r s (inl e) h = rw (e, h)
 behind_fault r s (inr (e, n)) h = rw (e, no_mark s (unmarked s n), h)
 
-fault_items : {r : List ℕ} → Fault 33 r → items_of r ≡ none
-fault_items f = of_fault (λ (z : List ℕ). items_of z ≡ none) 33 (fault_head 92 [] refl) (λ q s b e. fault_head 91 q (behind_fault q s b e)) f
+fault_items : (r : List ℕ) → Fault r → items_of r ≡ none
+fault_items r backslash = fault_head 92 [] refl
+fault_items r (unclosed q s b e) = fault_head 91 q (behind_fault q s b (rw e))
+fault_items r (empty q s b e) = fault_head 91 q (behind_fault q s b (rw e (and-false (is_closed s))))
+fault_items r (falling q s b e) = fault_head 91 q (behind_fault q s b (rw (e, and-false (not (is_empty (spans_of s)))) (and-false (is_closed s))))
 
 -- ---- what is ill-formed
+abbrev Broken : List ℕ → Type 0
+Broken p = (q : List ℕ) × (r : List ℕ) × (is : List Item) × (p ≡ q ++ r) × Reads q is × Fault r
+
 drop_take : (k : ℕ) (p q : List ℕ) → k ≤ length p → drop k (take k p ++ q) ≡ q
 drop_take zero p q h = refl
 drop_take (suc k) [] q h = absurd (omega arith)
 drop_take (suc k) (b ∷ p) q h = drop_take k p q (omega arith)
 
-broken_later : (p : List ℕ) (i : Item) (k : ℕ) → part_of p ≡ part i k → IllFormed (drop (suc k) p) → IllFormed p
-broken_later p i k e (faulty q r is d s f) =
-    let l = local p q i k e in
-    faulty (take (suc k) p ++ q) r (i ∷ is)
-    (append_assoc (take (suc k) p) q r ∙ ap (λ (z : List ℕ). take (suc k) p ++ z) d ∙ take-append-drop (suc k) p)
-    (next {k = k} l.0 (subst (λ (z : List ℕ). Reads z is) (sym (drop_take (suc k) p q l.1)) s))
-    f
+broken_later : (p : List ℕ) (i : Item) (k : ℕ) → part_of p ≡ part i k → Broken (drop (suc k) p) → Broken p
+broken_later p i k e (q, r, is, d, s, f) =
+    let l = local p q i k e in (
+      take (suc k) p ++ q,
+      r,
+      i ∷ is,
+      sym (take-append-drop (suc k) p) ∙ ap (λ (z : List ℕ). take (suc k) p ++ z) d ∙ sym (append_assoc (take (suc k) p) q r),
+      next {k = k} l.0 (subst (λ (z : List ℕ). Reads z is) (sym (drop_take (suc k) p q l.1)) s),
+      f,
+    )
 
-broken : (n : ℕ) (p : List ℕ) → length p ≤ n → items_of p ≡ none → IllFormed p
+broken : (n : ℕ) (p : List ℕ) → length p ≤ n → items_of p ≡ none → Broken p
 broken zero [] h e = none_some [] (sym e ∙ items_nil)
 broken zero (b ∷ r) h e = absurd (omega arith)
 broken (suc n) [] h e = none_some [] (sym e ∙ items_nil)
@@ -208,9 +229,9 @@ broken (suc n) (b ∷ r) h e = go (part_of (b ∷ r)) refl (λ k. broken n (drop
     rest i none q = refl
     rest i (some is) q = none_some (i ∷ is) (sym q)
 
-    go : (x : Part) → part_of (b ∷ r) ≡ x → ((k : ℕ) → items_of (drop k r) ≡ none → IllFormed (drop k r)) → IllFormed (b ∷ r)
+    go : (x : Part) → part_of (b ∷ r) ≡ x → ((k : ℕ) → items_of (drop k r) ≡ none → Broken (drop k r)) → Broken (b ∷ r)
     go (part i k) q more = broken_later (b ∷ r) i k q (more k (rest i (items_of (drop k r)) (sym (part_head b r i k q) ∙ e)))
-    go fault q more = faulty [] (b ∷ r) [] refl end (fault_kind b r q)
+    go fault q more = ([], b ∷ r, [], refl, end, fault_kind b r q)
 
 -- a part stays if more bytes follow
 longer : (q r : List ℕ) (i : Item) (k : ℕ) → part_of q ≡ part i k → (part_of (q ++ r) ≡ part i k) × (suc k ≤ length q)
@@ -220,8 +241,8 @@ longer q r i k e =
     sym (append_assoc (take (suc k) q) (drop (suc k) q) r) ∙ ap (λ (z : List ℕ). z ++ r) (take-append-drop (suc k) q) in
     (ap part_of (sym d) ∙ l.0, l.1)
 
-broken_items : (q r : List ℕ) (is : List Item) → Reads q is → Fault 33 r → items_of (q ++ r) ≡ none
-broken_items [] r [] end f = fault_items f
+broken_items : (q r : List ℕ) (is : List Item) → Reads q is → Fault r → items_of (q ++ r) ≡ none
+broken_items [] r [] end f = fault_items r f
 broken_items q r (i ∷ is) (next {k} e s) f =
     let l = longer q r i k e in
     step_items (q ++ r) i k l.0
@@ -235,12 +256,6 @@ ill_formed_exactly p = (λ h. broken (length p) p (omega arith) (go (items_of p)
     go none e h = e
     go (some is) e h = absurd (h (is, items_reads p is e))
 
-    back : IllFormed p → WellFormed p → ⊥
-    back (faulty q r js d s f) (is, t) = none_some is (sym (broken_items q r js s f) ∙ ap items_of d ∙ reads_items p is t)
-
-pub refuses_exactly : RefusesExactly
-refuses_exactly p answer a = (λ e. (ill_formed_exactly p).0 (λ w. true_false (sym ((well_formed_exactly p answer a).1 w) ∙ e)), λ i. go answer refl ((ill_formed_exactly p).1 i))
-  where
-    go : (b : Bool) → answer ≡ b → (WellFormed p → ⊥) → answer ≡ false
-    go true e h = absurd (h ((well_formed_exactly p answer a).0 e))
-    go false e h = e
+    back : Broken p → WellFormed p → ⊥
+    back (q, r, js, d, s, f) (is, t) =
+        none_some is (sym (broken_items q r js s f) ∙ ap items_of (sym d) ∙ reads_items p is t)

@@ -1,5 +1,5 @@
 -- Bracket sets: what stands behind the `[` and the mark of a complement, up to the first unescaped `]`. Document 02, requests 1 and 13.
-use Rattle.std.specs.Prelude.{ℕ, suc, Bool, true, false, not, ◌&&◌, ◌||◌, List, [], ◌∷◌, eqb, leb}
+use Rattle.std.specs.Prelude.{ℕ, suc, Bool, true, false, ◌&&◌, ◌||◌, List, [], ◌∷◌, eqb, leb}
 use Rattle.common.specs.Choice.{pick}
 
 -- a member: whether it is escaped, and its byte
@@ -71,10 +71,6 @@ rises (span low high ∷ xs) = leb low high && rises xs
 abbrev pub is_empty : List Span → Bool
 is_empty [] = true
 is_empty (x ∷ xs) = false
-
--- "An unclosed or empty set (`[!]` too), a range that falls" are ill-formed
-abbrev pub is_set : List ℕ → Bool
-is_set s = is_closed s && (not (is_empty (spans_of s)) && rises (spans_of s))
 
 -- how many bytes the set takes, with the `]`
 abbrev pub width_by : Bool → Bool → (Bool → ℕ) → ℕ

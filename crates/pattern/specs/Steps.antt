@@ -1,8 +1,8 @@
 -- What the code reads at an index of a pattern's text: a member of a set, a range, a set, an item. proofs/Ranges.antt and proofs/Items.antt join these to specs/Sets.antt and specs/Wildcard.antt.
 use Rattle.std.specs.Prelude.{ℕ, ◌+◌, Bool, true, false, not, ◌&&◌, List, [], ◌∷◌, eqb, drop}
 use Rattle.common.specs.Choice.{pick}
-use Rattle.pattern.specs.Sets.{spans_of, in_spans, width_of, is_set}
-use Rattle.pattern.specs.Wildcard.{Part, part, fault, takes}
+use Rattle.pattern.specs.Sets.{spans_of, in_spans, width_of}
+use Rattle.pattern.specs.Wildcard.{is_set, Part, part, fault, takes}
 use Rattle.pattern.specs.declared.sets.Piece.{Piece}
 use Rattle.pattern.specs.declared.sets.Piece.TheVariants.{Range, Close, End}
 use Rattle.pattern.specs.declared.sets.SetTest.{SetTest}

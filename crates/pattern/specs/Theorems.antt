@@ -1,30 +1,31 @@
--- What the computing definitions of specs/Computed.antt say, and what is ill-formed. The proofs are in proofs/Theorems.antt, under the same names. Crate regex has the same six theorems of its patterns.
-use Rattle.std.specs.Prelude.{ℕ, ◌≡◌, ◌↔◌, Bool, true, false, List}
-use Rattle.std.proofs.Math.Option.{some}
-use Rattle.pattern.specs.Wildcard.{Item, Reads, WellFormed, Accepts}
-use Rattle.pattern.specs.Causes.{IllFormed}
-use Rattle.pattern.specs.Computed.{items_of, well_formed, wildcard_of}
+-- What the computing definitions of specs/Wildcard.antt say, and what is ill-formed. The proofs are in proofs/Theorems.antt, under the same names.
+use Rattle.std.specs.Prelude.{ℕ, ◌≡◌, ◌↔◌, ◌⊎◌, Bool, true, false, List, [], ◌∷◌, ◌++◌}
+use Rattle.pattern.specs.Sets.{spans_of, is_closed, is_empty, rises}
+use Rattle.pattern.specs.Wildcard.{Item, Reads, WellFormed, Accepts, well_formed, wildcard_of}
 
--- What is computed from a text are the items that it is read into.
-abbrev pub ReadsExactly : Type 0
-ReadsExactly = (p : List ℕ) (is : List Item) → (items_of p ≡ some is) ↔ Reads p is
-
--- A text has one reading at most.
+-- A text is read into one list of items at most.
 abbrev pub OneReading : Type 0
 OneReading = (p : List ℕ) (is js : List Item) → Reads p is → Reads p js → is ≡ js
 
--- `well_formed`, which promises to answer `well_formed p`, answers true exactly for the patterns.
+-- `well_formed` answers true exactly for the patterns.
 abbrev pub WellFormedExactly : Type 0
-WellFormedExactly = (p : List ℕ) (answer : Bool) → answer ≡ well_formed p → (answer ≡ true) ↔ WellFormed p
+WellFormedExactly = (p : List ℕ) → (well_formed p ≡ true) ↔ WellFormed p
 
--- ".. are ill-formed, nothing else": a text is no pattern exactly if one of the causes that the request names is in it.
-abbrev pub IllFormedExactly : Type 0
-IllFormedExactly = (p : List ℕ) → (WellFormed p → ⊥) ↔ IllFormed p
-
--- `well_formed` answers false exactly for those texts.
-abbrev pub RefusesExactly : Type 0
-RefusesExactly = (p : List ℕ) (answer : Bool) → answer ≡ well_formed p → (answer ≡ false) ↔ IllFormed p
-
--- "Acceptance must equal a definition of the patterns that doesn't run the matcher": `fits`, which promises to answer `wildcard_of x p` for value and pattern under their folding marks, answers true exactly where the value fits the pattern.
+-- `fits` answers true exactly where the value fits the pattern.
 abbrev pub FitsExactly : Type 0
-FitsExactly = (x p : List ℕ) (answer : Bool) → answer ≡ wildcard_of x p → (answer ≡ true) ↔ Accepts p x
+FitsExactly = (x p : List ℕ) → (wildcard_of x p ≡ true) ↔ Accepts p x
+
+-- What follows the mark of a complement, if there is one.
+abbrev pub Behind : List ℕ → List ℕ → Type 0
+Behind r s = (r ≡ 33 ∷ s) ⊎ ((r ≡ s) × ((t : List ℕ) → s ≡ 33 ∷ t → ⊥))
+
+-- "An unclosed or empty set (`[!]` too), a range that falls and a backslash at the end are ill-formed": a text that begins with one of the four.
+pub data Fault : List ℕ → Type 0 where
+  backslash : Fault (92 ∷ [])
+  unclosed : (r s : List ℕ) → Behind r s → is_closed s ≡ false → Fault (91 ∷ r)
+  empty : (r s : List ℕ) → Behind r s → is_empty (spans_of s) ≡ true → Fault (91 ∷ r)
+  falling : (r s : List ℕ) → Behind r s → rises (spans_of s) ≡ false → Fault (91 ∷ r)
+
+-- ".. nothing else": a text is no pattern exactly if after some items one of the four begins.
+abbrev pub IllFormedExactly : Type 0
+IllFormedExactly = (p : List ℕ) → (WellFormed p → ⊥) ↔ ((q : List ℕ) × (r : List ℕ) × (is : List Item) × (p ≡ q ++ r) × Reads q is × Fault r)

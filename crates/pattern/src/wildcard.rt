@@ -2,8 +2,7 @@
 ghost use Rattle.std.specs.Prelude.{◌≡◌, ◌+◌, drop};
 ghost use Rattle.octets.specs.Octets.{folded};
 ghost use Rattle.pattern.specs.Steps.{end_of, taken_of, set_end_of, set_taken_of, plain_taken, only_runs};
-ghost use Rattle.pattern.specs.Wildcard.{set_part, part_of};
-ghost use Rattle.pattern.specs.Computed.{well_formed, wildcard_of};
+ghost use Rattle.pattern.specs.Wildcard.{set_part, part_of, well_formed, wildcard_of};
 
 use crate::sets::{SetTest, begins, set_test};
 use octets::fold;

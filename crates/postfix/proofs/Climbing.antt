@@ -12,7 +12,7 @@ use borrow.Author.Tests.{ne_eqb, ltb-true, leb-true}
 use Rattle.common.proofs.Choice.{false_true}
 use Rattle.lexer.specs.Kind.{opening, closing, comma, ending}
 use Rattle.lexer.specs.Token.{Token}
-use Rattle.grammar.specs.Tree.{Tree, leaf, binary, Trees, none, ◌then◌}
+use Rattle.grammar.specs.Tree.{Tree, leaf, binary, call, Trees, none, ◌then◌}
 use Rattle.grammar.specs.Grammar.{rank, is_prefix}
 use Rattle.grammar.specs.Parse.{Result, ok, bad, and_then, token_at, kind_at, level_of, prefix_of, operand_of, arguments_of}
 use Rattle.grammar.specs.Function.{function_of}
@@ -21,8 +21,9 @@ use Rattle.grammar.specs.Marks.{calling, is_operand}
 use Rattle.grammar.specs.Code.{codes_in}
 use Rattle.grammar.proofs.Sound.{at_kind, at_rank_lem}
 use Rattle.grammar.proofs.Streams.{rank_high}
-use Rattle.grammar.proofs.Laws.{operator_entries, prefix_plain, operand_group, operand_call, operand_call_none, args_comma, args_close, args_other, args_bad}
+use Rattle.grammar.proofs.Laws.{operator_entries}
 use Rattle.grammar.proofs.Climb.{Spine, spine_start, spine_bad, stops_below, stops_above, spine-broken, spine-on}
+use Rattle.grammar.proofs.Laws.{prefix_plain, operand_group, operand_call, operand_call_none, args_comma, args_close, args_other, args_bad}
 use Rattle.postfix.specs.Marked.{Marked}
 use Rattle.postfix.specs.Packed.{packed, next_in, end_in, broken, known_of, none_known, mark_after, mark_before, right_start, binary_part, binary_codes, group_part, leaf_part, leaf_codes, more_part, call_part, call_codes}
 use Rattle.postfix.specs.Answer.{Answered, Run}

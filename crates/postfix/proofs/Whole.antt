@@ -1,20 +1,18 @@
 -- The answer of the whole, from the number of the expression that starts the tokens. Assumes nothing.
 use Prim.Native.Nat.{ℕ, ◌+◌, ◌≤◌, ◌<◌}
 use native.Mathlib.Omega.{arith}
-use native.Mathlib.Decide.{ℕ_discrete, dec_lt}
-use lib.Dec.{ltb}
-use mathlib.Core.Path.{◌≡◌, refl, sym, ap, ◌∙◌}
+use native.Mathlib.Decide.{ℕ_discrete}
+use mathlib.Core.Path.{◌≡◌, refl, sym, ◌∙◌}
 use mathlib.Core.Bool.{false}
 use mathlib.Core.List.{List}
 use lib.ListN.{length}
-use borrow.Author.Tests.{eq-eqb, ne_eqb, lt-ltb, le-ltb}
+use borrow.Author.Tests.{eq-eqb, ne_eqb}
 use Rattle.lexer.specs.Token.{Token}
 use Rattle.grammar.specs.Tree.{Tree}
 use Rattle.grammar.specs.Parse.{Result, ok, bad, level_of, parse_all}
-use Rattle.grammar.specs.Size.{entries_of, depth_of}
-use Rattle.grammar.specs.Judge.{patterns_right}
-use Rattle.postfix.specs.Packed.{next_in, end_in, counted_to, broken, known_of}
-use Rattle.postfix.specs.Answer.{answer_of, number_of, place_of, Numbered, Leaves, Answered, read_by}
+use Rattle.grammar.specs.Size.{entries_of}
+use Rattle.postfix.specs.Packed.{next_in, end_in, broken, known_of}
+use Rattle.postfix.specs.Answer.{answer_of, Leaves, Answered, read_by}
 use Rattle.postfix.specs.declared.Parsed.{Parsed}
 use Rattle.postfix.proofs.Bounds.{Bounded, Spans, bounded_level}
 use Rattle.postfix.proofs.Reading.{view_tree, Parts, parts, broken_is, whole_is}
@@ -55,17 +53,3 @@ module _ (ks : List Token) (few : length ks ≤ 4096) {was now : List ℕ} (x : 
           let f : q < 65536 = omega (arith, b) in
           let n = parts {x = x} {n = q} {e = 0} {f = 128} h.is f (omega arith) in
           rw e (er ∙ rw (broken_is h.is f, n.next_is), h.leaves)
-
--- ---- the number and the place of the answer
-
--- 63 slots are counted, and asked is whether they are over 32
-pub over_32 : (n : ℕ) → ltb 32 (counted_to n) ≡ ltb 32 n
-over_32 n = go (dec_lt 32 n)
-  where
-    go : Dec (32 < n) → ltb 32 (counted_to n) ≡ ltb 32 n
-    go (yes h) = lt-ltb 32 (counted_to n) (omega arith) ∙ sym (lt-ltb 32 n h)
-    go (no h) = le-ltb 32 (counted_to n) (omega arith) ∙ sym (le-ltb 32 n (omega arith))
-
-pub numbered : (y : Result) (r : Parsed) → r ≡ answer_of y → Numbered y r
-numbered (ok t n) r e = (ap (λ (x : Parsed). number_of x (patterns_right t)) e ∙ rw (over_32 (depth_of t)), ap place_of e)
-numbered (bad p) r e = (λ patterns. ap (λ (x : Parsed). number_of x patterns) e, ap place_of e)

@@ -1,5 +1,5 @@
--- What the parser answers of a result, with the number and the place of the answer, and the codes that it leaves.
-use Rattle.std.specs.Prelude.{ℕ, ◌*◌, ◌≤◌, ◌<◌, ◌≡◌, Bool, true, false, cond, not, ◌&&◌, ◌||◌, eqb, List, length, get_or}
+-- What the parser answers of a result, and the codes that it leaves.
+use Rattle.std.specs.Prelude.{ℕ, ◌*◌, ◌≤◌, ◌<◌, ◌≡◌, true, false, cond, not, ◌||◌, eqb, List, length, get_or}
 use Rattle.std.proofs.lemmas.List.Edits.{sets}
 use Rattle.lexer.specs.Kind.{ending}
 use Rattle.lexer.specs.Token.{Token}
@@ -7,8 +7,7 @@ use Rattle.grammar.specs.Tree.{Tree}
 use Rattle.grammar.specs.Grammar.{is_prefix}
 use Rattle.grammar.specs.Parse.{Result, ok, bad, prefix_of, parse_all}
 use Rattle.grammar.specs.Size.{entries_of, depth_of}
-use Rattle.grammar.specs.Judge.{is_logic, forms_right, patterns_right, kinds_right}
-use Rattle.grammar.specs.Answer.{first_refusal, found_of, found_number}
+use Rattle.grammar.specs.Judge.{is_logic, forms_right, kinds_right}
 use Rattle.grammar.specs.Code.{codes_of}
 use Rattle.postfix.specs.Marked.{Marked}
 use Rattle.postfix.specs.Packed.{next_in, end_in, known_in, counted_to, logic_bit, forms_bit, kinds_bit, depth_bits, broken, part_of}
@@ -23,29 +22,6 @@ judged_of t = record { entries = entries_of t; logic = is_logic t; forms = forms
 abbrev pub answer_of : Result → Parsed
 answer_of (ok t n) = Whole (judged_of t)
 answer_of (bad p) = Broken p
-
--- ---- document 01's numbers, of the enum that the code answers
-
--- the first of the refusals 4, 18, 5, 7 and 8 that applies to an expression, 0 if none does; whether each pattern is right (18) the parser is not asked
-abbrev pub first_by : Judged → Bool → ℕ
-first_by j patterns = first_refusal j.forms patterns (j.kinds && j.logic) j.entries j.depth
-
--- "first that applies in this order: .. 2, 4, 18, 5, 7, 8"
-abbrev pub number_of : Parsed → Bool → ℕ
-number_of (Whole j) patterns = first_by j patterns
-number_of (Broken p) patterns = 2
-
--- its place as a token, since the parser knows tokens and not bytes
-abbrev pub place_of : Parsed → ℕ
-place_of (Whole j) = 0
-place_of (Broken p) = p
-
--- An answer has the number and the place of the result: of a tree the number that the tree has, at 0; of what the grammar does not allow 2, at the token that cannot go on.
-abbrev pub Numbered : Result → Parsed → Type 0
-Numbered (ok t n) r = (number_of r (patterns_right t) ≡ found_number (found_of t)) × (place_of r ≡ 0)
-Numbered (bad p) r = ((patterns : Bool) → number_of r patterns ≡ 2) × (place_of r ≡ p)
-
--- ---- the codes
 
 -- The codes of a tree stand from i on, as far as there is room, and every other code is as it was. Where there is no tree, nothing is told but the length.
 abbrev pub Leaves : Result → ℕ → List ℕ → List ℕ → Type 0
@@ -85,9 +61,9 @@ read_by n x =
 
 -- ---- the promises
 
--- of the whole: on all tokens that the marks stand for, the answer is that of the result, its codes stand from the first on, and it has the result's number and place
+-- of the whole: on all tokens that the marks stand for, the answer is that of the result, and its codes stand from the first on
 abbrev pub Parses : List ℕ → List ℕ → List ℕ → Parsed → Type 0
-Parses marks was now r = (ks : List Token) → Marked marks ks → (r ≡ answer_of (parse_all ks)) × Leaves (parse_all ks) 0 was now × Numbered (parse_all ks) r
+Parses marks was now r = (ks : List Token) → Marked marks ks → (r ≡ answer_of (parse_all ks)) × Leaves (parse_all ks) 0 was now
 
 -- of a run of prefix operators: the answer for what follows it becomes the answer for the run
 abbrev pub Wraps : List ℕ → ℕ → ℕ → ℕ → List ℕ → List ℕ → ℕ → Type 0

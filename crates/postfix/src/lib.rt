@@ -149,7 +149,7 @@ fn answer(n: usize, x: u64) -> Parsed
     })
 }
 
-// The whole of the tokens as one expression. The codes are left as far as there is room; after `Broken` they are unspecified, but for their number.
+// The whole of the tokens as one expression. The codes are left as far as there is room.
 pub fn parse(marks: &[u8], codes: &mut [u16]) -> Parsed
     requires { Ready marks.now 0 0 }
     ensures { Parses marks.now codes.old codes.new result }

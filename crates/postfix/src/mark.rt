@@ -1,4 +1,4 @@
-// What the parser asks of marks: of one, of two neighbours, of a run.
+// What the parser asks of a single mark.
 ghost use Rattle.std.specs.Prelude.{◌≡◌, ◌≤◌, ◌-◌, length, get_or};
 ghost use Rattle.lexer.specs.Kind.{ending};
 ghost use Rattle.grammar.specs.Grammar.{rank as rank_of};

@@ -150,7 +150,7 @@ has_collect v vs [] = sym (or-false (has v vs))
 has_collect v vs (w ∷ ws) = has_collect v (add_once vs w) ws ∙ (ap (λ (b : Bool). b || has v ws) (has_once v w vs) ∙ or_assoc (has v vs) (same_of w v) (has v ws))
 
 -- each once
-pub different_collect : (vs ws : List (List ℕ)) → different vs ≡ true → different (collect vs ws) ≡ true
+different_collect : (vs ws : List (List ℕ)) → different vs ≡ true → different (collect vs ws) ≡ true
 unfolding collect
 different_collect vs [] e = e
 different_collect vs (w ∷ ws) e = different_collect (add_once vs w) ws (go (has w vs) refl)

@@ -2,7 +2,6 @@
 use mathlib.Core.Path.{◌≡◌, refl, sym, ap, subst, ◌∙◌}
 use mathlib.Core.Bool.{Bool, true, false, ◌&&◌, ◌||◌}
 use mathlib.Core.List.{List, [], ◌∷◌, ◌++◌, append_assoc}
-use mathlib.Core.Option.{some, none}
 use Prim.Native.Nat.{ℕ, ◌+◌, ◌≤◌}
 use native.Mathlib.Omega.{arith}
 use lib.Dec.{eqb, leb, ltb}
@@ -19,11 +18,11 @@ use Rattle.interpreter.proofs.Answers.{notice_refused, neither_refused}
 use Rattle.quorum.specs.declared.Turn.{Turn}
 use Rattle.quorum.specs.declared.Turn.TheVariants.{Keep, Add, Refuse}
 use Rattle.quorum.specs.declared.Shown.{Shown}
-use Rattle.quorum.specs.Decision.{Decision, has, needed_of, count_of, values_of, table_of, kept, holds_of, decision_of}
+use Rattle.quorum.specs.Decision.{has, needed_of, count_of, values_of, table_of, kept, holds_of}
 use Rattle.quorum.specs.Showing.{staff_of, turn_of, shown_as, answer_by, bytes_by, Shows}
 use Rattle.quorum.specs.Theorems.{Event, Follows, counts, staffs_of, brought, staff_values}
 use Rattle.quorum.proofs.Counting.{collect, collect_append}
-use Rattle.quorum.proofs.Reading.{Holding, holding, holds, length_values}
+use Rattle.quorum.proofs.Reading.{Holding, holds, length_values}
 use Rattle.quorum.proofs.Writing.{Keeps, added_keeps}
 use Rattle.quorum.proofs.Staff.{staff_short, staff_string}
 use Rattle.quorum.proofs.Turns.{Delivered, Told, told, undecided_in, answer_by_lem, bytes_by_lem}
@@ -179,40 +178,18 @@ step s table needed vs k e after w =
 
 -- ---- the notices since an opening
 
--- bytes that hold the same decision keep the same
-pub same_keeps : (s t table : List ℕ) (needed : ℕ) (vs : List (List ℕ)) → Keeps s table needed vs → decision_of t ≡ decision_of s → Keeps t table needed vs
-same_keeps s t table needed vs k q = go (holds_of t) refl
-  where
-    there : decision_of s ≡ some (kept s)
-    there = rw (holds s k.holding)
-
-    go : (b : Bool) → holds_of t ≡ b → Keeps t table needed vs
-    go true e =
-        let here : some (kept t) ≡ some (kept s) = (rw e at q) ∙ there in
-        let d : kept t ≡ kept s = cc in
-        record {
-          holding = holding t e;
-          table_is = ap (λ (x : Decision). x.table) d ∙ k.table_is;
-          needed_is = ap (λ (x : Decision). x.needed) d ∙ k.needed_is;
-          values_are = ap (λ (x : Decision). x.values) d ∙ k.values_are;
-        }
-    go false e =
-        let here : none ≡ some (kept s) = (rw e at q) ∙ there in
-        let z : ◌≡◌ {A = ℕ} 0 1 = cc in
-        absurd (omega arith)
-
 -- what the buffer keeps after some events, and what follows
-pub record Reaches (table : List ℕ) (needed : ℕ) (vs : List (List ℕ)) (es rest : List Event) (t : List ℕ) : Type 0 where
+pub record Reaches (table : List ℕ) (needed : ℕ) (vs : List (List ℕ)) (es rest : List Event) : Type 0 where
   pub bytes : List ℕ
   pub keeps : Keeps bytes table needed (collect vs (staff_values table es))
-  pub follows : Follows bytes rest t
+  pub follows : Follows bytes rest
 
-pub walk : (table : List ℕ) (needed : ℕ) (es rest : List Event) (s t : List ℕ) (vs : List (List ℕ)) → Keeps s table needed vs → Follows s (es ++ rest) t → Reaches table needed vs es rest t
+pub walk : (table : List ℕ) (needed : ℕ) (es rest : List Event) (s : List ℕ) (vs : List (List ℕ)) → Keeps s table needed vs → Follows s (es ++ rest) → Reaches table needed vs es rest
 unfolding Follows staff_values collect
-walk table needed [] rest s t vs k f = record { bytes = s; keeps = k; follows = f }
-walk table needed (e ∷ es) rest s t vs k f =
-    let w = step f.0 table needed vs (same_keeps s f.0 table needed vs k f.2) e f.1 f.3 in
-    let r = walk table needed es rest f.1 t (collect vs (brought table e)) w.keeps f.4 in
+walk table needed [] rest s vs k f = record { bytes = s; keeps = k; follows = f }
+walk table needed (e ∷ es) rest s vs k f =
+    let t = step s table needed vs k e f.0 f.1 in
+    let r = walk table needed es rest f.0 (collect vs (brought table e)) t.keeps f.2 in
     record {
       bytes = r.bytes;
       keeps = subst (λ (l : List (List ℕ)). Keeps r.bytes table needed l) (sym (collect_append vs (brought table e) (staff_values table es))) r.keeps;

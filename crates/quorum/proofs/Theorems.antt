@@ -2,7 +2,6 @@
 use mathlib.Core.Path.{◌≡◌, refl, sym, ap, subst, ◌∙◌}
 use mathlib.Core.Bool.{Bool, true, false, ◌&&◌, ◌||◌, or-true}
 use mathlib.Core.List.{List, [], ◌∷◌, ◌++◌, append-nil, append_assoc}
-use mathlib.Core.Option.{some}
 use Prim.Native.Nat.{ℕ, ◌+◌, ◌*◌, ◌≤◌}
 use native.Mathlib.Omega.{arith}
 use native.Mathlib.Decide.{dec_le}
@@ -16,16 +15,16 @@ use Rattle.octets.proofs.Theorems.{and_parts, same_refl}
 use Rattle.quorum.specs.declared.Turn.{Turn}
 use Rattle.quorum.specs.declared.Turn.TheVariants.{Keep, Add, Refuse}
 use Rattle.quorum.specs.declared.Shown.{Shown}
-use Rattle.quorum.specs.Decision.{has, different, count_of, values_of, kept, holds_of, decision_of, head_bytes, opened_with}
+use Rattle.quorum.specs.Decision.{has, count_of, values_of, kept, holds_of, head_bytes, opened_with}
 use Rattle.quorum.specs.Showing.{staff_of, turn_of, adds, bytes_by, open_refusal, Opens, Shows}
-use Rattle.quorum.specs.Theorems.{Event, Follows, History, counts, staffs_of, brought, staff_values, how_many, Counted, Reached, CountedOnce, NeverTwenty, ShownAgain, NeverTwelve, StillKeeps, RefusedBetween, AtMostEight, RefusedStays, RefusedMakesNone, ShownPast, OpenedPast, OpenedKeeps}
-use Rattle.quorum.proofs.Counting.{neither, has_append, collect, collect_append, has_collect, different_collect, collect_number, collect_full}
+use Rattle.quorum.specs.Theorems.{Event, Follows, History, counts, staffs_of, brought, staff_values, how_many, Counted, Reached, CountedOnce, NeverTwenty, ShownAgain, NeverTwelve, AtMostEight, RefusedStays, RefusedMakesNone, ShownPast, OpenedPast, OpenedKeeps}
+use Rattle.quorum.proofs.Counting.{neither, has_append, collect, collect_append, has_collect, collect_number, collect_full}
 use Rattle.quorum.proofs.Reading.{holding, holds, length_values}
 use Rattle.quorum.proofs.Opening.{openable}
 use Rattle.quorum.proofs.Writing.{length_head, drop_after, Keeps, opening_keeps}
 use Rattle.quorum.proofs.Staff.{staff_short}
 use Rattle.quorum.proofs.Turns.{length_by, with_staff, without_staff, not_held, answer_by_lem, bytes_by_lem, free-place}
-use Rattle.quorum.proofs.Steps.{takes, runs_true, counts_by, Step, held_step, step, same_keeps, Reaches, walk, values_append}
+use Rattle.quorum.proofs.Steps.{takes, runs_true, counts_by, Step, held_step, step, Reaches, walk, values_append}
 pub use Rattle.quorum.proofs.Counting.{numbered, numberable}
 
 -- ---- an opening
@@ -49,8 +48,8 @@ module _ (s table after : List ℕ) (needed : ℕ) (a : Shown) (w : Opens s tabl
 -- ---- the last event of a history
 
 module _ (table : List ℕ) (needed : ℕ) (es : List Event) (e : Event) (h : History table needed (es ++ (e ∷ []))) where
-  there : Reaches table needed [] es (e ∷ []) h.left
-  there = walk table needed es (e ∷ []) h.opened h.left [] (new_keeps h.buffer table h.opened needed h.answer h.opens h.accepted) h.follows
+  there : Reaches table needed [] es (e ∷ [])
+  there = walk table needed es (e ∷ []) h.opened [] (new_keeps h.buffer table h.opened needed h.answer h.opens h.accepted) h.follows
 
   -- the values that are kept before it
   abbrev vs : List (List ℕ)
@@ -58,7 +57,7 @@ module _ (table : List ℕ) (needed : ℕ) (es : List Event) (e : Event) (h : Hi
 
   last_step : (after : List ℕ) × Step after table needed vs e
   unfolding Follows
-  last_step = let x = there.follows in (x.1, step x.0 table needed vs (same_keeps there.bytes x.0 table needed vs there.keeps x.2) e x.1 x.3)
+  last_step = let x = there.follows in (x.0, step there.bytes table needed vs there.keeps e x.0 x.1)
 
   final : Step last_step.0 table needed vs e
   final = last_step.1
@@ -118,9 +117,9 @@ module _ (table : List ℕ) (needed : ℕ) (es fs : List Event) (e f : Event) (h
   unfolding Follows
   earlier =
       let k = new_keeps h.buffer table h.opened needed h.answer h.opens h.accepted in
-      let r = walk table needed es (e ∷ (fs ++ (f ∷ []))) h.opened h.left [] k (subst (λ (l : List Event). Follows h.opened l h.left) (append_assoc es (e ∷ fs) (f ∷ [])) h.follows) in
+      let r = walk table needed es (e ∷ (fs ++ (f ∷ []))) h.opened [] k (subst (λ (l : List Event). Follows h.opened l) (append_assoc es (e ∷ fs) (f ∷ [])) h.follows) in
       let x = r.follows in
-      (x.1, step x.0 table needed first (same_keeps r.bytes x.0 table needed first r.keeps x.2) e x.1 x.3)
+      (x.0, step r.bytes table needed first r.keeps e x.0 x.1)
 
   later : Step (last_step table needed (es ++ (e ∷ fs)) f h).0 table needed second f
   later = final table needed (es ++ (e ∷ fs)) f h
@@ -168,23 +167,6 @@ module _ (table : List ℕ) (needed : ℕ) (es fs : List Event) (e f : Event) (h
 pub shown_again : ShownAgain
 shown_again table needed es fs e f h q =
     unchanged table needed (es ++ (e ∷ fs)) f h (again table needed es fs e f h q (counts table f) (counts table e) refl refl)
-
--- ---- what is left
-
--- the decision of what is kept
-decision_is : (s table : List ℕ) (needed : ℕ) (vs : List (List ℕ)) → Keeps s table needed vs → decision_of s ≡ some (record { table = table; needed = needed; values = vs })
-decision_is s table needed vs k = rw (holds s k.holding, k.table_is, k.needed_is, k.values_are)
-
-pub still_keeps : StillKeeps
-unfolding Follows has different
-still_keeps table needed es h =
-    let k = new_keeps h.buffer table h.opened needed h.answer h.opens h.accepted in
-    let r = walk table needed es [] h.opened h.left [] k (subst (λ (l : List Event). Follows h.opened l h.left) (sym (append-nil es)) h.follows) in
-    let ws = collect [] (staff_values table es) in
-    (ws, decision_is h.left table needed ws (same_keeps r.bytes h.left table needed ws r.keeps r.follows), different_collect [] (staff_values table es) refl, λ v. has_collect v [] (staff_values table es))
-
-pub refused_between : RefusedBetween
-refused_between s table after needed a w n = ap decision_of (old_bytes s table after needed a w n)
 
 -- ---- of every buffer
 
@@ -251,4 +233,6 @@ opened_past s table after needed a w = go (dec_le 1 a.number)
     go (yes n) = let q = old_bytes s table after needed a w (λ z. omega arith) in (ap length q, ap (drop (528 + length table)) q)
 
 pub opened_keeps : OpenedKeeps
-opened_keeps s table after needed a w z = decision_is after table needed [] (new_keeps s table after needed a w z)
+opened_keeps s table after needed a w z =
+    let k = new_keeps s table after needed a w z in
+    rw (holds after k.holding, k.table_is, k.needed_is, k.values_are)

@@ -1,4 +1,4 @@
--- What holds of the quorum counter. The proofs are in proofs/Theorems.antt, those of `Numbered` and `Numberable` in proofs/Counting.antt, under the same names.
+-- What holds of the quorum counter. The proofs are in proofs/Theorems.antt, under the same names.
 use Rattle.std.specs.Prelude.{ℕ, suc, ◌+◌, ◌≤◌, ◌≡◌, Bool, true, cond, ◌&&◌, List, [], ◌∷◌, ◌++◌, eqb, leb, length, drop}
 use Rattle.std.proofs.Math.Option.{Option, some, none}
 use Rattle.common.specs.Choice.{pick}
@@ -15,21 +15,19 @@ pub record Event : Type 0 where
   pub notice : List ℕ
   pub answer : Shown
 
--- The events are what `show` answers to the notices, one after the other, on a buffer that is s before the first and t after the last, "with nobody else changing the decision": each call finds bytes that hold the decision that the last one left,
--- and so does who looks afterwards. Nothing is asked of the other bytes, nor of the buffer's length: a caller may keep what he likes past the decision, copy or move it, lend more or less room, or have an opening refused in between.
-unfoldable pub Follows : List ℕ → List Event → List ℕ → Type 0
-Follows s [] t = decision_of t ≡ decision_of s
-Follows s (e ∷ es) t = (before : List ℕ) × (after : List ℕ) × (decision_of before ≡ decision_of s) × Shows before e.notice after e.answer × Follows after es t
+-- The events are what `show` answers to the notices, one after the other, on a buffer that is s before the first, "with nobody else changing the decision": each call finds the bytes that the last one left.
+unfoldable pub Follows : List ℕ → List Event → Type 0
+Follows s [] = Unit {0}
+Follows s (e ∷ es) = (after : List ℕ) × Shows s e.notice after e.answer × Follows after es
 
--- A decision was opened with the table and the needed number in some buffer, and not refused; these are the events since, and what is left after them.
+-- A decision was opened with the table and the needed number in some buffer, and not refused; these are the events since.
 pub record History (table : List ℕ) (needed : ℕ) (es : List Event) : Type 0 where
   pub buffer : List ℕ
   pub opened : List ℕ
   pub answer : Shown
   pub opens : Opens buffer table needed opened answer
   pub accepted : answer.number ≡ 0
-  pub left : List ℕ
-  pub follows : Follows opened es left
+  pub follows : Follows opened es
 
 -- ---- the count, from the history alone
 
@@ -67,7 +65,7 @@ abbrev pub Numberable : Type 0
 Numberable = (vs : List (List ℕ)) → (ds : List (List ℕ)) × (different ds ≡ true) × ((v : List ℕ) → has v ds ≡ has v vs)
 
 -- The count that is answered is the number of different Staff values among all notices that were neither refused nor short of true since opening, the last one included:
--- for every table, needed number, buffer and list of notices shown one after the other, nobody else changing the decision, by what `open` and `show` promise of their answers.
+-- for every table, needed number, buffer and list of notices shown one after the other, nobody else writing there, by what `open` and `show` promise of their answers.
 abbrev pub Counted : Type 0
 Counted =
     (table : List ℕ) (needed : ℕ) (es : List Event) (e : Event) → History table needed (es ++ (e ∷ []))
@@ -103,16 +101,6 @@ ShownAgain =
 abbrev pub NeverTwelve : Type 0
 NeverTwelve =
     (table : List ℕ) (needed : ℕ) (es : List Event) (e : Event) → History table needed (es ++ (e ∷ [])) → e.answer.number ≡ 12 → ⊥
-
--- "A decision is opened with a table, which it keeps": after any history the buffer holds a decision with that table and that needed number, and its values are the history's, each once.
-abbrev pub StillKeeps : Type 0
-StillKeeps =
-    (table : List ℕ) (needed : ℕ) (es : List Event) (h : History table needed es)
-    → (vs : List (List ℕ)) × (decision_of h.left ≡ some (record { table = table; needed = needed; values = vs })) × (different vs ≡ true) × ((v : List ℕ) → has v vs ≡ has v (staff_values table es))
-
--- An opening that is refused over a decision is no event of its history: what it leaves holds that decision as it stood.
-abbrev pub RefusedBetween : Type 0
-RefusedBetween = (s table after : List ℕ) (needed : ℕ) (a : Shown) → Opens s table needed after a → (a.number ≡ 0 → ⊥) → decision_of after ≡ decision_of s
 
 -- ---- of every buffer, whatever it holds
 

@@ -1,19 +1,28 @@
 -- The theorems that specs/Theorems.antt states. Assumes nothing.
 use mathlib.Core.Path.{◌≡◌, refl, sym, ap, ap₂, ◌∙◌}
 use mathlib.Core.Bool.{Bool, true, false, cond, ◌&&◌}
-use mathlib.Core.List.{◌++◌}
+use mathlib.Core.List.{List, ◌++◌}
 use mathlib.Core.Logic.{◌⊎◌, inl, inr, ⊎_elim}
-use Prim.Native.Nat.{ℕ, ◌+◌, ◌≤◌}
+use Prim.Native.Nat.{ℕ, zero, suc, ◌+◌, ◌≤◌}
 use native.Mathlib.Omega.{arith}
 use lib.Dec.{ltb, leb, eqb}
-use lib.ListN.{length, length-append}
-use Rattle.word.proofs.Theorems.{word_grows}
+use lib.ListN.{length, get_or, length-append, get_or-append}
+use Rattle.word.specs.Word.{word_at}
 use borrow.Author.Tests.{ltb-true, ltb-false, leb-true, leb-false, eqb-true, le-ltb, ne_eqb}
 use Rattle.record.specs.declared.Record.{Record}
 use Rattle.record.specs.declared.Record.TheVariants.{End, Whole, Cut, Wrong}
 use Rattle.record.specs.Record.{length_of, kind_of, length_right}
 use Rattle.record.specs.Theorems.{WholeLies, CutShort, EndEmpty, WholeGrows, WrongGrows}
 use Rattle.record.proofs.Laws.{found_whole}
+
+-- a word that lies in s stays where more comes after it
+word_grows : (k at : ℕ) (s t : List ℕ) → at + k ≤ length s → word_at k (s ++ t) at ≡ word_at k s at
+unfolding word_at
+word_grows zero at s t h = refl
+word_grows (suc k) at s t h =
+    let g : get_or (s ++ t) at 0 ≡ get_or s at 0 = get_or-append s t 0 at (omega arith) in
+    let ih = word_grows k (suc at) s t (omega arith) in
+    rw (g, ih)
 
 -- the reader's four tests
 abbrev by_tests : Bool → Bool → Bool → Bool → Record → Record

@@ -87,13 +87,6 @@ fn put_verdict(out: &mut [u8], at: usize, t: Truth) -> usize
 // The bytes that every line has room in.
 pub const LINE_ROOM: usize = 100;
 
-// Holds the constant to its definition.
-fn line_room() -> usize
-    ensures { result ≡ line_room }
-{
-    LINE_ROOM
-}
-
 // `S number place length`: what translation answered.
 pub fn put_text_line(out: &mut [u8], at: usize, number: u64, place: u64, len: u64) -> usize
     requires { at + line_room ≤ length out.old }

@@ -1,20 +1,21 @@
 -- A text has one list of symbols, or one of request 1's cases begins behind some. Assumes nothing.
 use mathlib.Core.Path.{◌≡◌, refl, sym, ap, ◌∙◌}
 use mathlib.Core.Logic.{◌⊎◌, inl, inr}
-use mathlib.Core.Bool.{Bool, true, false}
-use mathlib.Core.List.{List, [], ◌∷◌, ◌++◌, append_assoc}
+use mathlib.Core.Bool.{Bool, true, false, not, ◌&&◌, cond, and-false}
+use mathlib.Core.List.{List, [], ◌∷◌, ◌++◌, append_assoc, append-nil}
 use Prim.Native.Nat.{ℕ, zero, suc, ◌<◌}
 use native.Mathlib.Omega.{arith}
+use lib.Dec.{eqb}
 use lib.ListN.{length, drop, length-append}
 use borrow.Author.Tests.{ne_eqb}
 use Rattle.common.proofs.Choice.{true_false}
-use Rattle.pattern.specs.Sets.{is_set}
+use Rattle.pattern.specs.Sets.{spans_of, is_closed, is_empty}
+use Rattle.pattern.specs.Wildcard.{is_set}
 use Rattle.pattern.specs.Steps.{begins}
-use Rattle.pattern.specs.Causes.{Behind, Fault}
-use Rattle.pattern.proofs.Causes.{of_fault}
+use Rattle.regexp.specs.Language.{Atom, Mark}
 use Rattle.regexp.specs.Grammar.{byte_of}
-use Rattle.regexp.specs.Causes.{Symbol, atom, mark, opening, closing, bar, hat, dollar, SymbolText, atom_text, mark_text, opening_text, closing_text, bar_text, hat_text, dollar_text, Symbols, end, next}
-use Rattle.regexp.specs.Words.{Word, item, repeats, opening as opens, bars, closing as closes, stops, none, set_of, word_of}
+use Rattle.regexp.specs.Causes.{Behind, Fault, backslash_last, unclosed_set, empty_set, falling_range, Symbol, atom, mark, opening, closing, bar, hat, dollar, SymbolText, atom_text, mark_text, opening_text, closing_text, bar_text, hat_text, dollar_text, Symbols, end, next}
+use Rattle.regexp.specs.Words.{Word, item, repeats, opening as opens, bars, closing as closes, stops, none, set_by, set_or_not, set_of, word_of}
 use Rattle.regexp.proofs.Told.{Told, told, atom_word, mark_word}
 use Rattle.regexp.proofs.Scans.{atom_long}
 
@@ -95,7 +96,7 @@ one_list (next {r = r} h t e) (next {r = q} i u f) =
     cc (sym a.0 ∙ b.0, one_list t (rw c at u))
 
 -- ---- none behind which one of request 1's cases begins
-behind_none : (r s : List ℕ) → Behind 94 r s → is_set s ≡ false → set_of r ≡ none
+behind_none : (r s : List ℕ) → Behind r s → is_set s ≡ false → set_of r ≡ none
 behind_none r s (inl e) h = rw (e, h)
 behind_none r s (inr (e, n)) h = rw e (go s n h)
   where
@@ -103,14 +104,17 @@ behind_none r s (inr (e, n)) h = rw e (go s n h)
     go [] m i = refl
     go (b ∷ q) m i = rw (ne_eqb b 94 (λ f. m q (ap (λ (k : ℕ). k ∷ q) f)), i)
 
-fault_none : {r : List ℕ} → Fault 94 r → word_of r ≡ none
-fault_none f = of_fault (λ (z : List ℕ). word_of z ≡ none) 94 refl behind_none f
+fault_none : {r : List ℕ} → Fault r → word_of r ≡ none
+fault_none backslash_last = refl
+fault_none (unclosed_set r s b e) = behind_none r s b (rw e)
+fault_none (empty_set r s b e) = behind_none r s b (rw e (and-false (is_closed s)))
+fault_none (falling_range r s b e) = behind_none r s b (rw (e, and-false (not (is_empty (spans_of s)))) (and-false (is_closed s)))
 
 on : {z : List ℕ} {ys : List Symbol} → Symbols z ys → goes_on (word_of z) ≡ true
 on end = refl
 on (next {r = r} h t e) = (front_at r h e).2
 
-pub no_list : {q r z : List ℕ} {xs ys : List Symbol} → Symbols q xs → Fault 94 r → q ++ r ≡ z → Symbols z ys → ⊥
+pub no_list : {q r z : List ℕ} {xs ys : List Symbol} → Symbols q xs → Fault r → q ++ r ≡ z → Symbols z ys → ⊥
 no_list end f e u = true_false (sym (on u) ∙ ap goes_on (fault_none (rw e at f)))
 no_list {r = r} (next {s = s} {r = o} h t g) f e end = no_symbol (o ++ r) h (sym (append_assoc s o r) ∙ ap (λ (l : List ℕ). l ++ r) g ∙ e)
 no_list {r = r} {z = z} (next {s = s} {r = o} h t g) f e (next {r = v} i u k) =
@@ -119,7 +123,7 @@ no_list {r = r} {z = z} (next {s = s} {r = o} h t g) f e (next {r = v} i u k) =
 
 -- ---- one or the other
 abbrev pub ReadAs : List ℕ → Type 0
-ReadAs z = ((xs : List Symbol) × Symbols z xs) ⊎ ((q : List ℕ) × (r : List ℕ) × (xs : List Symbol) × (q ++ r ≡ z) × Symbols q xs × Fault 94 r)
+ReadAs z = ((xs : List Symbol) × Symbols z xs) ⊎ ((q : List ℕ) × (r : List ℕ) × (xs : List Symbol) × (q ++ r ≡ z) × Symbols q xs × Fault r)
 
 on_symbol : {s z : List ℕ} {x : Symbol} (r : List ℕ) → SymbolText s x → s ++ r ≡ z → ReadAs r → ReadAs z
 on_symbol {x = x} r h e (inl (xs, t)) = inl (x ∷ xs, next h t e)

@@ -11,13 +11,13 @@ use lib.Seq.{take_all, length-take-le, drop-append_seam}
 use borrow.Author.Tests.{eqb-true}
 use Rattle.common.proofs.Choice.{true_false, false_true}
 use Rattle.octets.proofs.Theorems.{and_parts}
-use Rattle.pattern.specs.Sets.{spans, spans_of, is_closed, rises, is_empty, width_by, width_from, width_of, is_set}
-use Rattle.pattern.specs.Causes.{Behind, Fault, backslash_last}
+use Rattle.pattern.specs.Sets.{spans, spans_of, members, is_closed, rises, is_empty, width_by, width_from, width_of}
+use Rattle.pattern.specs.Wildcard.{is_set}
 use Rattle.pattern.specs.Steps.{begins}
 use Rattle.pattern.proofs.Local.{Alone, set_alone}
-use Rattle.pattern.proofs.Causes.{set_fault}
-use Rattle.regexp.specs.Language.{Atom, plain, set, Mark, star, plus, optional}
-use Rattle.regexp.specs.Grammar.{byte_of, AtomText, plain_text, any_text, escaped_text, set_text, complement_text}
+use Rattle.regexp.specs.Language.{Atom, plain, any, set, Mark, star, plus, optional}
+use Rattle.regexp.specs.Grammar.{is_plain, byte_of, AtomText, plain_text, any_text, escaped_text, set_text, complement_text}
+use Rattle.regexp.specs.Causes.{Behind, Fault, backslash_last, unclosed_set, empty_set, falling_range}
 use Rattle.regexp.specs.Words.{Word, item, repeats, opening, bars, closing, stops, none, escaped_of, set_by, set_or_not, set_of, word_by, word_of}
 
 -- ---- a set, whatever follows it
@@ -88,6 +88,24 @@ mark_word plus r = refl
 mark_word optional r = refl
 
 -- ---- a word that does not go on
+bad_set : (s : List ℕ) → is_set s ≡ false → (is_closed s ≡ false) ⊎ ((is_empty (spans_of s) ≡ true) ⊎ (rises (spans_of s) ≡ false))
+bad_set s e = go (is_closed s) (is_empty (spans_of s)) (rises (spans_of s)) refl refl refl e
+  where
+    go : (x y z : Bool) → is_closed s ≡ x → is_empty (spans_of s) ≡ y → rises (spans_of s) ≡ z → x && (not y && z) ≡ false
+        → (is_closed s ≡ false) ⊎ ((is_empty (spans_of s) ≡ true) ⊎ (rises (spans_of s) ≡ false))
+    go false y z a b c h = inl a
+    go true true z a b c h = inr (inl b)
+    go true false false a b c h = inr (inr c)
+    go true false true a b c h = true_false h
+
+set_fault : (r s : List ℕ) → Behind r s → is_set s ≡ false → Fault (91 ∷ r)
+set_fault r s b e = go (bad_set s e)
+  where
+    go : (is_closed s ≡ false) ⊎ ((is_empty (spans_of s) ≡ true) ⊎ (rises (spans_of s) ≡ false)) → Fault (91 ∷ r)
+    go (inl h) = unclosed_set r s b h
+    go (inr (inl h)) = empty_set r s b h
+    go (inr (inr h)) = falling_range r s b h
+
 unmarked : (s : List ℕ) → begins 94 s ≡ false → (t : List ℕ) → s ≡ 94 ∷ t → ⊥
 unmarked s e t f = true_false (ap (begins 94) (sym f) ∙ e)
 
@@ -103,7 +121,7 @@ Told z (opening r) = 40 ∷ r ≡ z
 Told z (bars r) = 124 ∷ r ≡ z
 Told z (closing r) = 41 ∷ r ≡ z
 Told z stops = Stopped z
-Told z none = Fault 94 z
+Told z none = Fault z
 
 cut_begins : (s : List ℕ) → begins 94 (take (width_of s) s) ≡ begins 94 s
 cut_begins [] = refl
@@ -126,16 +144,16 @@ told_in s h e =
     let a : AtomText (91 ∷ take (width_of s) s) (set false (spans_of (take (width_of s) s))) = set_text (take (width_of s) s) c.0 c.2 (cut_begins s ∙ e) refl in
     (91 ∷ take (width_of s) s, rw c.1 at a, ap (λ (l : List ℕ). 91 ∷ l) (take-append-drop (width_of s) s))
 
-told_set_by : (out : Bool) (r s : List ℕ) (x : Bool) → is_set s ≡ x → Behind 94 r s → (is_set s ≡ true → Told (91 ∷ r) (set_by true out s)) → Told (91 ∷ r) (set_by x out s)
+told_set_by : (out : Bool) (r s : List ℕ) (x : Bool) → is_set s ≡ x → Behind r s → (is_set s ≡ true → Told (91 ∷ r) (set_by true out s)) → Told (91 ∷ r) (set_by x out s)
 told_set_by out r s true e b k = k e
-told_set_by out r s false e b k = set_fault 94 r s b e
+told_set_by out r s false e b k = set_fault r s b e
 
 told_or_not : (b : ℕ) (s : List ℕ) (x : Bool) → eqb b 94 ≡ x → Told (91 ∷ (b ∷ s)) (set_or_not x b s)
 told_or_not b s true e = rw (eqb-true b 94 e) (told_set_by true (94 ∷ s) s (is_set s) refl (inl refl) (λ h. told_out s h))
 told_or_not b s false e = told_set_by false (b ∷ s) (b ∷ s) (is_set (b ∷ s)) refl (inr (refl, unmarked (b ∷ s) e)) (λ h. told_in (b ∷ s) h e)
 
 told_set : (s : List ℕ) → Told (91 ∷ s) (set_of s)
-told_set [] = set_fault 94 [] [] (inr (refl, unmarked [] refl)) refl
+told_set [] = set_fault [] [] (inr (refl, unmarked [] refl)) refl
 told_set (b ∷ s) = told_or_not b s (eqb b 94) refl
 
 told_escaped : (s : List ℕ) → Told (92 ∷ s) (escaped_of s)

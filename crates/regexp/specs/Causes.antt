@@ -1,8 +1,21 @@
 -- Why a text is no pattern, cause by cause: "Ill-formed are request 1's cases, an empty branch or group, a repeat mark first or after `^`, `(` or `|`, unmatched parentheses, `^` or `$` elsewhere, and depth over 8." Document 02, request 13. No parser stands here.
-use Rattle.std.specs.Prelude.{ℕ, suc, ◌-◌, ◌≤◌, ◌<◌, ◌≡◌, List, [], ◌∷◌, ◌++◌}
-use Rattle.pattern.specs.Causes.{Fault}
+use Rattle.std.specs.Prelude.{ℕ, zero, suc, ◌-◌, ◌≤◌, ◌<◌, ◌≡◌, ◌⊎◌, Bool, true, false, List, [], ◌∷◌, ◌++◌}
+use Rattle.pattern.specs.Sets.{spans_of, is_closed, is_empty, rises}
 use Rattle.regexp.specs.Language.{Atom, Mark}
 use Rattle.regexp.specs.Grammar.{AtomText, byte_of}
+
+-- ---- "request 1's cases", "with `^` for `!`"
+
+-- What follows the mark of a complement, if there is one.
+abbrev pub Behind : List ℕ → List ℕ → Type 0
+Behind r s = (r ≡ 94 ∷ s) ⊎ ((r ≡ s) × ((t : List ℕ) → s ≡ 94 ∷ t → ⊥))
+
+-- "An unclosed or empty set .., a range that falls and a backslash at the end": a text that begins with one of the four.
+pub data Fault : List ℕ → Type 0 where
+  backslash_last : Fault (92 ∷ [])
+  unclosed_set : (r s : List ℕ) → Behind r s → is_closed s ≡ false → Fault (91 ∷ r)
+  empty_set : (r s : List ℕ) → Behind r s → is_empty (spans_of s) ≡ true → Fault (91 ∷ r)
+  falling_range : (r s : List ℕ) → Behind r s → rises (spans_of s) ≡ false → Fault (91 ∷ r)
 
 -- ---- the symbols of a text
 
@@ -80,7 +93,7 @@ pub data Cause : List Symbol → List Symbol → Type 0 where
 
 -- ---- a text that has a cause
 pub data IllFormed (p : List ℕ) : Type 0 where
-  -- "request 1's cases", with "`^` for `!`" (94): behind some symbols one of the four begins
-  faulty : (q r : List ℕ) (xs : List Symbol) → q ++ r ≡ p → Symbols q xs → Fault 94 r → IllFormed p
+  -- behind some symbols one of request 1's cases begins
+  faulty : (q r : List ℕ) (xs : List Symbol) → q ++ r ≡ p → Symbols q xs → Fault r → IllFormed p
   -- at a place among the symbols stands one of the other causes
   misplaced : (xs us vs : List Symbol) → Symbols p xs → Place xs us vs → Cause us vs → IllFormed p

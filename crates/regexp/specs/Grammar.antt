@@ -1,6 +1,7 @@
 -- Which texts are patterns, with their branches. A text is ill-formed exactly if nothing here derives it; by which causes says specs/Causes.antt. Document 02, request 13.
 use Rattle.std.specs.Prelude.{ℕ, suc, ◌≡◌, Bool, true, false, not, ◌||◌, List, [], ◌∷◌, ◌++◌, eqb, length}
-use Rattle.pattern.specs.Sets.{spans_of, width_of, is_set}
+use Rattle.pattern.specs.Sets.{spans_of, width_of}
+use Rattle.pattern.specs.Wildcard.{is_set}
 use Rattle.pattern.specs.Steps.{begins}
 use Rattle.regexp.specs.Language.{Atom, plain, any, set, Mark, star, plus, optional, Tree, one, group, repeat, seq, alt, nil, Anchored, anchored, Holds}
 

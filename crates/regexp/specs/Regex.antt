@@ -3,7 +3,7 @@ use Rattle.std.specs.Prelude.{ℕ, zero, suc, Bool, true, false, not, ◌&&◌, 
 use Rattle.std.proofs.Math.Option.{Option, none, some}
 use Rattle.common.specs.Choice.{pick}
 use Rattle.pattern.specs.Steps.{begins}
-use Rattle.pattern.specs.Computed.{is_none}
+use Rattle.pattern.specs.Wildcard.{is_none}
 use Rattle.automaton.specs.Language.{Re, leaf, group as grouping, nil as nothing, seq as then, alt as or}
 use Rattle.automaton.specs.Marks.{walk}
 use Rattle.regexp.specs.Language.{Atom, takes, Mark, star, plus, optional, Tree, one, group, repeat, seq, alt, nil, Anchored, anchored}

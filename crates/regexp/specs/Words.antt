@@ -1,6 +1,7 @@
 -- The first word of a pattern's text: what one step from the left reads.
 use Rattle.std.specs.Prelude.{ℕ, Bool, true, false, not, ◌&&◌, ◌||◌, List, [], ◌∷◌, eqb, drop}
-use Rattle.pattern.specs.Sets.{spans_of, width_of, is_set}
+use Rattle.pattern.specs.Sets.{spans_of, width_of}
+use Rattle.pattern.specs.Wildcard.{is_set}
 use Rattle.regexp.specs.Language.{Atom, plain, any, set, Mark, star, plus, optional}
 
 -- A word, and what stands behind it.

@@ -144,7 +144,7 @@ fn allowed(text: &[u8], i: usize, room: usize, some: bool) -> Read
     }
 }
 
-// None of `\ [ ( ) | . ^ $`.
+// A byte that stands for itself.
 fn is_plain(b: u8) -> bool
     ensures { result ≡ plain_byte b }
 {

@@ -23,17 +23,16 @@ use Rattle.lexer.proofs.Theorems.{stored}
 use Rattle.opcode.specs.declared.Edition.{Edition}
 use Rattle.grammar.specs.Tree.{Tree}
 use Rattle.grammar.proofs.Theorems.{parses}
-use Rattle.table.specs.Table.{Program, encode, pool_of, decode}
-use Rattle.table.proofs.Reading.{length_entries}
+use Rattle.table.specs.Table.{Program, encode, decode}
 use Rattle.table.specs.Check.{check_of as tableCheck, refusal_of}
 use Rattle.interpreter.specs.Run.{State, run_of, verdict_of}
-use Rattle.interpreter.specs.Machine.{state_of, Visited}
+use Rattle.interpreter.specs.Machine.{Visited}
 use Rattle.interpreter.specs.Running.{answer_of, running_of}
 use Rattle.interpreter.specs.declared.Machine.{Machine}
 use Rattle.interpreter.specs.declared.Ran.{Ran}
 use Rattle.interpreter.proofs.Visits.{as_many}
-use Rattle.interpreter.proofs.Answers.{indexed, neither_refused}
-use Rattle.interpreter.proofs.Theorems.{stack_small, run_whole}
+use Rattle.interpreter.proofs.Answers.{neither_refused}
+use Rattle.interpreter.proofs.Theorems.{stack_small}
 use Rattle.meaning.specs.Meaning.{meaning, text_meaning}
 use Rattle.translator.specs.Compile.{compile}
 use Rattle.translator.specs.Translation.{Outcome, edition_number, translation_of, Answers}
@@ -83,16 +82,13 @@ module _ (edition : Edition) (text notice : List ℕ) (tree : Tree) (b : Bytes t
         run_small = stack_small table notice p;
         runner_holds = as_many table notice visits m v.state;
         runner_small = v.inside;
-        runner_answers = λ h.
-            let e : state_of (pool_of table) notice m ≡ run_of (decode table) notice = v.state ∙ run_whole table notice p visits (omega (arith, length_entries table)) in
-            (ap (λ (x : Ran). x.verdict) r ∙ sym (ap verdict_of e), ap (λ (x : Ran). x.steps) r ∙ sym (ap (λ (s : State). s.steps) e));
       }
 
 pub demand_three : DemandThree
 demand_three edition text buffer notice visits tree c b a room w =
     let e = writes_table edition text tree (length buffer) a room in
     let t : take c.translated.length c.written ≡ encode (compile edition tree) = written_table _ buffer c.written c.translated room (rw e at c.translates) in
-    let v : Visited (encode (compile edition tree)) notice visits c.machine = subst (λ (x : List ℕ). Visited x notice visits c.machine) t (c.runner (rw t (passes_check edition text tree b a)) w (indexed notice notice c.lent refl w c.indexes c.room)) in
+    let v : Visited (encode (compile edition tree)) notice visits c.machine = subst (λ (x : List ℕ). Visited x notice visits c.machine) t (c.runner (rw t (passes_check edition text tree b a)) w) in
     let m = met edition text notice tree b a w v in
     let n : c.translated.number ≡ 0 = rw (c.translates.answer, e) in
     (n, c.checks ∙ rw t m.passes, rw (c.runs, t) m)

@@ -1,4 +1,3 @@
 pub mod Agree
 pub mod Made
 pub mod Demand
-pub mod Patterns

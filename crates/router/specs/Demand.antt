@@ -5,7 +5,7 @@
 -- part of the expression is worked out and nothing is skipped. The verdict and the steps answered are exactly those of document 01's run of that table on that notice. Neither that run nor the
 -- runner ever holds more than 32 values on its stack.
 --
--- `DemandThree` says it of the answers of `translate`, `check`, `run` and the runner `run_indexed`, by their promises; `Matches` is the promise of `match_text`, which takes verdict, steps and machine from that runner and carries it as well. The proofs are in proofs/Demand.antt.
+-- `DemandThree` says it of the answers of `translate`, `check`, `run` and `run_checked`, by their promises; `Matches` is the promise of `match_text`, which calls all four and carries it as well. The proofs are in proofs/Demand.antt.
 use Rattle.std.specs.Prelude.{ℕ, ◌≤◌, ◌≡◌, Bool, true, false, List, ◌↔◌, eqb, length, take}
 use Rattle.std.proofs.Math.Option.{some}
 use Rattle.std.proofs.lemmas.List.Edits.{sets}
@@ -13,18 +13,18 @@ use Rattle.common.specs.Choice.{pick}
 use Rattle.word.specs.Word.{Bytes}
 use Rattle.truth.specs.declared.Truth.{Truth}
 use Rattle.truth.specs.declared.Truth.TheVariants.{Bottom}
-use Rattle.notice.specs.Layout.{check_of as noticeCheck, number_of, place_of, stood_of, Indexed}
+use Rattle.notice.specs.Layout.{check_of as noticeCheck, number_of, place_of}
 use Rattle.notice.specs.declared.Layout.TheVariants.{WellFormed, Fault}
 use Rattle.notice.specs.declared.Layout.{Layout}
 use Rattle.notice.specs.Field.{Field}
 use Rattle.notice.specs.Write.{written_of, written_bytes}
 use Rattle.opcode.specs.declared.Edition.{Edition}
 use Rattle.grammar.specs.Tree.{Tree}
-use Rattle.table.specs.Table.{encode, pool_of, decode}
+use Rattle.table.specs.Table.{encode, decode}
 use Rattle.table.specs.Check.{check_of as tableCheck, refusal_of}
 use Rattle.interpreter.specs.Run.{after, run_of, verdict_of}
 use Rattle.interpreter.specs.Undecided.{no_entry}
-use Rattle.interpreter.specs.Machine.{state_of, fresh, Visited}
+use Rattle.interpreter.specs.Machine.{fresh, Visited}
 use Rattle.interpreter.specs.Running.{running_of}
 use Rattle.interpreter.specs.declared.Machine.{Machine}
 use Rattle.interpreter.specs.declared.Ran.{Ran}
@@ -52,8 +52,6 @@ pub record Met (edition : Edition) (text notice table : List ℕ) (number : ℕ)
   -- .. "nor the runner", which holds just as many after as many visits
   pub runner_holds : machine.depth ≡ length (after (decode table) notice visits).stack
   pub runner_small : machine.depth ≤ 32
-  -- and it is the runner of this answer: after as many visits as there are, it holds the verdict and has counted the steps
-  pub runner_answers : length (decode table).entries ≤ visits → (verdict ≡ verdict_of (state_of (pool_of table) notice machine)) × (steps ≡ machine.steps)
 
 -- The calls of the code for an edition, a text, a buffer, a notice and a number of visits: what each answers, and its promise.
 pub record Calls (edition : Edition) (text buffer notice : List ℕ) (visits : ℕ) : Type 0 where
@@ -67,14 +65,9 @@ pub record Calls (edition : Edition) (text buffer notice : List ℕ) (visits : �
   -- `run(table, notice)`
   pub ran : Ran
   pub runs : ran ≡ running_of (take translated.length written) notice
-  -- `index(notice, starts)` over an array of 64, which leaves the starts of the notice's fields there
-  pub lent : List ℕ
-  pub room : length lent ≡ 64
-  pub starts : List ℕ
-  pub indexes : starts ≡ sets lent 0 (stood_of notice)
-  -- `run_indexed(table, notice, starts, visits)`, by which `run` makes its visits, all of them (through `run_kept` and `run_whole`): the runner's machine after that many; it asks for a table that passes the check, a notice found well-formed and the starts of its fields
+  -- `run_checked(table, notice, visits)`, by which `run` makes its visits: the runner's machine after that many; it asks for a table that passes the check and a notice found well-formed
   pub machine : Machine
-  pub runner : tableCheck (take translated.length written) ≡ true → noticeCheck notice ≡ WellFormed → Indexed notice starts → Visited (take translated.length written) notice visits machine
+  pub runner : tableCheck (take translated.length written) ≡ true → noticeCheck notice ≡ WellFormed → Visited (take translated.length written) notice visits machine
 
 -- Demand 3, for every number of visits: a run has at most 512, and a larger number makes as many as there are, so that a `usize` names them all.
 abbrev pub DemandThree : Type 0

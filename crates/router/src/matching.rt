@@ -47,7 +47,7 @@ fn refused(number: u8, place: usize) -> Matched
     }
 }
 
-// Checks a table and runs it on the notice; beside the whole run's answer stands the runner's machine after `visits` visits. Both come from `run_indexed`, by which `run` makes its visits: all of them in `run_whole`. It asks for a notice found well-formed, as they do.
+// Checks a table and runs it on the notice; beside the whole run's answer stands the runner's machine after `visits` visits. It asks for a notice found well-formed, as `run_checked` does.
 fn check_and_run<'a>(table: &'a [u8], notice: &'a [u8], visits: usize) -> Matched
     requires { noticeCheck notice.now ≡ WellFormed }
     ensures { RunsChecked table.now notice.now visits result }
@@ -55,11 +55,9 @@ fn check_and_run<'a>(table: &'a [u8], notice: &'a [u8], visits: usize) -> Matche
     if !table::check(table) {
         return refused(12, 0);
     }
-    let mut starts: [u16; 64] = [0; 64];
-    notice::index(notice, &mut starts);
-    let a = interpreter::run_whole(table, notice, &starts);
+    let a = interpreter::run(table, notice);
     let verdict = a.verdict;
-    let machine = interpreter::run_indexed(table, notice, &starts, visits);
+    let machine = interpreter::run_checked(table, notice, visits);
     Matched {
         number: a.number,
         place: a.place,

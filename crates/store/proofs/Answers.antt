@@ -237,19 +237,3 @@ module _ (s : List ℕ) (n : ℕ) where
       go : (b : Bool) → right_of s ≡ b → Fetches (part_of s n)
       go false e = nothing_fetched 25 (broken_held s n e)
       go true e = by-start e (dec_le 1 (get_or (starts_of s) n 0))
-
--- a part that is not refused lies past the header and before the end
-module _ (s : List ℕ) (n : ℕ) (ok : right_of s ≡ true) (bytes : Bytes s) where
-  pub part_inside : held_refusal s n ≡ 0 → (8 ≤ (part_of s n).start) × ((part_of s n).start ≤ (part_of s n).end) × ((part_of s n).end ≤ end_of s)
-  part_inside held = go (dec_le 1 (get_or (starts_of s) n 0))
-    where
-      go : Dec (1 ≤ get_or (starts_of s) n 0) → (8 ≤ (part_of s n).start) × ((part_of s n).start ≤ (part_of s n).end) × ((part_of s n).end ≤ end_of s)
-      go (no z) = let y : ◌≡◌ {A = ℕ} 29 0 = sym (not_held s n ok (omega arith)) ∙ held in absurd (omega arith)
-      go (yes z) =
-          let at = get_or (starts_of s) n 0 in
-          let some_start : at ≡ 0 → ⊥ = λ e. omega arith in
-          let l = lies s n ok bytes at refl some_start in
-          let i = l.after in
-          let j = l.size in
-          let k = l.within in
-          subst (λ (p : Part). (8 ≤ p.start) × (p.start ≤ p.end) × (p.end ≤ end_of s)) (part_held s n ok bytes at refl some_start) (omega arith, omega arith, k)

@@ -1,20 +1,20 @@
 -- The starts of records by number: 0 exactly where the place is free. Assumes nothing.
 use mathlib.Core.Path.{◌≡◌, refl, sym, ap, ◌∙◌}
 use mathlib.Core.Bool.{Bool, true, false}
-use mathlib.Core.List.{List, [], ◌∷◌, ◌++◌}
+use mathlib.Core.List.{List, [], ◌∷◌}
 use mathlib.Core.Option.{none, some}
 use Prim.Native.Nat.{ℕ, zero, suc, ◌+◌, ◌<◌}
 use native.Mathlib.Omega.{arith}
 use lib.Dec.{eqb}
-use lib.ListN.{length, get_or, set, replicate, length-append, length-set, length-replicate}
+use lib.ListN.{length, get_or, set, replicate, length-set, length-replicate}
 use lib.Seq.{get_or-set_same, get_or-set_other}
 use borrow.Author.Tests.{ne_eqb, eqb-true, eqb-false}
 use Rattle.common.specs.Choice.{pick}
 use Rattle.common.proofs.Choice.{false_true}
-use Rattle.store.specs.Layout.{Rec, Place, mark, rec_bytes, recs_bytes, put, places_from, free}
+use Rattle.store.specs.Layout.{Rec, Place, mark, put, places_from, free}
 use Rattle.store.specs.Calls.{Found, At, Nothing, first_zero, starts_in, lowest_free, locate_in}
 use Rattle.store.specs.Theorems.{Good}
-use Rattle.store.proofs.Places.{length_rec, length_put, other, spot}
+use Rattle.store.proofs.Places.{length_put, other, spot}
 
 -- a start is 0 exactly where the place is free
 unfoldable pub Zeros : List ℕ → List Place → Type 0
@@ -97,15 +97,6 @@ pub length_starts : (ms : List ℕ) (rs : List Rec) (at : ℕ) → length (start
 unfolding starts_in
 length_starts ms [] at = refl
 length_starts ms (r ∷ rs) at = length_starts (set ms r.number at) rs (at + (4 + length r.table)) ∙ length-set ms r.number at
-
--- the starts of some records, then of others
-pub starts_append : (ms : List ℕ) (xs ys : List Rec) (at : ℕ) → starts_in ms (xs ++ ys) at ≡ starts_in (starts_in ms xs at) ys (at + length (recs_bytes xs))
-unfolding starts_in
-starts_append ms [] ys at = ap (starts_in ms ys) (omega arith)
-starts_append ms (x ∷ xs) ys at =
-    let next = at + (4 + length x.table) in
-    let e : next + length (recs_bytes xs) ≡ at + length (recs_bytes (x ∷ xs)) = omega (arith, length_rec x, length-append (rec_bytes x) (recs_bytes xs)) in
-    starts_append (set ms x.number at) xs ys next ∙ ap (starts_in (starts_in (set ms x.number at) xs next) ys) e
 
 -- what the start of a number tells
 zero_default : (m n : ℕ) → ◌≡◌ {A = ℕ} (get_or (replicate m 0) n 0) 0

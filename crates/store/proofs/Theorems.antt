@@ -1,32 +1,28 @@
 -- The theorems that specs/Theorems.antt states. Assumes nothing.
 use mathlib.Core.Path.{◌≡◌, refl, sym, ap, ap₂, subst, ◌∙◌}
 use mathlib.Core.Bool.{Bool, true, false}
-use mathlib.Core.List.{List, [], ◌∷◌, ◌++◌, map, append_assoc}
+use mathlib.Core.List.{List, [], ◌∷◌, ◌++◌, map}
 use mathlib.Core.Option.{none, some}
-use Prim.Native.Nat.{ℕ, zero, suc, ◌+◌, ◌*◌, ◌-◌, ◌≤◌, ◌<◌}
+use Prim.Native.Nat.{ℕ, zero, suc, ◌+◌, ◌*◌, ◌≤◌, ◌<◌}
 use native.Mathlib.Omega.{arith}
 use lib.Dec.{eqb, leb, ltb}
-use lib.ListN.{length, get_or, set, take, drop, replicate, length-append, length-drop, length-replicate}
-use lib.Seq.{set-get_or, get_or-set_other, take-append-le, drop-append-le, drop-append-add}
+use lib.ListN.{length, get_or, set, drop, length-append, length-replicate}
+use lib.Seq.{set-get_or}
 use borrow.Author.Tests.{le-leb, lt-leb, lt-ltb, ne_eqb, eqb-true, eqb-false, leb-true, leb-false, ltb-true}
 use Rattle.common.specs.Choice.{pick}
 use Rattle.common.specs.Each.{Each}
-use Rattle.word.specs.Word.{Bytes}
-use Rattle.word.proofs.Laws.{length_word_bytes}
 use Rattle.notice.specs.Layout.{unless}
 use Rattle.table.specs.Check.{check_of as tableCheck}
 use Rattle.table.proofs.Tests.{both_true}
 use Rattle.table.proofs.Theorems.{checked_short}
 use Rattle.store.specs.declared.Added.{Added}
 use Rattle.store.specs.declared.Part.{Part}
-use Rattle.store.specs.Layout.{Rec, Place, rec_bytes, recs_bytes, header_bytes, store_bytes, written, end_of, records_of, places_from, free, size_right, right_of, places_in}
-use Rattle.store.specs.Calls.{lowest_free, held_count, held_bytes, room_for, is_held, table_in, starts_in, starts_of, Found, At, Nothing, without, locate_in, rec, Makes, add_refusal_in, add_refusal, added_by, added_bytes, held_refusal_in, held_refusal, removed_bytes, fetched_of, part_of, Appendable}
-use Rattle.store.specs.Theorems.{Good, LayoutIs, RecordsRead, AtMost64, Lowest, FullIs64, RoomRule, NumberBelow64, PartFetched, PartStays, AddRefused, RemoveRefused, FetchRefused, Call, make, add, remove, fetch, Event, made, added, removed, fetched, call_of, refusal_in, Happens, Follows, plain_event, plain_after, plain_events, AsPlain, Never26, Passes, FetchedPass}
-use Rattle.store.proofs.Places.{some_none, length_rec, recs_append, length_places, places_append, good_append, other, bytes_held, lowest_free_lem, spot, none_found, spot_removed, count_places, count_free, count_most, full_count, count_full, lower_held}
-use Rattle.store.proofs.Starts.{starts_append}
+use Rattle.store.specs.Layout.{Rec, Place, rec_bytes, recs_bytes, store_bytes, written, end_of, records_of, places_from, free, size_right, right_of, places_in}
+use Rattle.store.specs.Calls.{lowest_free, held_count, held_bytes, room_for, is_held, table_in, Found, At, Nothing, without, locate_in, rec, add_refusal_in, add_refusal, added_by, added_bytes, held_refusal_in, held_refusal, removed_bytes, fetched_of}
+use Rattle.store.specs.Theorems.{Good, LayoutIs, RecordsRead, AtMost64, Lowest, FullIs64, RoomRule, NumberBelow64, PartFetched, AddRefused, RemoveRefused, FetchRefused, Call, make, add, remove, fetch, Event, made, added, removed, fetched, call_of, refusal_in, Happens, Follows, plain_event, plain_after, plain_events, AsPlain, Never26, Passes, FetchedPass}
+use Rattle.store.proofs.Places.{some_none, length_rec, recs_append, length_places, places_append, good_append, bytes_held, lowest_free_lem, spot, none_found, spot_removed, count_places, count_free, count_most, full_count, count_full, lower_held}
 use Rattle.store.proofs.Parses.{right, right_written, length_store, length_written, store_read}
-use Rattle.store.proofs.Stores.{recs_bytes_append}
-use Rattle.store.proofs.Answers.{all_free, count_free_number, passed, appendable, number_is, place_held, Fetches, fetches, part_inside}
+use Rattle.store.proofs.Answers.{all_free, count_free_number, passed, appendable, number_is, Fetches, fetches}
 
 -- ---- the layout
 
@@ -76,109 +72,6 @@ number_below_64 s t after a adds z =
 pub part_fetched : PartFetched
 part_fetched s bytes n p e = subst (Fetches s n) (sym e) (fetches s n bytes)
 
--- bytes past the header, within the records
-inside : (header records rest : List ℕ) (at k : ℕ) → length header ≡ 8 → 8 ≤ at → at + k ≤ 8 + length records
-    → take k (drop at (header ++ (records ++ rest))) ≡ take k (drop (at - 8) records)
-inside header records rest at k l m r =
-    let i : at ≡ length header + (at - 8) = omega arith in
-    ap (λ (j : ℕ). take k (drop j (header ++ (records ++ rest)))) i
-    ∙ ap (take k) (drop-append-add header (records ++ rest) (at - 8) ∙ drop-append-le (at - 8) records rest (omega arith))
-    ∙ take-append-le k (drop (at - 8) records) rest (omega (arith, length-drop (at - 8) records))
-
--- a table that is accepted, and a number that was held before
-module _ (s t : List ℕ) (bytes : Bytes s) (accepted : add_refusal s t ≡ 0) (n : ℕ) (held : held_refusal s n ≡ 0) where
-  abbrev new : Rec
-  new = rec (lowest_free (places_in s)) t
-
-  abbrev rs : List Rec
-  rs = records_of s
-
-  abbrev later : List ℕ
-  later = written (rs ++ (new ∷ [])) s
-
-  fits : Appendable s (lowest_free (places_in s)) t
-  fits = appendable s t accepted
-
-  size_later : 8 + length (recs_bytes (rs ++ (new ∷ []))) ≤ length s
-  size_later = let r = fits.room in omega (arith, recs_append rs (new ∷ []), length_rec new, length-append (rec_bytes new) [], (right s fits.right).size)
-
-  read_later : (right_of later ≡ true) × (records_of later ≡ rs ++ (new ∷ []))
-  unfolding Good places_in written
-  read_later =
-      let w = right s fits.right in
-      let g : Good free (rs ++ (new ∷ [])) = good_append free rs (new ∷ []) w.good (fits.few, let z = fits.short in omega arith, fits.unheld, tt) in
-      store_read (rs ++ (new ∷ [])) (drop (8 + length (recs_bytes (rs ++ (new ∷ [])))) s) g (omega (arith, length_written (rs ++ (new ∷ [])) s size_later, w.header.short))
-
-  other_number : n ≡ lowest_free (places_in s) → ⊥
-  other_number = other (places_in s) n (lowest_free (places_in s)) (fetched_of s n) (place_held s n fits.right held) fits.unheld
-
-  same_place : get_or (places_in later) n none ≡ get_or (places_in s) n none
-  unfolding places_in places_from
-  same_place =
-      ap (λ (x : List Rec). get_or (places_from free x) n none) read_later.1
-      ∙ ap (λ (x : List Place). get_or x n none) (places_append free rs (new ∷ []))
-      ∙ get_or-set_other (places_from free rs) (lowest_free (places_in s)) n (some t) none other_number
-
-  same_refusal : held_refusal later n ≡ held_refusal s n
-  unfolding held_refusal
-  same_refusal = rw (read_later.0, same_place, fits.right)
-
-  same_start : get_or (starts_of later) n 0 ≡ get_or (starts_of s) n 0
-  unfolding starts_in
-  same_start =
-      ap (λ (x : List Rec). get_or (starts_in (replicate 64 0) x 8) n 0) read_later.1
-      ∙ ap (λ (x : List ℕ). get_or x n 0) (starts_append (replicate 64 0) rs (new ∷ []) 8)
-      ∙ get_or-set_other (starts_of s) (lowest_free (places_in s)) n (8 + length (recs_bytes rs)) 0 other_number
-
-  same_fetched : fetched_of later n ≡ fetched_of s n
-  same_fetched = rw (same_refusal, same_place)
-
-  same_part : part_of later n ≡ part_of s n
-  same_part = rw (same_refusal, same_start, same_place)
-
-  same_bytes : (at k : ℕ) → 8 ≤ at → at + k ≤ end_of s → take k (drop at later) ≡ take k (drop at s)
-  unfolding written store_bytes
-  same_bytes at k m r =
-      let w = right s fits.right in
-      let h = header_bytes (length (recs_bytes rs)) (length rs) in
-      let g = header_bytes (length (recs_bytes (rs ++ (new ∷ [])))) (length (rs ++ (new ∷ []))) in
-      let lh : length h ≡ 8 = simp (length-append, length_word_bytes) in
-      let lg : length g ≡ 8 = simp (length-append, length_word_bytes) in
-      let rest = drop (8 + length (recs_bytes (rs ++ (new ∷ [])))) s in
-      let z = w.size in
-      let was : s ≡ h ++ (recs_bytes rs ++ drop (end_of s) s) = right_written s bytes fits.right ∙ append_assoc h (recs_bytes rs) (drop (end_of s) s) in
-      let is : later ≡ g ++ (recs_bytes rs ++ (recs_bytes (new ∷ []) ++ rest)) =
-      append_assoc g (recs_bytes (rs ++ (new ∷ []))) rest
-      ∙ ap (λ (x : List ℕ). g ++ (x ++ rest)) (recs_bytes_append rs (new ∷ []))
-      ∙ ap (λ (x : List ℕ). g ++ x) (append_assoc (recs_bytes rs) (recs_bytes (new ∷ [])) rest) in
-      ap (λ (x : List ℕ). take k (drop at x)) is
-      ∙ inside g (recs_bytes rs) (recs_bytes (new ∷ []) ++ rest) at k lg m (omega arith)
-      ∙ sym (inside h (recs_bytes rs) (drop (end_of s) s) at k lh m (omega arith))
-      ∙ sym (ap (λ (x : List ℕ). take k (drop at x)) was)
-
--- the part p of the number n in s is found in x too, with the same bytes
-abbrev Stays : List ℕ → ℕ → Part → List ℕ → Type 0
-Stays s n p x = (part_of x n ≡ p) × (fetched_of x n ≡ fetched_of s n) × (take (p.end - p.start) (drop p.start x) ≡ take (p.end - p.start) (drop p.start s))
-
-pub part_stays : PartStays
-part_stays s t after a bytes adds n p e z = go (eqb (add_refusal s t) 0) refl
-  where
-    held : held_refusal s n ≡ 0
-    held = sym (ap (λ (x : Part). x.refusal) e) ∙ z
-
-    go : (b : Bool) → eqb (add_refusal s t) 0 ≡ b → Stays s n p after
-    go false f = subst (Stays s n p) (sym (adds.bytes ∙ rw f)) (sym e, refl, refl)
-    go true f =
-        let accepted = eqb-true (add_refusal s t) 0 f in
-        let i = part_inside s n (appendable s t accepted).right bytes held in
-        let start_is = ap (λ (x : Part). x.start) e in
-        let end_is = ap (λ (x : Part). x.end) e in
-        subst (Stays s n p) (sym (adds.bytes ∙ rw f)) (
-          same_part s t bytes accepted n held ∙ sym e,
-          same_fetched s t bytes accepted n held,
-          same_bytes s t bytes accepted n held p.start (p.end - p.start) (omega (arith, i.0)) (omega (arith, i.1, i.2)),
-        )
-
 pub add_refused : AddRefused
 add_refused s t after a adds n =
     let f : eqb (add_refusal s t) 0 ≡ false = ne_eqb (add_refusal s t) 0 (λ z. n (ap (λ (x : Added). x.refusal) adds.answer ∙ z)) in
@@ -195,7 +88,7 @@ fetch_refused s n p e z =
 
 -- ---- a store and the plain list
 
-pub record State (s : List ℕ) (size : ℕ) (ps : List Place) : Type 0 where
+record State (s : List ℕ) (size : ℕ) (ps : List Place) : Type 0 where
   pub rs : List Rec
   pub rest : List ℕ
   pub good : Good free rs
@@ -224,26 +117,17 @@ emptied : (s : List ℕ) (size : ℕ) → length s ≡ size → 8 ≤ size → s
 unfolding Good places_from
 emptied s size l m h = state_written s size [] l m h tt m
 
--- a buffer that was made empty, and not refused
-pub made_state : (buffer empty : List ℕ) (size : ℕ) → length buffer ≡ size → Makes buffer empty 0 → State empty size free
-made_state buffer empty size long makes =
-    let a : size_right (length buffer) ≡ true = (passed (size_right (length buffer)) 25 0 (sym makes.answer)).0 in
-    let b = both_true (leb 8 (length buffer)) (leb (length buffer) 65536) a in
-    let m : 8 ≤ size = omega (arith, leb-true 8 (length buffer) b.0) in
-    let n : size ≤ 65536 = omega (arith, leb-true (length buffer) 65536 b.1) in
-    subst (λ (x : List ℕ). State x size free) (sym (makes.bytes ∙ rw a)) (emptied buffer size long m n)
-
 module _ (s : List ℕ) (size : ℕ) (ps : List Place) (w : State s size ps) where
   both : (right_of (store_bytes w.rs ++ w.rest) ≡ true) × (records_of (store_bytes w.rs ++ w.rest) ≡ w.rs)
   both = let z = ap length w.bytes in store_read w.rs w.rest w.good (omega (arith, w.long, w.short))
 
-  pub ok : right_of s ≡ true
+  ok : right_of s ≡ true
   ok = ap right_of w.bytes ∙ both.0
 
   records : records_of s ≡ w.rs
   records = ap records_of w.bytes ∙ both.1
 
-  pub same_places : places_in s ≡ ps
+  same_places : places_in s ≡ ps
   unfolding places_in
   same_places = ap (places_from free) records ∙ w.places
 
@@ -334,7 +218,7 @@ module _ (s : List ℕ) (size : ℕ) (ps : List Place) (w : State s size ps) whe
           rw q w
 
   -- one event is the plain list's, and leaves a store that is the plain list's
-  pub one_event : (e : Event) (after : List ℕ) → Happens s e after → (e ≡ plain_event size ps (call_of e)) × State after size (plain_after size ps (call_of e))
+  one_event : (e : Event) (after : List ℕ) → Happens s e after → (e ≡ plain_event size ps (call_of e)) × State after size (plain_after size ps (call_of e))
   one_event (made k) after h = (
     ap made (h.answer ∙ rw right_size),
     subst (λ (x : List ℕ). State x size free) (sym (h.bytes ∙ rw right_size)) (emptied s size w.long w.some_room w.short),
@@ -354,17 +238,24 @@ module _ (s : List ℕ) (size : ℕ) (ps : List Place) (w : State s size ps) whe
 
 pub as_plain : AsPlain
 unfolding Follows
-as_plain size es h = go es h.empty free (made_state h.buffer h.empty size h.long h.makes) h.follows
+as_plain size es h = go es h.empty free first h.follows
   where
+    first : State h.empty size free
+    first =
+        let a : size_right (length h.buffer) ≡ true = (passed (size_right (length h.buffer)) 25 0 (sym h.makes.answer)).0 in
+        let b = both_true (leb 8 (length h.buffer)) (leb (length h.buffer) 65536) a in
+        let m : 8 ≤ size = omega (arith, h.long, leb-true 8 (length h.buffer) b.0) in
+        let n : size ≤ 65536 = omega (arith, h.long, leb-true (length h.buffer) 65536 b.1) in
+        subst (λ (x : List ℕ). State x size free) (sym (h.makes.bytes ∙ rw a)) (emptied h.buffer size h.long m n)
+
     go : (es : List Event) (x : List ℕ) (ps : List Place) → State x size ps → Follows x es → es ≡ plain_events size ps (map call_of es)
     go [] x ps w f = refl
     go (e ∷ es) x ps w f =
         let one = one_event x size ps w e f.0 f.1 in
         ap₂ (λ (a : Event) (l : List Event). a ∷ l) one.0 (go es f.0 (plain_after size ps (call_of e)) one.1 f.2)
 
--- no call on the plain list is refused with 26
-pub plain_not_26 : (size : ℕ) (ps : List Place) (c : Call) → refusal_in (plain_event size ps c) ≡ 26 → ⊥
-plain_not_26 size ps = one
+pub never_26 : Never26
+never_26 size es h = subst (Each (λ e. refusal_in e ≡ 26 → ⊥)) (sym (as_plain size es h)) (go (map call_of es) free)
   where
     add_not : (a b c : Bool) → unless a 12 (unless b 27 (unless c 28 0)) ≡ 26 → ⊥
     add_not true true true e = omega arith
@@ -376,25 +267,22 @@ plain_not_26 size ps = one
     held_not true e = omega arith
     held_not false e = omega arith
 
-    one : (c : Call) → refusal_in (plain_event size ps c) ≡ 26 → ⊥
-    one make e = omega arith
-    one (add t) e = add_not (tableCheck t) (ltb (held_count ps) 64) (leb (room_for ps t) size) e
-    one (remove n) e = held_not (is_held (get_or ps n none)) e
-    one (fetch n) e = held_not (is_held (get_or ps n none)) e
+    one : (c : Call) (ps : List Place) → refusal_in (plain_event size ps c) ≡ 26 → ⊥
+    one make ps e = omega arith
+    one (add t) ps e = add_not (tableCheck t) (ltb (held_count ps) 64) (leb (room_for ps t) size) e
+    one (remove n) ps e = held_not (is_held (get_or ps n none)) e
+    one (fetch n) ps e = held_not (is_held (get_or ps n none)) e
 
-pub never_26 : Never26
-never_26 size es h = subst (Each (λ e. refusal_in e ≡ 26 → ⊥)) (sym (as_plain size es h)) (go (map call_of es) free)
-  where
     go : (cs : List Call) (ps : List Place) → Each (λ e. refusal_in e ≡ 26 → ⊥) (plain_events size ps cs)
     go [] ps = tt
-    go (c ∷ cs) ps = (plain_not_26 size ps c, go cs (plain_after size ps c))
+    go (c ∷ cs) ps = (one c ps, go cs (plain_after size ps c))
 
 -- ---- every table held passes the check
 
-abbrev pub Passing : List Place → Type 0
+abbrev Passing : List Place → Type 0
 Passing ps = (n : ℕ) (t : List ℕ) → get_or ps n none ≡ some t → tableCheck t ≡ true
 
-pub passing_free : Passing free
+passing_free : Passing free
 passing_free n t e = some_none {t = t} (sym e ∙ all_free 64 n)
 
 passing_set : (ps : List Place) (k : ℕ) (p : Place) → Passing ps → ((t : List ℕ) → p ≡ some t → tableCheck t ≡ true) → Passing (set ps k p)
@@ -404,7 +292,7 @@ passing_set (q ∷ ps) zero p w h (suc n) t e = w (suc n) t e
 passing_set (q ∷ ps) (suc k) p w h zero t e = w zero t e
 passing_set (q ∷ ps) (suc k) p w h (suc n) t e = passing_set ps k p (λ i u f. w (suc i) u f) h n t e
 
-pub passing_after : (size : ℕ) (ps : List Place) (c : Call) → Passing ps → Passing (plain_after size ps c)
+passing_after : (size : ℕ) (ps : List Place) (c : Call) → Passing ps → Passing (plain_after size ps c)
 passing_after size ps make w = passing_free
 passing_after size ps (add t) w = go (eqb (add_refusal_in size ps t) 0) refl
   where

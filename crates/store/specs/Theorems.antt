@@ -56,12 +56,6 @@ PartFetched =
     (s : List ℕ) → Bytes s → (n : ℕ) (p : Part) → p ≡ part_of s n
     → (p.start ≤ p.end) × (p.end ≤ length s) × (take (p.end - p.start) (drop p.start s) ≡ fetched_of s n)
 
--- A part that was found stays while tables are added: after an `add`, refused or not, `find` answers the same part, `fetch` the same table, and the bytes of the part are the same.
-abbrev pub PartStays : Type 0
-PartStays =
-    (s t after : List ℕ) (a : Added) → Bytes s → Adds s t after a → (n : ℕ) (p : Part) → p ≡ part_of s n → p.refusal ≡ 0
-    → (part_of after n ≡ p) × (fetched_of after n ≡ fetched_of s n) × (take (p.end - p.start) (drop p.start after) ≡ take (p.end - p.start) (drop p.start s))
-
 -- "Refused, add answers 64", and no byte changes ..
 abbrev pub AddRefused : Type 0
 AddRefused = (s t after : List ℕ) (a : Added) → Adds s t after a → (a.refusal ≡ 0 → ⊥) → (a.number ≡ 64) × (after ≡ s)

@@ -134,7 +134,7 @@ pub fn find(store: &[u8], number: usize) -> Part
     }
 }
 
-// "fetch by number as a part of the buffer"; "Refused, .. fetch an empty part". The promise is of the part's bytes; `find` answers where it lies.
+// "fetch by number as a part of the buffer"; "Refused, .. fetch an empty part".
 pub fn fetch(store: &[u8], number: usize) -> &[u8]
     ensures { result.now ≡ fetched_of store.now number }
 {

@@ -40,7 +40,7 @@ fn stands(store: &[u8], starts: &[u16; 64], end: usize, at: usize) -> bool
     starts[number] == 0
 }
 
-// Whether the bytes keep the layout; and if so, where the record of each number starts, 0 for none. It asks for an array of zeros. After false the starts are unspecified.
+// Whether the bytes keep the layout; and if so, where the record of each number starts, 0 for none. It asks for an array of zeros.
 pub fn index(store: &[u8], starts: &mut [u16; 64]) -> bool
     requires { starts.old ≡ replicate 64 0 }
     ensures { (result ≡ right_of store.now) × (result ≡ true → starts.new ≡ starts_of store.now) }

@@ -12,4 +12,3 @@ pub mod Parts
 pub mod Theorems
 pub mod Answer
 pub mod Passing
-pub mod Alike

@@ -1,6 +1,5 @@
 -- The patterns before an entry: which operators take them, and what the rule says of each. Assumes nothing.
-use mathlib.Core.Path.{◌≡◌, refl, sym, ap, subst, ◌∙◌}
-use mathlib.Core.Logic.{◌↔◌, ◌⊎◌, inl, inr}
+use mathlib.Core.Path.{◌≡◌, refl, sym, ap, ◌∙◌}
 use mathlib.Core.Bool.{Bool, true, false, not, ◌&&◌}
 use mathlib.Core.List.{List, [], ◌∷◌}
 use mathlib.Core.Option.{Option, none, some, some-injective}
@@ -12,19 +11,15 @@ use lib.Dec.{eqb}
 use lib.ListN.{length, get_or, get_or-eq_default}
 use Rattle.common.specs.Each.{Each}
 use Rattle.common.proofs.Choice.{true_false, false_true}
-use Rattle.pattern.specs.Wildcard.{WellFormed}
-use Rattle.pattern.specs.Computed.{well_formed}
-use Rattle.pattern.proofs.Theorems.{well_formed_exactly}
-use Rattle.regexp.specs.Grammar.{WellFormed as RegexFormed}
+use Rattle.pattern.specs.Wildcard.{well_formed}
 use Rattle.regexp.specs.Regex.{well_formed as regexFormed}
-use Rattle.regexp.proofs.Theorems.{well_formed_exactly as regex-exactly}
 use Rattle.opcode.specs.Opcode.{ops, op_of}
 use Rattle.opcode.specs.declared.Op.{Op}
 use Rattle.opcode.proofs.Unknown.{Rest, one_or_rest, among, all_below, below_but}
 use Rattle.table.specs.Table.{Entry, blank}
-use Rattle.table.specs.Check.{part_of, part_right, entry_right, pattern_test, operand_right, operands_right, pattern_by, patterns_right}
+use Rattle.table.specs.Check.{part_right, entry_right, pattern_test, operand_right, operands_right, pattern_by, patterns_right}
 use Rattle.table.specs.Groups.{group_of}
-use Rattle.table.specs.Ways.{Patterns, EveryPattern}
+use Rattle.table.specs.Ways.{EveryPattern}
 use Rattle.table.specs.declared.groups.Group.{Group}
 use Rattle.table.proofs.Tests.{both_true, are_true}
 use Rattle.table.proofs.Passes.{all_patterns, each_pattern}
@@ -143,44 +138,23 @@ module _ (test : List ℕ → Bool) (pool : List ℕ) (es : List Entry) where
 
 -- ---- the rule in the paper's words
 
--- a test that says which texts are patterns
-module _ (test : List ℕ → Bool) (Formed : List ℕ → Type 0) (exactly : (p : List ℕ) (answer : Bool) → answer ≡ test p → (answer ≡ true) ↔ Formed p) (pool : List ℕ) (es : List Entry) (i : ℕ) where
-  told : operands_right test pool es i (get_or es i blank).a ≡ true → Patterns pool es i Formed
-  told r =
+module _ (pool : List ℕ) (es : List Entry) where
+  pub every_pattern : patterns_right pool es (length es) ≡ true → EveryPattern pool es
+  every_pattern e i h test t =
+      let r : operands_right test pool es i (get_or es i blank).a ≡ true = rw t at (each_pattern pool es (length es) i h e) in
       let o = operands_are test pool es i (get_or es i blank).a r in
       record {
         enough = o.0;
         string = λ k l m. eqb-true (get_or es k blank).op 4 (both_true (eqb (get_or es k blank).op 4) _ (o.1 k l m)).0;
-        formed = λ k l m. (exactly (part_of pool (get_or es k blank)) (test (part_of pool (get_or es k blank))) refl).0 (both_true (eqb (get_or es k blank).op 4) _ (o.1 k l m)).1;
+        formed = λ k l m. (both_true (eqb (get_or es k blank).op 4) _ (o.1 k l m)).1;
       }
-
-  tested : Patterns pool es i Formed → operands_right test pool es i (get_or es i blank).a ≡ true
-  tested p =
-      are_operands test pool es i (get_or es i blank).a p.enough
-      (λ k l m. are_true _ _ (eq-eqb (get_or es k blank).op 4 (p.string k l m)) ((exactly (part_of pool (get_or es k blank)) (test (part_of pool (get_or es k blank))) refl).1 (p.formed k l m)))
-
-module _ (pool : List ℕ) (es : List Entry) where
-  pub every_pattern : patterns_right pool es (length es) ≡ true → EveryPattern pool es
-  every_pattern e i h = (
-    λ o. let t : pattern_test (op_of (get_or es i blank).op) ≡ some well_formed = ap (λ (n : ℕ). pattern_test (op_of n)) o in
-        told well_formed WellFormed well_formed_exactly pool es i (rw t at (each_pattern pool es (length es) i h e)),
-    λ o. let t : pattern_test (op_of (get_or es i blank).op) ≡ some regexFormed = ap (λ (n : ℕ). pattern_test (op_of n)) o in
-        told regexFormed RegexFormed regex-exactly pool es i (rw t at (each_pattern pool es (length es) i h e)),
-  )
 
   pub patterns_right_lem : EveryPattern pool es → patterns_right pool es (length es) ≡ true
   patterns_right_lem w = all_patterns pool es (length es) (λ i h. go i h (pattern_test (op_of (get_or es i blank).op)) refl)
     where
-      -- by the operator that has the test
-      by : (i : ℕ) → i < length es → (test : List ℕ → Bool) → pattern_test (op_of (get_or es i blank).op) ≡ some test → ((get_or es i blank).op ≡ 61) ⊎ ((get_or es i blank).op ≡ 60)
-          → operands_right test pool es i (get_or es i blank).a ≡ true
-      by i h test e (inl o) =
-          subst (λ (t : List ℕ → Bool). operands_right t pool es i (get_or es i blank).a ≡ true) (the_test (get_or es i blank).op 61 regexFormed test o refl e)
-          (tested regexFormed RegexFormed regex-exactly pool es i ((w i h).1 o))
-      by i h test e (inr o) =
-          subst (λ (t : List ℕ → Bool). operands_right t pool es i (get_or es i blank).a ≡ true) (the_test (get_or es i blank).op 60 well_formed test o refl e)
-          (tested well_formed WellFormed well_formed_exactly pool es i ((w i h).0 o))
-
       go : (i : ℕ) → i < length es → (o : Option (List ℕ → Bool)) → pattern_test (op_of (get_or es i blank).op) ≡ o → pattern_by o pool es i (get_or es i blank).a ≡ true
       go i h none e = refl
-      go i h (some test) e = by i h test e (has_test (λ n. (n ≡ 61) ⊎ (n ≡ 60)) (inl refl, (inr refl, tt)) (get_or es i blank).op test e)
+      go i h (some test) e =
+          let p = w i h test e in
+          are_operands test pool es i (get_or es i blank).a p.enough
+          (λ k l m. are_true _ _ (eq-eqb (get_or es k blank).op 4 (p.string k l m)) (p.formed k l m))

@@ -1,11 +1,10 @@
 -- The entries that are read, by their index. Assumes nothing.
-use mathlib.Core.Path.{◌≡◌, refl, ap, ◌∙◌}
+use mathlib.Core.Path.{◌≡◌, refl, ap}
 use mathlib.Core.List.{List}
-use Prim.Native.Nat.{ℕ, zero, suc, ◌+◌, ◌*◌, ◌-◌, ◌<◌}
+use Prim.Native.Nat.{ℕ, zero, suc, ◌+◌, ◌<◌}
 use native.Mathlib.Nat.{not-suc-le-zero, le_of_suc-le-suc}
 use native.Mathlib.Omega.{arith}
 use lib.ListN.{length, get_or}
-use Rattle.word.specs.Word.{word_at}
 use Rattle.table.specs.Table.{blank, count_of, entry_at, entries_from, entries_of}
 
 pub length_from : (s : List ℕ) (i n : ℕ) → length (entries_from s i n) ≡ n
@@ -25,14 +24,3 @@ module _ (s : List ℕ) where
 
   pub entry_of : (k : ℕ) → k < count_of s → get_or (entries_of s) k blank ≡ entry_at s k
   entry_of k h = let z : 0 + k ≡ k = omega arith in rw z at (from_at s 0 (count_of s) k h)
-
--- what `op_from`, `a_to` and `b_to` answer where an entry starts, or ends
-module _ (s : List ℕ) (r at i : ℕ) where
-  pub op_of_lem : r ≡ word_at 2 s at → at ≡ 10 + 12 * i → r ≡ (entry_at s i).op
-  op_of_lem e h = e ∙ ap (word_at 2 s) h
-
-  pub a_of : r ≡ word_at 2 s (at - 10) → at ≡ 22 + 12 * i → r ≡ (entry_at s i).a
-  a_of e h = let k : at - 10 ≡ 12 + 12 * i = omega arith in e ∙ ap (word_at 2 s) k
-
-  pub b_of : r ≡ word_at 8 s (at - 8) → at ≡ 22 + 12 * i → r ≡ (entry_at s i).b
-  b_of e h = let k : at - 8 ≡ 14 + 12 * i = omega arith in e ∙ ap (word_at 8 s) k

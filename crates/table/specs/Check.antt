@@ -3,7 +3,7 @@
 use Rattle.std.specs.Prelude.{ℕ, zero, suc, ◌+◌, ◌-◌, ◌^◌, Bool, true, false, cond, not, ◌&&◌, ◌||◌, List, [], ◌∷◌, eqb, leb, ltb, length, take, drop, get_or}
 use Rattle.std.proofs.Math.Option.{Option, none, some}
 use Rattle.notice.specs.Field.{name_right}
-use Rattle.pattern.specs.Computed.{well_formed}
+use Rattle.pattern.specs.Wildcard.{well_formed}
 use Rattle.regexp.specs.Regex.{well_formed as regexFormed}
 use Rattle.opcode.specs.Opcode.{op_of, Kind, logic, value, takes_of, gives_of}
 use Rattle.opcode.specs.declared.Load.{Load}

@@ -1,12 +1,11 @@
--- What holds of every table. The proofs are in proofs/Theorems.antt, that of `SameButKind` in proofs/Alike.antt, under the same names.
+-- What holds of every table. The proofs are in proofs/Theorems.antt, under the same names.
 use Rattle.std.specs.Prelude.{ℕ, ◌+◌, ◌*◌, ◌-◌, ◌^◌, ◌≤◌, ◌<◌, ◌≡◌, true, List, [], ◌∷◌, ◌++◌, ◌↔◌, ◌⊎◌, ℤ, length, take, drop, get_or}
 use Rattle.std.proofs.Math.Option.{some}
 use Rattle.std.specs.Int.{w32, w64}
 use Rattle.std.proofs.Common.{SFits, of_z}
 use Rattle.word.specs.Word.{Bytes}
 use Rattle.opcode.specs.Opcode.{op_of, Kind, logic, takes_of, gives_of}
-use Rattle.opcode.specs.declared.Edition.{Edition}
-use Rattle.table.specs.Table.{Entry, blank, Program, table_kind, encode, kind_at, decode, layout_of, count_of, entry_at, entries_of, pool_of}
+use Rattle.table.specs.Table.{Entry, blank, Program, encode, decode, layout_of, count_of, entry_at, entries_of, pool_of}
 use Rattle.table.specs.Check.{in_range, part_of, entry_right, entries_right, shape_at, is_skip, program_right, check_of}
 use Rattle.table.specs.Ways.{Reaches, EveryWay, EveryPattern}
 use Rattle.table.specs.Parts.{parts_of}
@@ -60,20 +59,6 @@ CheckWays =
 -- No entry of a checked table escapes: some way reaches each entry, and the end, with the kinds along the entries.
 abbrev pub EveryReached : Type 0
 EveryReached = (s : List ℕ) → check_of s ≡ true → (i : ℕ) → i ≤ count_of s → (ks : List Kind) × Reaches (entries_of s) i ks × (shape_at (entries_of s) i ≡ some ks)
-
--- ---- the two kinds
-
--- Tables alike but for the kind: of one length, with the same bytes before the kind's word and behind it, which is one of the two in each.
-pub record AlikeButKind (s t : List ℕ) : Type 0 where
-  pub long : length s ≡ length t
-  pub before : take 4 s ≡ take 4 t
-  pub behind : drop 6 s ≡ drop 6 t
-  pub first_kind : (kind_at s ≡ table_kind Edition.First) ⊎ (kind_at s ≡ table_kind Edition.Second)
-  pub second_kind : (kind_at t ≡ table_kind Edition.First) ⊎ (kind_at t ≡ table_kind Edition.Second)
-
--- Document 02, request 9: they have the same entries and the same pool, and one passes the check exactly if the other does.
-abbrev pub SameButKind : Type 0
-SameButKind = (s t : List ℕ) → AlikeButKind s t → (entries_of s ≡ entries_of t) × (pool_of s ≡ pool_of t) × (check_of s ≡ check_of t)
 
 -- ---- what a run of a checked table rests on
 

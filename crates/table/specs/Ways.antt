@@ -1,11 +1,9 @@
 -- The check in the papers' own words. "Every way" is static: each skip counts as taken and as not taken.
-use Rattle.std.specs.Prelude.{ℕ, suc, ◌+◌, ◌≤◌, ◌<◌, ◌≡◌, true, List, [], ◌∷◌, ◌++◌, length, get_or}
-use Rattle.pattern.specs.Wildcard.{WellFormed}
-use Rattle.regexp.specs.Grammar.{WellFormed as RegexFormed}
-use Rattle.opcode.specs.Number.{wildcard_op, regex_op}
+use Rattle.std.specs.Prelude.{ℕ, suc, ◌+◌, ◌≤◌, ◌<◌, ◌≡◌, Bool, true, List, [], ◌∷◌, ◌++◌, length, get_or}
+use Rattle.std.proofs.Math.Option.{some}
 use Rattle.opcode.specs.Opcode.{op_of, Kind, logic, takes_of, gives_of}
 use Rattle.table.specs.Table.{Entry, blank}
-use Rattle.table.specs.Check.{is_skip, landing, part_of}
+use Rattle.table.specs.Check.{is_skip, landing, part_of, pattern_test}
 
 -- the operands of the entry i, the topmost first, and what it puts in their place
 abbrev pub taken_at : List Entry → ℕ → List Kind
@@ -32,14 +30,12 @@ pub record EveryWay (es : List Entry) : Type 0 where
   pub same : (i : ℕ) (ks ls : List Kind) → Reaches es i ks → Reaches es i ls → ks ≡ ls
   pub ends : (ks : List Kind) → Reaches es (length es) ks → ks ≡ logic ∷ []
 
--- the operands of the entry i behind its first one are its a entries directly before it: "op 4", and each one a pattern by the grammar given
-pub record Patterns (pool : List ℕ) (es : List Entry) (i : ℕ) (Formed : List ℕ → Type 0) : Type 0 where
+-- the operands of the entry i behind its first one are its a entries directly before it: "op 4", and each one a pattern by the test
+pub record Patterns (pool : List ℕ) (es : List Entry) (i : ℕ) (test : List ℕ → Bool) : Type 0 where
   pub enough : (get_or es i blank).a ≤ i
   pub string : (k : ℕ) → k < i → i ≤ k + (get_or es i blank).a → (get_or es k blank).op ≡ 4
-  pub formed : (k : ℕ) → k < i → i ≤ k + (get_or es i blank).a → Formed (part_of pool (get_or es k blank))
+  pub formed : (k : ℕ) → k < i → i ≤ k + (get_or es i blank).a → test (part_of pool (get_or es k blank)) ≡ true
 
--- "the table check gives 12 for it [an ill-formed pattern] and for a pattern operand that is no op 4 entry directly before": of `wildcard` by request 1's grammar, of `regex` by request 13's
+-- "the table check gives 12 for it [an ill-formed pattern] and for a pattern operand that is no op 4 entry directly before"
 abbrev pub EveryPattern : List ℕ → List Entry → Type 0
-EveryPattern pool es =
-    (i : ℕ) → i < length es
-    → ((get_or es i blank).op ≡ wildcard_op → Patterns pool es i WellFormed) × ((get_or es i blank).op ≡ regex_op → Patterns pool es i RegexFormed)
+EveryPattern pool es = (i : ℕ) → i < length es → (test : List ℕ → Bool) → pattern_test (op_of (get_or es i blank).op) ≡ some test → Patterns pool es i test

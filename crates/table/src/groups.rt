@@ -1,4 +1,4 @@
-// The operators by what the check asks of an entry: it goes by the number, since decoding the operator costs more.
+// The operators by what the check asks of an entry: it goes by the number, since to decode the operator, as a run does, costs more.
 ghost use Rattle.std.specs.Prelude.{◌≡◌};
 ghost use Rattle.opcode.specs.Opcode.{op_of};
 ghost use Rattle.table.specs.Groups.{group_of};

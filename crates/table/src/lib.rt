@@ -1,9 +1,8 @@
 // Tables: layout, decoding and the check. Document 01, "Table"; document 02, requests 1 and 13: the patterns of `wildcard` and `regex`; request 9: the editions. Every function takes a slice that is exactly the table, wherever it lies.
-ghost use Rattle.std.specs.Prelude.{◌≡◌, Bool, true, ◌&&◌, List, ℕ, suc, ◌+◌, ◌*◌, ◌-◌, ◌≤◌, ◌<◌, leb, eqb, length, get_or, replicate};
+ghost use Rattle.std.specs.Prelude.{◌≡◌, Bool, true, ◌&&◌, List, ℕ, suc, ◌+◌, ◌*◌, ◌≤◌, ◌<◌, leb, eqb, length, get_or, replicate};
 ghost use Rattle.std.proofs.Math.Option.{Option, some};
-ghost use Rattle.word.specs.Word.{word_at};
 ghost use Rattle.opcode.specs.Opcode.{op_of, Kind, logic, value};
-ghost use Rattle.table.specs.Table.{most_bytes, table_kind, count_of, edition_of, entry_at, entries_of, pool_of, layout_of};
+ghost use Rattle.table.specs.Table.{table_kind, count_of, edition_of, entry_at, entries_of, pool_of, layout_of};
 ghost use Rattle.table.specs.Check.{in_range, part_right, load_right, entry_right, pop_one, pop, push, pattern_test, operand_right, operands_right, patterns_before, check_of};
 ghost use Rattle.table.specs.Parts.{no_parts, parts_at, parts_of};
 ghost use Rattle.table.specs.Groups.{group_of, right_by, takes_by, gives_by, skip_by};
@@ -41,13 +40,6 @@ pub fn kind(edition: Edition) -> u16
 
 // The most bytes of a table: the header, 512 entries and a pool of 4,096.
 pub const MOST_BYTES: usize = 10 + 12 * 512 + 4096;
-
-// Holds the constant to its definition.
-fn most_bytes() -> usize
-    ensures { result ≡ most_bytes }
-{
-    MOST_BYTES
-}
 
 // How many entries the table says that it has. It asks for the header, which the layout has.
 pub fn count(table: &[u8]) -> usize
@@ -91,24 +83,24 @@ pub fn b_at(table: &[u8], i: usize) -> u64
     word::read_u64(table, 14 + 12 * i)
 }
 
-// The same by where the entry lies, for a reader that goes along the table: the op of the entry that starts there, the a and the b of the entry that ends there (`op_of_lem`, `a_of`, `b_of` of proofs/Reading.antt); off an entry, the word that lies there.
+// The same by where the entry lies, for a reader that goes along the table: the op of the entry that starts there, the a and the b of the entry that ends there.
 pub fn op_from(table: &[u8], start: usize) -> u16
     requires { start + 12 ≤ length table.now }
-    ensures { result ≡ word_at 2 table.now start }
+    ensures { (i : ℕ) → start ≡ 10 + 12 * i → result ≡ (entry_at table.now i).op }
 {
     word::read_u16(table, start)
 }
 
 pub fn a_to(table: &[u8], end: usize) -> u16
     requires { (12 ≤ end) × (end ≤ length table.now) }
-    ensures { result ≡ word_at 2 table.now (end - 10) }
+    ensures { (i : ℕ) → end ≡ 22 + 12 * i → result ≡ (entry_at table.now i).a }
 {
     word::read_u16(table, end - 10)
 }
 
 pub fn b_to(table: &[u8], end: usize) -> u64
     requires { (12 ≤ end) × (end ≤ length table.now) }
-    ensures { result ≡ word_at 8 table.now (end - 8) }
+    ensures { (i : ℕ) → end ≡ 22 + 12 * i → result ≡ (entry_at table.now i).b }
 {
     word::read_u64(table, end - 8)
 }

@@ -1,5 +1,6 @@
 -- From the lexer's answer over the marks, the operands and the parser's answer to that of translation. Assumes nothing.
-use Prim.Native.Nat.{ℕ, zero, suc, ◌+◌, ◌-◌, ◌*◌, ◌≤◌, ◌<◌}
+use Prim.Native.Nat.{ℕ, zero, suc, ◌+◌, ◌-◌, ◌*◌, ◌≤◌, ◌<◌, min}
+use native.Mathlib.Decide.{dec_lt}
 use native.Mathlib.Omega.{arith}
 use mathlib.Core.Path.{◌≡◌, refl, sym, ap, ap₂, ◌∙◌, subst}
 use mathlib.Core.Bool.{Bool, true, false, cond, not, ◌&&◌, ◌||◌, not-not}
@@ -32,14 +33,14 @@ use Rattle.operands.specs.Patterns.{patterns_by}
 use Rattle.operands.proofs.Theorems.{parsed_leaves, operands_stand, parsed_patterns, deep_alike}
 use Rattle.postfix.specs.Marked.{Marked}
 use Rattle.postfix.proofs.Codes.{length_codes}
-use Rattle.postfix.proofs.Whole.{over_32}
-use Rattle.postfix.specs.Answer.{judged_of, answer_of as parsedOf, first_by, Leaves, Ready}
+use Rattle.postfix.specs.Packed.{counted_to}
+use Rattle.postfix.specs.Answer.{judged_of, answer_of as parsedOf, Leaves, Ready, Parses}
 use Rattle.postfix.specs.declared.Judged.{Judged}
 use Rattle.postfix.specs.declared.Parsed.{Parsed}
 use Rattle.postfix.specs.declared.Parsed.TheVariants.{Whole, Broken}
 use Rattle.translator.specs.Expand.{expand, pooled, Sized, sum_from}
-use Rattle.translator.specs.Emit.{Roomy, kinds_in, starts_in, Tokened, read_of, Reads, PlaceOf, Known, Coded}
-use Rattle.translator.specs.Translation.{refusal, answer_of, refusal_of, of_tree, of_result, of_tokens, of_lexed, translation_in, is_edition, edition_by, translation_of, Answers}
+use Rattle.translator.specs.Emit.{Roomy, Fronts, kinds_in, starts_in, Tokened, read_of, Reads, PlaceOf, Known, first_by, Coded, refusal_by}
+use Rattle.translator.specs.Translation.{refusal, answer_of, refusal_of, of_tree_lem, of_result, of_tokens, of_lexed, translation_in, is_edition, edition_by, translation_of, Answers}
 use Rattle.translator.specs.Theorems.{Right}
 use Rattle.translator.specs.declared.Translated.{Translated}
 use Rattle.translator.specs.declared.read.Reading.{Reading}
@@ -48,7 +49,7 @@ use Rattle.translator.proofs.Derived.{AllRight, level_sound}
 use Rattle.translator.proofs.Sound.{Sound}
 use Rattle.translator.proofs.Bounded.{total_of, bounded}
 use Rattle.translator.proofs.Expanding.{Stand, leaf_count, leaf_total, entries_are, pool_is, sizes_are}
-use Rattle.translator.proofs.Lexed.{LexedText, lexed_text}
+use Rattle.translator.proofs.Lexed.{tokens_only, LexedText, lexed_text}
 use Rattle.translator.proofs.Filling.{whole_level, refusal_by_lem, tree_refused, answers_as}
 
 -- ---- fronts of arrays
@@ -96,7 +97,7 @@ module _ {s : List ℕ} {n : ℕ} (t : Lexes s n) where
   starts_front d k room e =
       ap (take n) (e ∙ rw t.are) ∙ front_is d (starts_in t.placed) n (length-map t.placed (λ p. p.start) ∙ t.count) (few d room)
 
-  -- where a token stands
+  -- what stands past the last token
   pub start_at : (d k : List ℕ) (p : ℕ) → (length s ≤ 4096 → length s ≤ length d) → k ≡ sets d 0 (starts_of (tokens_of s)) → p < n → (ps : List Placed) → tokens_of s ≡ tokens ps → get_or k p 0 ≡ get_or (starts_in ps) p (length s)
   start_at d k p room e h ps q =
       let same : t.placed ≡ ps = let a = t.are in cc in
@@ -295,6 +296,14 @@ module _ (j : Judged) (p : Bool) (a : not j.forms ≡ false) (b : not p ≡ fals
     pub first_0 : j.entries ≤ 512 → j.depth ≤ 32 → 0 ≡ first_by j p
     first_0 d e = rw (a, b, c, le-ltb 512 j.entries d, le-ltb 32 j.depth e)
 
+-- 63 are counted, and asked is whether they are over 32
+over_32 : (n : ℕ) → ltb 32 (counted_to n) ≡ ltb 32 n
+over_32 n = go (dec_lt 32 n)
+  where
+    go : Dec (32 < n) → ltb 32 (counted_to n) ≡ ltb 32 n
+    go (yes h) = lt-ltb 32 (counted_to n) (omega arith) ∙ sym (lt-ltb 32 n h)
+    go (no h) = le-ltb 32 (counted_to n) (omega arith) ∙ sym (le-ltb 32 n (omega arith))
+
 first_none : (t : Tree) (a p b c d g : Bool) → forms_right t ≡ a → patterns_right t ≡ p → kinds_right t ≡ b → is_logic t ≡ c → ltb 512 (entries_of t) ≡ d → ltb 32 (depth_of t) ≡ g
     → ◌≡◌ {A = ℕ} (cond (not a) 4 (cond (not p) 18 (cond (not (b && c)) 5 (cond d 7 (cond g 8 0))))) 0 → Right t × (entries_of t ≤ 512) × (depth_of t ≤ 32)
 first_none t false p b c d g ea ep eb ec ed eg z = absurd (omega arith)
@@ -323,7 +332,7 @@ module _ {s places sizes codes : List ℕ} {count : ℕ} {patterns : Bool} {j : 
   first_is : first_by j patterns ≡ found_number (found_of t)
   first_is = ap₂ first_by k.has (sym patterns_told) ∙ rw (over_32 (depth_of t))
 
-  tree_outcome : (e : Edition) (room : ℕ) → translation_in e s room ≡ of_tree e t room
+  tree_outcome : (e : Edition) (room : ℕ) → translation_in e s room ≡ of_tree_lem e t room
   unfolding of_result
   tree_outcome e room = outcome bytes k.tokened e room k.is_ok
 

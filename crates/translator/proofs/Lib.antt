@@ -17,5 +17,3 @@ pub mod Stages
 pub mod Theorems
 pub mod Fits
 pub mod Refusals
-pub mod Formed
-pub mod Alike

@@ -18,7 +18,8 @@ use Rattle.opcode.specs.Number.{begins_with_op}
 use Rattle.opcode.specs.Opcode.{op_of}
 use Rattle.table.specs.declared.Entry.{Entry}
 use Rattle.table.specs.Table.{blank}
-use Rattle.table.specs.Check.{operand_right, operands_right, pattern_by, patterns_before, pattern_right, pattern_test as test_of, patterns_right as all_right}
+use Rattle.table.specs.Check.{operand_right, operands_right, pattern_by, patterns_before, pattern_right}
+use Rattle.table.specs.Check.{pattern_test as test_of, patterns_right as all_right}
 use Rattle.table.proofs.Passes.{all_patterns}
 use Rattle.table.proofs.Patterns.{patterned, has_test}
 use Rattle.table.proofs.Tests.{both_true, are_true}

@@ -26,6 +26,10 @@ leaf_entry at (real x) = entry real64Op 0 (to_bits binary64 x)
 leaf_entry at (text s) = entry text_op (length s) at
 leaf_entry at (symbol k) = entry k 0 0
 
+-- the op of the skip of `&&` and of `||`; 0 for any other operator
+abbrev pub skip_op : ℕ → ℕ
+skip_op k = cond (eqb k and_op) skip_if_false_op (cond (eqb k or_op) skip_if_true_op 0)
+
 -- the skip before the right side of `&&` and of `||`, which has n entries
 abbrev pub skip_entries : ℕ → ℕ → List Entry
 skip_entries k n = cond (eqb k and_op) (entry skip_if_false_op (n + 1) 0 ∷ []) (cond (eqb k or_op) (entry skip_if_true_op (n + 1) 0 ∷ []) [])

@@ -1,5 +1,5 @@
 -- What each step of translation asks of the steps before it: of the arrays that reading fills, of an expression that the parser accepts, and of its codes.
-use Rattle.std.specs.Prelude.{ℕ, ◌+◌, ◌*◌, ◌≤◌, ◌≡◌, Bool, false, List, ◌++◌, map, length, get_or, take}
+use Rattle.std.specs.Prelude.{ℕ, ◌+◌, ◌*◌, ◌≤◌, ◌≡◌, Bool, false, cond, not, ◌&&◌, List, ◌++◌, map, ltb, length, get_or, take}
 use Rattle.std.proofs.lemmas.List.Edits.{sets}
 use Rattle.common.specs.Choice.{pick}
 use Rattle.word.specs.Word.{word_bytes}
@@ -79,7 +79,11 @@ pub record Known (s places sizes codes : List ℕ) (count : ℕ) (patterns : Boo
   pub has : j ≡ judged_of tree
   pub codes_are : Fronts (codes_of tree) codes
 
--- Codes of an expression to which the refusals 4, 18, 5, 7 and 8 do not apply: by one pass over them and the places and sizes of the operands come its entries and its pool.
+-- the first of the refusals 4, 18, 5, 7 and 8, 0 if none applies
+abbrev pub first_by : Judged → Bool → ℕ
+first_by j patterns = cond (not j.forms) 4 (cond (not patterns) 18 (cond (not (j.kinds && j.logic)) 5 (cond (ltb 512 j.entries) 7 (cond (ltb 32 j.depth) 8 0))))
+
+-- Codes of an expression to which these refusals do not apply: by one pass over them and the places and sizes of the operands come its entries and its pool.
 pub record Coded (s places sizes codes : List ℕ) (pool : ℕ) : Type 0 where
   pub tree : Tree
   pub outcome : (e : Edition) (room : ℕ) → translation_in e s room ≡ of_tree e tree room

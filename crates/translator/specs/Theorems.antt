@@ -1,25 +1,20 @@
--- What holds of every translation. The proofs are in proofs/Theorems.antt, that of `GivenExactly` in proofs/Refusals.antt, those of `FitsRoom` and `RefusedEmpty` in proofs/Fits.antt, those of `LiteralsShort`, `PatternsByGrammar` and `EighteenExactly` in proofs/Formed.antt, that of `EditionsAlike` in proofs/Alike.antt, under the same names.
-use Rattle.std.specs.Prelude.{ℕ, ◌≤◌, ◌<◌, ◌≡◌, true, false, ◌&&◌, List, [], map, ◌↔◌, ◌⊎◌, length, get_or, take, drop}
+-- What holds of every translation. The proofs are in proofs/Theorems.antt, that of `GivenExactly` in proofs/Refusals.antt, those of `FitsRoom` and `RefusedEmpty` in proofs/Fits.antt, under the same names.
+use Rattle.std.specs.Prelude.{ℕ, ◌≤◌, ◌<◌, ◌≡◌, true, false, ◌&&◌, List, [], map, ◌↔◌, ◌⊎◌, length, get_or}
 use Rattle.word.specs.Word.{Bytes}
-use Rattle.pattern.specs.Causes.{IllFormed as IllWildcard}
-use Rattle.regexp.specs.Regex.{longest}
-use Rattle.regexp.specs.Causes.{IllFormed as IllRegex}
-use Rattle.opcode.specs.Number.{wildcard_op, regex_op}
 use Rattle.opcode.specs.declared.Edition.{Edition}
-use Rattle.table.specs.Table.{table_kind, encode, kind_at, decode}
+use Rattle.table.specs.Table.{encode, decode}
 use Rattle.table.specs.Check.{check_of}
-use Rattle.lexer.specs.Token.{Token, text, Placed, kind_of, tokens, tokens_of}
+use Rattle.lexer.specs.Token.{Placed, kind_of, tokens, tokens_of}
 use Rattle.lexer.specs.Theorems.{Laid, BadToken}
-use Rattle.grammar.specs.Tree.{Tree, leaf, group, unary, binary, call, Trees, ◌then◌}
-use Rattle.grammar.specs.Function.{function_of}
+use Rattle.grammar.specs.Tree.{Tree}
 use Rattle.grammar.specs.Grammar.{Level}
 use Rattle.grammar.specs.Place.{Breaks}
 use Rattle.grammar.specs.Nesting.{too_deep}
 use Rattle.grammar.specs.Judge.{forms_right, patterns_right, kinds_right, is_logic}
-use Rattle.grammar.specs.Size.{count_of, entries_of, depth_of}
+use Rattle.grammar.specs.Size.{entries_of, depth_of}
 use Rattle.translator.specs.Compile.{code_of, compile}
 use Rattle.translator.specs.Depth.{most_slots}
-use Rattle.translator.specs.Translation.{Outcome, refusal, edition_number, translation_of}
+use Rattle.translator.specs.Translation.{refusal, edition_number, translation_of}
 
 -- A text that is one expression, and its tree: it has legal tokens alone (10, 1, 3), is not nested too deep (6), and the grammar derives the tree from its tokens (2).
 pub record Expression (s : List ℕ) (t : Tree) : Type 0 where
@@ -102,50 +97,6 @@ GivenExactly =
     (e : Edition) (s : List ℕ) (room number place : ℕ) → Bytes s
     → (((translation_of (edition_number e) s room).number ≡ number) × ((translation_of (edition_number e) s room).place ≡ place)) ↔ Given e s room number place
 
--- ---- patterns by their grammars
-
--- an expression stands in another, or is it
-mutual
-  pub data Part (u : Tree) : Tree → Type 0 where
-    itself : {t : Tree} → u ≡ t → Part u t
-    grouped : {t : Tree} → Part u t → Part u (group t)
-    under : {k : ℕ} {t : Tree} → Part u t → Part u (unary k t)
-    left : {k : ℕ} {t v : Tree} → Part u t → Part u (binary k t v)
-    right : {k : ℕ} {t v : Tree} → Part u v → Part u (binary k t v)
-    argument : {x : Token} {ts : Trees} → PartIn u ts → Part u (call x ts)
-
-  pub data PartIn (u : Tree) : Trees → Type 0 where
-    last : {ts : Trees} {t : Tree} → Part u t → PartIn u (◌then◌ ts t)
-    before : {ts : Trees} {t : Tree} → PartIn u ts → PartIn u (◌then◌ ts t)
-
--- a string literal behind the first argument
-pub data Later (p : List ℕ) : Trees → Type 0 where
-  at_end : {ts : Trees} {t : Tree} → 0 < count_of ts → t ≡ leaf (text p) → Later p (◌then◌ ts t)
-  earlier : {ts : Trees} {t : Tree} → Later p ts → Later p (◌then◌ ts t)
-
--- a pattern of the function with this op is ill-formed, by request 1 or by request 13
-abbrev pub IllPattern : ℕ → List ℕ → Type 0
-IllPattern f p = ((f ≡ wildcard_op) × IllWildcard p) ⊎ ((f ≡ regex_op) × IllRegex p)
-
--- Some pattern argument of an expression is ill-formed: a string literal behind the first argument of a call of `wildcard` or `regex`.
-abbrev pub HasIllPattern : Tree → Type 0
-HasIllPattern t = (x : Token) × (us : Trees) × (p : List ℕ) × Part (call x us) t × Later p us × IllPattern (function_of x) p
-
-abbrev pub PatternsByGrammar : Type 0
-PatternsByGrammar = (t : Tree) → (patterns_right t ≡ false) ↔ HasIllPattern t
-
--- "18 for an ill-formed pattern, after 4 and before 5 in translation": 18 is answered exactly for an expression to which none of 10, 1, 3, 6, 2 and 4 applies and of which some pattern argument is ill-formed.
-abbrev pub EighteenExactly : Type 0
-EighteenExactly =
-    (e : Edition) (s : List ℕ) (room : ℕ) → Bytes s
-    → ((translation_of (edition_number e) s room).number ≡ 18) ↔ ((t : Tree) × Expression s t × (forms_right t ≡ true) × HasIllPattern t)
-
--- No string literal of an expression is longer than the longest pattern, so that what `regex` says of a pattern it says by its language.
-abbrev pub LiteralsShort : Type 0
-LiteralsShort = (s : List ℕ) (t : Tree) → Bytes s → Expression s t → (p : List ℕ) → Part (leaf (text p)) t → length p ≤ longest
-
--- ---- the buffer, and other editions
-
 -- The table that is answered, none where the text is refused, lies in the buffer.
 abbrev pub FitsRoom : Type 0
 FitsRoom = (edition : ℕ) (s : List ℕ) (room : ℕ) → length (translation_of edition s room).table ≤ room
@@ -157,18 +108,3 @@ RefusedEmpty = (edition : ℕ) (s : List ℕ) (room : ℕ) → ((translation_of 
 -- Document 02, request 9: "25 for an edition other than 1 or 2, before 10": whatever the text and the buffer are.
 abbrev pub OtherEdition : Type 0
 OtherEdition = (edition : ℕ) (s : List ℕ) (room : ℕ) → ((e : Edition) → edition ≡ edition_number e → ⊥) → translation_of edition s room ≡ refusal 25 0
-
--- Two answers with the same number and place, and tables of the same length with the same bytes but those of the kind's word, 4 and 5.
-pub record Alike (a b : Outcome) : Type 0 where
-  pub number : a.number ≡ b.number
-  pub place : a.place ≡ b.place
-  pub long : length a.table ≡ length b.table
-  pub before : take 4 a.table ≡ take 4 b.table
-  pub behind : drop 6 a.table ≡ drop 6 b.table
-
--- Request 9: the editions "differ in the three shifts alone", and none of translation's refusals asks for them: of every text and every buffer the translations in both are alike, the one of kind 2 and the other of kind 4.
-abbrev pub EditionsAlike : Type 0
-EditionsAlike =
-    (s : List ℕ) (room : ℕ)
-    → Alike (translation_of 1 s room) (translation_of 2 s room)
-    × ((translation_of 1 s room).number ≡ 0 → (kind_at (translation_of 1 s room).table ≡ table_kind Edition.First) × (kind_at (translation_of 2 s room).table ≡ table_kind Edition.Second))

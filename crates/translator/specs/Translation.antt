@@ -1,5 +1,5 @@
 -- Translation: number, place and table for every text and every buffer. Document 01, "Refusals by number".
-use Rattle.std.specs.Prelude.{ℕ, ◌≤◌, ◌≡◌, Bool, true, cond, ◌||◌, List, [], map, eqb, ltb, length, get_or}
+use Rattle.std.specs.Prelude.{ℕ, ◌≤◌, ◌≡◌, Bool, cond, ◌||◌, List, [], map, eqb, ltb, length, get_or}
 use Rattle.std.proofs.lemmas.List.Edits.{sets}
 use Rattle.common.specs.Choice.{pick}
 use Rattle.opcode.specs.declared.Edition.{Edition}
@@ -10,9 +10,7 @@ use Rattle.grammar.specs.Tree.{Tree}
 use Rattle.grammar.specs.Parse.{Result, ok, bad, parse_all}
 use Rattle.grammar.specs.Nesting.{too_deep}
 use Rattle.grammar.specs.Function.{or_else}
-use Rattle.grammar.specs.Answer.{found_of, found_number}
-use Rattle.postfix.specs.Answer.{number_of, place_of}
-use Rattle.postfix.specs.declared.Parsed.TheVariants.{Broken}
+use Rattle.grammar.specs.Answer.{Broken, found_of, found_number, number_of, place_of}
 use Rattle.table.specs.Table.{encode}
 use Rattle.translator.specs.Compile.{compile}
 use Rattle.translator.specs.declared.Translated.{Translated}
@@ -40,7 +38,7 @@ of_tree e t room = pick (eqb (refusal_of e t room) 0) (λ _. record { number = 0
 -- "2 | grammar not kept", with its place: the start of the token that the parser names, or the text's length
 unfoldable pub of_result : Edition → ℕ → List ℕ → ℕ → Result → Outcome
 of_result e long starts room (ok t n) = of_tree e t room
-of_result e long starts room (bad p) = refusal (number_of (Broken p) true) (get_or starts (place_of (Broken p)) long)
+of_result e long starts room (bad p) = refusal (number_of (Broken p)) (get_or starts (place_of (Broken p)) long)
 
 -- "6", then what the parser says; by the tokens' kinds and starts
 unfoldable pub of_tokens : Edition → ℕ → List ℕ → List ℕ → ℕ → List Token → Outcome

@@ -3,8 +3,7 @@ ghost use Rattle.std.specs.Prelude.{◌≡◌, ◌++◌, ◌+◌, ◌*◌, ◌�
 ghost use Rattle.std.proofs.lemmas.List.Edits.{sets};
 ghost use Rattle.table.specs.Table.{entries_bytes};
 ghost use Rattle.translator.specs.Expand.{expand, pooled, Sized};
-ghost use Rattle.postfix.specs.Answer.{first_by};
-ghost use Rattle.translator.specs.Emit.{Roomy, Tokened, Known, Coded, entry_start, header_bytes, table_answer};
+ghost use Rattle.translator.specs.Emit.{Roomy, Tokened, Known, first_by, Coded, entry_start, header_bytes, table_answer};
 ghost use Rattle.translator.specs.Translation.{refusal, answer_of, translation_in, edition_by, translation_of, Answers};
 
 use opcode::Edition;
@@ -27,7 +26,7 @@ fn put_header(edition: Edition, out: &mut [u8], entries: usize, pool: usize)
     word::write_u16(out, 8, pool as u16);
 }
 
-// The whole table: header, entries, pool. Precondition: `pool` is the pool's length.
+// The whole table: header, entries, pool. It asks for the pool's length.
 fn put_table(
     edition: Edition,
     text: &[u8],

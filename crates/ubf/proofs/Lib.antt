@@ -19,5 +19,4 @@ pub mod Laws
 pub mod Values
 pub mod Writes
 pub mod Trips
-pub mod Phases
 pub mod Theorems

@@ -175,8 +175,8 @@ pub record OneByte (text : List ℕ) (at n : ℕ) (e : Bool) (p : ℕ) : Type 0 
 
 module _ (text : List ℕ) (at n b : ℕ) (bs rest : List ℕ) (s : Stands text at (b ∷ bs) rest) (e : length bs ≡ n) where
   -- the byte itself is at `at` or after its backslash
-  byte_at_lem : (p : ℕ) → drop p text ≡ b ∷ (escapes 34 bs ++ rest) → OneByte text at n true p
-  byte_at_lem p d =
+  byte_at : (p : ℕ) → drop p text ≡ b ∷ (escapes 34 bs ++ rest) → OneByte text at n true p
+  byte_at p d =
       let h = head_at text p b (escapes 34 bs ++ rest) d in
       let t : Stands text (suc p) bs rest = record { inside = h.inside; whole = h.rest } in
       let m : length (b ∷ bs) ≡ suc n = ap suc e in
@@ -198,12 +198,12 @@ module _ (text : List ℕ) (at n b : ℕ) (bs rest : List ℕ) (s : Stands text 
           let d : drop at text ≡ 92 ∷ (b ∷ (escapes 34 bs ++ rest)) = opened ∙ ap (λ (l : List ℕ). l ++ (escapes 34 bs ++ rest)) (wide 34 b x) in
           let h = head_at text at 92 (b ∷ (escapes 34 bs ++ rest)) d in
           let q : byte_place text at true ≡ suc at = rw h.first in
-          (h.inside, byte_at_lem p (ap (λ (k : ℕ). drop k text) (place ∙ q) ∙ h.rest))
+          (h.inside, byte_at p (ap (λ (k : ℕ). drop k text) (place ∙ q) ∙ h.rest))
       go false x =
           let d : drop at text ≡ b ∷ (escapes 34 bs ++ rest) = opened ∙ ap (λ (l : List ℕ). l ++ (escapes 34 bs ++ rest)) (narrow 34 b x) in
           let h = head_at text at b (escapes 34 bs ++ rest) d in
           let q : byte_place text at true ≡ at = rw (h.first, plain 34 b x) in
-          (h.inside, byte_at_lem p (ap (λ (k : ℕ). drop k text) (place ∙ q) ∙ d))
+          (h.inside, byte_at p (ap (λ (k : ℕ). drop k text) (place ∙ q) ∙ d))
 
 byte_escaped : (text : List ℕ) (at n : ℕ) (p : ℕ) → p ≡ byte_place text at true → PartIn text at (suc n) true → (at < length text) × OneByte text at n true p
 byte_escaped text at n p place q = go q.0 (part_stands text at (suc n) q) q.1

@@ -13,7 +13,7 @@ use Rattle.octets.specs.Octets.{same_of, before_of}
 use Rattle.octets.proofs.Theorems.{and_parts, before_transitive}
 use Rattle.notice.specs.declared.Layout.{Layout}
 use Rattle.notice.specs.declared.Layout.TheVariants as layouts
-use Rattle.notice.specs.Field.{Field, name_right, size_right, field_right, all_right, before_first, rising}
+use Rattle.notice.specs.Field.{Field, name_right, size_right, field_right, all_right_lem, before_first, rising}
 use Rattle.notice.specs.Render.{fields_bytes, render, NoticeFields}
 use Rattle.common.proofs.Choice.{true_false, false_true}
 use Rattle.notice.specs.Layout.{unless, field_at, check_of, starts_of, fields_of}
@@ -25,14 +25,13 @@ use Rattle.ubf.specs.Fields.{Phase, outside, names, value, number, whole, wrong,
 use Rattle.ubf.specs.Text.{text_of}
 use Rattle.ubf.specs.Answer.{names_right, sizes_right, repeated, notice_size, fits_in, WriteIs, read_by, said_fields, has_real, write_by, write_number, read_answer, read_bytes, answered, leaves}
 use Rattle.ubf.specs.Grammar.{items_after}
-use Rattle.ubf.specs.Theorems.{WrittenSays, WrittenInput, WriteRead, WriteAccepts, ReadHolds, SortedSame, SyntaxExactly, SaysItems, SaysTuple, OneTuple, OutsideSyntax, NoTuple, ReadsTuple, FieldsNumber}
+use Rattle.ubf.specs.Theorems.{WrittenSays, WrittenInput, WriteRead, WriteAccepts, ReadHolds, SortedSame, SyntaxExactly, SaysItems, OutsideSyntax}
 use Rattle.ubf.proofs.Trips.{AllGood, text_says}
 use Rattle.notice.proofs.Sorted.{sorted_length, sorted_size, sorted_same, sorted_same_fields}
 use Rattle.ubf.proofs.Sorted.{sorted_rising}
 use Rattle.ubf.proofs.Values.{value_bytes}
 use Rattle.ubf.proofs.Writes.{written}
 use Rattle.ubf.proofs.Grammar.{input_run, run_input}
-use Rattle.ubf.proofs.Phases.{not_says, items_tuple}
 
 or_parts : (a b : Bool) → (a || b) ≡ false → (a ≡ false) × (b ≡ false)
 or_parts true b e = false_true (sym e)
@@ -40,11 +39,11 @@ or_parts false b e = (refl, e)
 
 -- ---- the fields of a notice can be written
 
-good_all : (s : List ℕ) → Bytes s → (ats : List ℕ) → all_right (map (field_at s) ats) ≡ true → has_real (map (field_at s) ats) ≡ false → AllGood (map (field_at s) ats)
+good_all : (s : List ℕ) → Bytes s → (ats : List ℕ) → all_right_lem (map (field_at s) ats) ≡ true → has_real (map (field_at s) ats) ≡ false → AllGood (map (field_at s) ats)
 unfolding has_real
 good_all s bytes [] a h = tt
 good_all s bytes (at ∷ ats) a h =
-    let p = and_parts (field_right (field_at s at)) (all_right (map (field_at s) ats)) a in
+    let p = and_parts (field_right (field_at s at)) (all_right_lem (map (field_at s) ats)) a in
     let q = or_parts (eqb (field_at s at).kind 3) (has_real (map (field_at s) ats)) h in (
       record {
         size = (and_parts (name_right (field_at s at).name) (size_right (field_at s at).kind (length (field_at s at).value)) p.0).1;
@@ -59,17 +58,17 @@ written_says s bytes well h = text_says (fields_of s) (good_all s bytes (starts_
 
 -- ---- what is read of a notice's own fields
 
-names_right_lem : (fs : List Field) → all_right fs ≡ true → names_right fs ≡ true
+names_right_lem : (fs : List Field) → all_right_lem fs ≡ true → names_right fs ≡ true
 names_right_lem [] a = refl
 names_right_lem (f ∷ fs) a =
-    let p = and_parts (field_right f) (all_right fs) a in
+    let p = and_parts (field_right f) (all_right_lem fs) a in
     let q = and_parts (name_right f.name) (size_right f.kind (length f.value)) p.0 in
     rw q.0 (names_right_lem fs p.1)
 
-sizes_right_lem : (fs : List Field) → all_right fs ≡ true → sizes_right fs ≡ true
+sizes_right_lem : (fs : List Field) → all_right_lem fs ≡ true → sizes_right fs ≡ true
 sizes_right_lem [] a = refl
 sizes_right_lem (f ∷ fs) a =
-    let p = and_parts (field_right f) (all_right fs) a in
+    let p = and_parts (field_right f) (all_right_lem fs) a in
     let q = and_parts (name_right f.name) (size_right f.kind (length f.value)) p.0 in
     rw q.1 (sizes_right_lem fs p.1)
 
@@ -164,7 +163,7 @@ write_accepts s buffer w written i well no_real fits =
 pub sorted_perm : SortedSame
 sorted_perm fs = sorted_same_fields fs
 
-all_right_lem : (fs : List Field) → names_right fs ≡ true → sizes_right fs ≡ true → all_right fs ≡ true
+all_right_lem : (fs : List Field) → names_right fs ≡ true → sizes_right fs ≡ true → all_right_lem fs ≡ true
 all_right_lem [] n z = refl
 all_right_lem (f ∷ fs) n z =
     let p = and_parts (name_right f.name) (names_right fs) n in
@@ -201,6 +200,16 @@ held no_text room e = some_zero e
 held no_tuple room e = some_zero e
 held (says fs) room e = (fs, refl, e)
 
+pub read_holds : ReadHolds
+read_holds text buffer r after i z =
+    let h = held (said text) (length buffer) (sym (ap (λ (a : Answer). a.number) i.0) ∙ z) in
+    let fs = h.0 in
+    let f = notice_fields fs (length buffer) h.2 in
+    let q = read_says text buffer fs h.1 h.2 in
+    let t : take r.len after ≡ render (sorted fs) =
+    ap₂ (λ (n : ℕ) (d : List ℕ). take n d) (ap (λ (a : Answer). a.len) (i.0 ∙ q.0)) (i.1 ∙ q.1) ∙ take-append_seam (render (sorted fs)) (drop (length (render (sorted fs))) buffer) in
+    (fs, h.1, ap check_of t ∙ render_passes (sorted fs) f, ap fields_of t ∙ render_fields (sorted fs) f)
+
 -- ---- the machine and the grammar
 
 pub says_items : SaysItems
@@ -222,20 +231,20 @@ written_input s buffer bytes w written i z =
     let e = left_says s buffer bytes w written i z in
     (run_input (take w.len written) (ap in_syntax e), e)
 
-fields_limit : (fs : List Field) (room : ℕ) → read_by (says fs) room ≤ 16
-fields_limit fs room = tests (names_right fs) (sizes_right fs) (repeated fs) (fits_in fs room)
+other_number : (fs : List Field) (room : ℕ) → read_by (says fs) room ≡ 22 → ⊥
+other_number fs room = tests (names_right fs) (sizes_right fs) (repeated fs) (fits_in fs room)
   where
-    tests : (a b c d : Bool) → unless a 13 (unless b 16 (unless (not c) 14 (unless d 15 0))) ≤ 16
-    tests false b c d = omega arith
-    tests true false c d = omega arith
-    tests true true true d = omega arith
-    tests true true false false = omega arith
-    tests true true false true = omega arith
+    tests : (a b c d : Bool) → unless a 13 (unless b 16 (unless (not c) 14 (unless d 15 0))) ≡ 22 → ⊥
+    tests false b c d e = omega (arith, e)
+    tests true false c d e = omega (arith, e)
+    tests true true true d e = omega (arith, e)
+    tests true true false false e = omega (arith, e)
+    tests true true false true e = omega (arith, e)
 
 outside_only : (x : Said) (room : ℕ) → read_by x room ≡ 22 → in_syntax x ≡ false
 outside_only no_text room e = refl
 outside_only no_tuple room e = absurd (omega (arith, e))
-outside_only (says fs) room e = absurd (omega (arith, e, fields_limit fs room))
+outside_only (says fs) room e = absurd (other_number fs room e)
 
 outside_number : (x : Said) (room : ℕ) → (in_syntax x ≡ true → ⊥) → read_by x room ≡ 22
 outside_number no_text room n = refl
@@ -247,71 +256,3 @@ outside_syntax text buffer r after i = (
   λ e g. true_false (sym ((syntax_exactly text).1 g) ∙ outside_only (said text) (length buffer) (sym (ap (λ (a : Answer). a.number) i.0) ∙ e)),
   λ n. ap (λ (a : Answer). a.number) i.0 ∙ outside_number (said text) (length buffer) (λ e. n (run_input text e)),
 )
-
--- ---- the tuple of fields
-
-pub says_tuple : SaysTuple
-says_tuple text fs = (
-  λ e. let g = run_input text (ap in_syntax e) in (g.0, g.1, (items_tuple g.0 fs).0 (sym (says_items text g.0 g.1) ∙ e)),
-  λ g. says_items text g.0 g.1 ∙ (items_tuple g.0 fs).1 g.2,
-)
-
-pub one_tuple : OneTuple
-one_tuple text its jts fs gs i t j u =
-    let a : said text ≡ says fs = (says_tuple text fs).1 (its, i, t) in
-    let b : said text ≡ says gs = (says_tuple text gs).1 (jts, j, u) in
-    cc
-
-no_tuple_only : (x : Said) (room : ℕ) → read_by x room ≡ 23 → x ≡ no_tuple
-no_tuple_only no_text room e = absurd (omega (arith, e))
-no_tuple_only no_tuple room e = refl
-no_tuple_only (says fs) room e = absurd (omega (arith, e, fields_limit fs room))
-
-says_none : (x : Said) → in_syntax x ≡ true → ((fs : List Field) → x ≡ says fs → ⊥) → x ≡ no_tuple
-says_none no_text h n = false_true h
-says_none no_tuple h n = refl
-says_none (says fs) h n = absurd (n fs refl)
-
-says_some : (x : Said) (room : ℕ) → (read_by x room ≡ 22 → ⊥) → (read_by x room ≡ 23 → ⊥) → (fs : List Field) × (x ≡ says fs)
-says_some no_text room a b = absurd (a refl)
-says_some no_tuple room a b = absurd (b refl)
-says_some (says fs) room a b = (fs, refl)
-
-pub no_tuple_lem : NoTuple
-no_tuple_lem text buffer r after i =
-    let n : r.number ≡ read_by (said text) (length buffer) = ap (λ (a : Answer). a.number) i.0 in (
-      λ e.
-          let s : said text ≡ no_tuple = no_tuple_only (said text) (length buffer) (sym n ∙ e) in
-          (run_input text (ap in_syntax s), λ its fs j t. not_says (sym s ∙ (says_tuple text fs).1 (its, j, t))),
-      λ g.
-          let s : said text ≡ no_tuple = says_none (said text) ((syntax_exactly text).1 g.0) (λ fs e. let h = (says_tuple text fs).0 e in g.1 h.0 fs h.1 h.2) in
-          n ∙ ap (λ (x : Said). read_by x (length buffer)) s,
-    )
-
-pub fields_number : FieldsNumber
-fields_number text buffer r after i its fs p t =
-    ap (λ (a : Answer). a.number) i.0 ∙ ap (λ (x : Said). read_by x (length buffer)) ((says_tuple text fs).1 (its, p, t))
-
-pub reads_tuple : ReadsTuple
-reads_tuple text buffer r after i =
-    let n : r.number ≡ read_by (said text) (length buffer) = ap (λ (a : Answer). a.number) i.0 in (
-      λ h.
-          let s = says_some (said text) (length buffer) (λ e. h.0 (n ∙ e)) (λ e. h.1 (n ∙ e)) in
-          let g = (says_tuple text s.0).0 s.1 in
-          (g.0, s.0, g.1, g.2),
-      λ g.
-          let m : r.number ≡ read_by (says g.1) (length buffer) = fields_number text buffer r after i g.0 g.1 g.2 g.3 in
-          let l = fields_limit g.1 (length buffer) in
-          (λ e. omega arith, λ e. omega arith),
-    )
-
-pub read_holds : ReadHolds
-read_holds text buffer r after i z =
-    let h = held (said text) (length buffer) (sym (ap (λ (a : Answer). a.number) i.0) ∙ z) in
-    let fs = h.0 in
-    let f = notice_fields fs (length buffer) h.2 in
-    let q = read_says text buffer fs h.1 h.2 in
-    let t : take r.len after ≡ render (sorted fs) =
-    ap₂ (λ (n : ℕ) (d : List ℕ). take n d) (ap (λ (a : Answer). a.len) (i.0 ∙ q.0)) (i.1 ∙ q.1) ∙ take-append_seam (render (sorted fs)) (drop (length (render (sorted fs))) buffer) in
-    let g = (says_tuple text fs).0 h.1 in
-    (g.0, fs, g.1, g.2, ap check_of t ∙ render_passes (sorted fs) f, ap fields_of t ∙ render_fields (sorted fs) f)

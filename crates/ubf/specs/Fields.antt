@@ -1,7 +1,7 @@
 -- From items to fields. Document 02, request 5: "one tuple of name and value by turns, the name a string"; "Untagged integers are int32, integers tagged `int64` are int64,
 -- strings are strings, counted binaries are opaque."
--- To read beside the request there is the relation of specs/Tuple.antt. The phases here compute it, item by item; `SaysTuple` of specs/Theorems.antt says that the two are one.
 use Rattle.std.specs.Prelude.{ℕ, ◌+◌, ◌*◌, ◌-◌, ◌^◌, Bool, true, false, cond, List, [], ◌∷◌, ◌++◌, eqb, leb, ltb}
+use Rattle.std.proofs.Math.Option.{none}
 use Rattle.word.specs.Word.{word_bytes}
 use Rattle.octets.specs.Octets.{same_of}
 use Rattle.notice.specs.Field.{Field}

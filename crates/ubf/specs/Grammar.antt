@@ -108,9 +108,3 @@ unfoldable pub items_after : Items → List Item → List Item
 items_after none before = before
 items_after (piece p its) before = items_after its (piece_items p before)
 items_after (tuple a its) before = items_after its (mark 125 ∷ items_after a (mark 123 ∷ before))
-
--- the same items in the text's order, a tuple's between its braces
-unfoldable pub items_in : Items → List Item
-items_in none = []
-items_in (piece p its) = piece_items p [] ++ items_in its
-items_in (tuple a its) = mark 123 ∷ (items_in a ++ (mark 125 ∷ items_in its))

@@ -3,7 +3,6 @@ pub mod Escape
 pub mod Item
 pub mod Grammar
 pub mod Fields
-pub mod Tuple
 pub mod Text
 pub mod Answer
 pub mod Scan

@@ -7,10 +7,9 @@ use Rattle.notice.specs.Field.{Field}
 use Rattle.notice.specs.Layout.{check_of, fields_of}
 use Rattle.notice.specs.Write.{sorted}
 use Rattle.ubf.specs.declared.Answer.{Answer}
-use Rattle.ubf.specs.Grammar.{Items, Input, items_after, items_in}
+use Rattle.ubf.specs.Grammar.{Items, Input, items_after}
 use Rattle.ubf.specs.Fields.{says, said_by, phase_of, said, in_syntax}
-use Rattle.ubf.specs.Tuple.{TupleOf}
-use Rattle.ubf.specs.Answer.{read_by, has_real, written_text, ReadIs, WriteIs}
+use Rattle.ubf.specs.Answer.{has_real, written_text, ReadIs, WriteIs}
 
 -- The fixed form of a notice's fields says these fields, in their order.
 abbrev pub WrittenSays : Type 0
@@ -34,11 +33,11 @@ WriteAccepts =
     (s buffer : List ℕ) (w : Answer) (written : List ℕ) → WriteIs s buffer w written → check_of s ≡ Layout.WellFormed → has_real (fields_of s) ≡ false →
     length (written_text s) ≤ length buffer → w.number ≡ 0
 
--- What a read that is not refused leaves is a well-formed notice, which has the fields of the one tuple that the text is, in name order.
+-- What a read that is not refused leaves is a well-formed notice, which has the fields that the text says, in name order.
 abbrev pub ReadHolds : Type 0
 ReadHolds =
     (text buffer : List ℕ) (r : Answer) (after : List ℕ) → ReadIs text buffer r after → r.number ≡ 0 →
-    (its : Items) × (fs : List Field) × Input text its × TupleOf (items_in its) fs × (check_of (take r.len after) ≡ Layout.WellFormed) × (fields_of (take r.len after) ≡ sorted fs)
+    (fs : List Field) × (said text ≡ says fs) × (check_of (take r.len after) ≡ Layout.WellFormed) × (fields_of (take r.len after) ≡ sorted fs)
 
 -- Name order leaves every field, and adds none.
 abbrev pub SortedSame : Type 0
@@ -52,32 +51,6 @@ SyntaxExactly = (text : List ℕ) → (in_syntax (said text) ≡ true) ↔ ((its
 abbrev pub SaysItems : Type 0
 SaysItems = (text : List ℕ) (its : Items) → Input text its → said text ≡ said_by (phase_of (items_after its []))
 
--- A text says fields exactly if the grammar spells it, and its items are one tuple of these fields.
-abbrev pub SaysTuple : Type 0
-SaysTuple = (text : List ℕ) (fs : List Field) → (said text ≡ says fs) ↔ ((its : Items) × Input text its × TupleOf (items_in its) fs)
-
--- A text is one tuple of at most one list of fields, however the grammar spells it.
-abbrev pub OneTuple : Type 0
-OneTuple = (text : List ℕ) (its jts : Items) (fs gs : List Field) → Input text its → TupleOf (items_in its) fs → Input text jts → TupleOf (items_in jts) gs → fs ≡ gs
-
 -- "22 for text outside the syntax": reading answers 22 exactly if the grammar does not spell the text.
 abbrev pub OutsideSyntax : Type 0
 OutsideSyntax = (text buffer : List ℕ) (r : Answer) (after : List ℕ) → ReadIs text buffer r after → (r.number ≡ 22) ↔ (((its : Items) × Input text its) → ⊥)
-
--- "then 23 for anything but a single tuple ..": reading answers 23 exactly if the grammar spells the text, and its items are not one tuple of fields, whatever fields these would be.
-abbrev pub NoTuple : Type 0
-NoTuple =
-    (text buffer : List ℕ) (r : Answer) (after : List ℕ) → ReadIs text buffer r after →
-    (r.number ≡ 23) ↔ (((its : Items) × Input text its) × ((its : Items) (fs : List Field) → Input text its → TupleOf (items_in its) fs → ⊥))
-
--- Reading answers neither 22 nor 23, so that its answer is for the fields alone, exactly if the grammar spells the text, and its items are one tuple of some fields.
-abbrev pub ReadsTuple : Type 0
-ReadsTuple =
-    (text buffer : List ℕ) (r : Answer) (after : List ℕ) → ReadIs text buffer r after →
-    ((r.number ≡ 22 → ⊥) × (r.number ≡ 23 → ⊥)) ↔ ((its : Items) × (fs : List Field) × Input text its × TupleOf (items_in its) fs)
-
--- .. and the number is then the first of "over all fields 13, 16, 14, 15 in that order" that applies to those fields, and 0 if none does.
-abbrev pub FieldsNumber : Type 0
-FieldsNumber =
-    (text buffer : List ℕ) (r : Answer) (after : List ℕ) → ReadIs text buffer r after → (its : Items) (fs : List Field) → Input text its → TupleOf (items_in its) fs →
-    r.number ≡ read_by (says fs) (length buffer)

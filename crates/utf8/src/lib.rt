@@ -123,7 +123,7 @@ fn advance(s: &[u8], i: usize) -> usize
     width(s, i)
 }
 
-// The number of characters in a run of this length: above four bytes it is a run of ASCII.
+// How many characters so many bytes are: above four they are a run of ASCII.
 fn characters(k: usize) -> usize
     ensures { result ≡ characters_in k }
 {

@@ -1,36 +1,31 @@
 -- The theorems that specs/Theorems.antt states. Assumes nothing.
 use mathlib.Core.Path.{◌≡◌, refl, sym, ap, ap₂, ◌∙◌}
-use mathlib.Core.Logic.{◌↔◌, ◌⊎◌, inl, inr}
-use mathlib.Core.Bool.{Bool, true, false, cond, ◌&&◌, ◌||◌, or-true as or_yes}
+use mathlib.Core.Logic.{◌⊎◌, inl, inr}
+use mathlib.Core.Bool.{Bool, true, false, cond, ◌&&◌, ◌||◌}
 use mathlib.Core.List.{List, [], ◌∷◌, ◌++◌, map}
 use mathlib.Core.Option.{Option, some, none}
-use Prim.Native.Nat.{ℕ, zero, suc, ◌+◌, ◌-◌, ◌*◌, ◌%◌, ◌^◌, ◌<◌}
+use Prim.Native.Nat.{ℕ, suc, ◌+◌, ◌-◌, ◌*◌, ◌%◌, ◌^◌, ◌<◌}
 use native.Mathlib.Nat.{mod-eq_of_lt, mul-add-mod_self_right}
 use native.Mathlib.Omega.{arith}
 use lib.Dec.{eqb}
 use lib.IntN.{ℤ, pos, negsuc}
-use lib.ListN.{length, get_or, take, drop}
+use lib.ListN.{take, drop}
 use lib.Ieee.{is_nan}
 use mir.Syntax.{w32, w64}
-use mir.Val.{SFits, to_z, of_z}
+use mir.Val.{bits, hbits, SFits, to_z, of_z}
 use mir.ValLaws.{to_z-of_z, to_z_pos, to_z-neg}
 use Rattle.truth.specs.declared.Truth.{Truth}
 use Rattle.truth.specs.declared.Truth.TheVariants.{False, Bottom, True}
 use Rattle.truth.specs.Truth.{or_of, xor_of, of_bool}
 use Rattle.truth.proofs.Theorems.{false_and as false-and-t, true_or as true-or-t}
-use Rattle.common.proofs.Choice.{true_false, false_true}
+use Rattle.common.proofs.Choice.{true_false}
 use Rattle.octets.proofs.Theorems.{and_parts}
 use Rattle.utf8.specs.declared.Counted.{Counted}
 use Rattle.utf8.specs.declared.Counted.TheVariants.{Characters, IllFormed}
 use Rattle.utf8.specs.Utf8.{HasCharacters, WellFormed, Counts}
 use Rattle.utf8.specs.Scan.{count_of}
 use Rattle.utf8.proofs.Theorems.{one_answer, right, counted_is}
-use Rattle.pattern.specs.Wildcard.{Accepts}
-use Rattle.pattern.specs.Computed.{wildcard_of}
-use Rattle.pattern.proofs.Theorems.{fits_exactly}
-use Rattle.regexp.specs.Grammar.{Accepts as AcceptsRegex}
-use Rattle.regexp.specs.Regex.{regex_of}
-use Rattle.regexp.proofs.Theorems.{fits_exactly as regex-exactly}
+use Rattle.opcode.specs.Opcode.{Kind}
 use Rattle.opcode.specs.declared.Edition.{Edition}
 use Rattle.opcode.specs.declared.Load.{Load}
 use Rattle.opcode.specs.declared.Arithmetic.{Arithmetic}
@@ -54,8 +49,8 @@ use Rattle.notice.specs.Field.{Field}
 use Rattle.notice.specs.Layout.{fields_of}
 use Rattle.notice.specs.Lookup.{lookup_of, field_named, FoundIs}
 use Rattle.notice.proofs.Theorems.{lookup}
-use Rattle.value.specs.Value.{Value, bottom, opaque, Item, logic, value, is_bottom, connect_of, type_test, nan_of, test_of, number_of, value_of, type_of, is_text, text_in, size_by, equal_values, combine_numbers, combine_of, compare_of, fit_of, all_texts, any_fits, any_fit, any_equal, many_of, fit_values, truth_in, value_in, strict_or, tally_of, found_value, named_value, value_named, in_pool, int32, int64, real, text}
-use Rattle.value.specs.Theorems.{UnaryKind, BinaryKind, ManyKind, LoadKind, ShiftsAlone, StrictUnary, StrictBinary, StrictMany, SizeCharacters, SizeBottom, SizeFolded, LaterNoText, OneOf, Exactly, WildcardLanguage, RegexLanguage, EqualsTrue, FalseAnd, TrueOr, EqualOtherwise, Tally, Settled, KnownNot, KnownTest, KnownConnect, ValueNamed, LoadInt32, LoadInt64, LoadReal64, LoadText, LoadName}
+use Rattle.value.specs.Value.{Value, bottom, opaque, Item, logic, value, is_bottom, kind_of, unary_of, binary_of, connect_of, type_test, nan_of, test_of, number_of, value_of, type_of, is_text, text_in, size_by, equal_values, combine_numbers, combine_of, compare_of, fit_of, all_texts, any_fits, any_fit, any_equal, fit_values, truth_in, value_in_lem, strict_or, tally_of, start_of, field_value, found_value, named_value, value_named, in_pool, int32, int64, real, text}
+use Rattle.value.specs.Theorems.{UnaryKind, BinaryKind, ManyKind, LoadKind, ShiftsAlone, StrictUnary, StrictBinary, StrictMany, SizeCharacters, SizeBottom, SizeFolded, LaterNoText, EqualsTrue, FalseAnd, TrueOr, EqualOtherwise, Tally, Settled, KnownNot, KnownTest, KnownConnect, ValueNamed, LoadInt32, LoadInt64, LoadReal64, LoadText, LoadName}
 
 pub unary_kind : UnaryKind
 unary_kind Unary.Not x = refl
@@ -173,8 +168,8 @@ bottom_xor Bottom = (refl, refl)
 bottom_xor False = (refl, refl)
 
 pub strict_binary : StrictBinary
-strict_binary edition (Binary.Combine o) x e = let c = bottom_combine edition o (value_in x) in (ap value c.0, ap value c.1)
-strict_binary edition (Binary.Compare o) x e = let c = bottom_compare o (value_in x) in (ap logic c.0, ap logic c.1)
+strict_binary edition (Binary.Combine o) x e = let c = bottom_combine edition o (value_in_lem x) in (ap value c.0, ap value c.1)
+strict_binary edition (Binary.Compare o) x e = let c = bottom_compare o (value_in_lem x) in (ap logic c.0, ap logic c.1)
 strict_binary edition (Binary.Connect Connective.And) x e = true_false (sym e)
 strict_binary edition (Binary.Connect Connective.Xor) x e = let c = bottom_xor (truth_in x) in (ap logic c.0, ap logic c.1)
 strict_binary edition (Binary.Connect Connective.Or) x e = true_false (sym e)
@@ -189,7 +184,7 @@ bottom_any (w ∷ ws) = inr (rw (bottom_equal w).0 (bottom_or (any_equal bottom 
 
 pub strict_many : StrictMany
 strict_many (Many.Fit f) y ys = refl
-strict_many Many.Equals y ys = ap logic (rw (bottom_equal (value_in y)).0 (bottom_or (any_equal bottom (map value_in ys)) (bottom_any (map value_in ys))))
+strict_many Many.Equals y ys = ap logic (rw (bottom_equal (value_in_lem y)).0 (bottom_or (any_equal bottom (map value_in_lem ys)) (bottom_any (map value_in_lem ys))))
 
 -- `size` of a string, from any right count of it
 module _ (s : List ℕ) where
@@ -210,64 +205,21 @@ size_bottom s = (uncounted s (count_of s) (right s), λ h. ap size_by (one_answe
 pub size_folded : SizeFolded
 size_folded s = ap size_by (sym (counted_is true s (count_of s) (right s)))
 
-no_text : (y : Item) (ys zs : List Item) → is_text (value_in y) ≡ false → all_texts (map value_in (ys ++ (y ∷ zs))) ≡ false
+no_text : (y : Item) (ys zs : List Item) → is_text (value_in_lem y) ≡ false → all_texts (map value_in_lem (ys ++ (y ∷ zs))) ≡ false
 no_text y [] zs e = rw e
-no_text y (x ∷ xs) zs e = rw (no_text y xs zs e) (and-false (is_text (value_in x)))
+no_text y (x ∷ xs) zs e = rw (no_text y xs zs e) (and-false (is_text (value_in_lem x)))
 
 pub later_no_text : LaterNoText
-later_no_text f x y ys zs e = rw (no_text y ys zs e, and-false (is_text (value_in x)))
-
--- ---- the languages of patterns
-
-true_not_false : {A : Type 0} → True ≡ False → A
-true_not_false e = let z : ◌≡◌ {A = ℕ} 0 1 = cc in absurd (omega arith)
-
-all_texts_lem : (ps : List (List ℕ)) → all_texts (map text ps) ≡ true
-all_texts_lem [] = refl
-all_texts_lem (p ∷ ps) = all_texts_lem ps
-
--- one operator, by what its test says of each of the patterns
-module _ (f : Fit) (x : List ℕ) (P : List ℕ → Type 0) where
-  any_one : (ps : List (List ℕ)) → ((i : ℕ) → i < length ps → (fit_of f x (get_or ps i []) ≡ true) ↔ P (get_or ps i [])) → any_fits f x (map text ps) ≡ true → OneOf P ps
-  any_one [] k e = false_true e
-  any_one (p ∷ ps) k e = go (fit_of f x p) refl (any_one ps (λ i h. k (suc i) (omega arith)))
-    where
-      go : (b : Bool) → fit_of f x p ≡ b → (any_fits f x (map text ps) ≡ true → OneOf P ps) → OneOf P (p ∷ ps)
-      go true q ih = (0, omega arith, (k 0 (omega arith)).0 q)
-      go false q ih = let r = ih (rw q at e) in (suc r.0, omega (arith, r.1), r.2)
-
-  one_any : (ps : List (List ℕ)) → ((i : ℕ) → i < length ps → (fit_of f x (get_or ps i []) ≡ true) ↔ P (get_or ps i [])) → (i : ℕ) → i < length ps → P (get_or ps i []) → any_fits f x (map text ps) ≡ true
-  one_any [] k i h a = absurd (omega arith)
-  one_any (p ∷ ps) k zero h a = rw ((k 0 (omega arith)).1 a)
-  one_any (p ∷ ps) k (suc i) h a = rw (one_any ps (λ j l. k (suc j) (omega arith)) i (omega arith) a) (or_yes (fit_of f x p))
-
-  by_language : (ps : List (List ℕ)) → ((i : ℕ) → i < length ps → (fit_of f x (get_or ps i []) ≡ true) ↔ P (get_or ps i [])) → Exactly (many_of (Many.Fit f) (text x) (map text ps)) (OneOf P ps)
-  by_language ps k = go (any_fits f x (map text ps)) refl
-    where
-      go : (b : Bool) → any_fits f x (map text ps) ≡ b → Exactly (many_of (Many.Fit f) (text x) (map text ps)) (OneOf P ps)
-      go true e =
-          let t : many_of (Many.Fit f) (text x) (map text ps) ≡ True = rw (all_texts_lem ps, e) in
-          let o = any_one ps k e in
-          record { yes_if = λ _. t; no_if = λ n. absurd (n o); if_yes = λ _. o; if_no = λ q. true_not_false (sym t ∙ q) }
-      go false e =
-          let t : many_of (Many.Fit f) (text x) (map text ps) ≡ False = rw (all_texts_lem ps, e) in
-          let n : OneOf P ps → ⊥ = λ o. true_false (sym (one_any ps k o.0 o.1 o.2) ∙ e) in
-          record { yes_if = λ o. absurd (n o); no_if = λ _. t; if_yes = λ q. true_not_false (sym q ∙ t); if_no = λ _. n }
-
-pub wildcard_language : WildcardLanguage
-wildcard_language x ps = by_language Fit.Wildcard x (λ p. Accepts p x) ps (λ i h. fits_exactly x (get_or ps i []) (wildcard_of x (get_or ps i [])) refl)
-
-pub regex_language : RegexLanguage
-regex_language x ps short = by_language Fit.Regex x (λ p. AcceptsRegex p x) ps (λ i h. regex-exactly x (get_or ps i []) (regex_of x (get_or ps i [])) refl (short i h))
+later_no_text f x y ys zs e = rw (no_text y ys zs e, and-false (is_text (value_in_lem x)))
 
 or-true : (t : Truth) → (or_of True t ≡ True) × (or_of t True ≡ True)
 or-true True = (refl, refl)
 or-true Bottom = (refl, refl)
 or-true False = (refl, refl)
 
-some_equal : (x y : Item) (ys zs : List Item) → equal_values (value_in x) (value_in y) ≡ True → any_equal (value_in x) (map value_in (ys ++ (y ∷ zs))) ≡ True
-some_equal x y [] zs e = rw e (or-true (any_equal (value_in x) (map value_in zs))).0
-some_equal x y (w ∷ ws) zs e = rw (some_equal x y ws zs e) (or-true (equal_values (value_in x) (value_in w))).1
+some_equal : (x y : Item) (ys zs : List Item) → equal_values (value_in_lem x) (value_in_lem y) ≡ True → any_equal (value_in_lem x) (map value_in_lem (ys ++ (y ∷ zs))) ≡ True
+some_equal x y [] zs e = rw e (or-true (any_equal (value_in_lem x) (map value_in_lem zs))).0
+some_equal x y (w ∷ ws) zs e = rw (some_equal x y ws zs e) (or-true (equal_values (value_in_lem x) (value_in_lem w))).1
 
 pub equals_true : EqualsTrue
 equals_true x y ys zs e = ap logic (some_equal x y ys zs e)
@@ -299,11 +251,11 @@ or_assoc Bottom Bottom True = refl
 or_assoc Bottom Bottom Bottom = refl
 or_assoc Bottom Bottom False = refl
 
-equals_from : (x : Item) (known : Truth) (ys : List Item) → tally_of Many.Equals x known ys ≡ or_of known (any_equal (value_in x) (map value_in ys))
+equals_from : (x : Item) (known : Truth) (ys : List Item) → tally_of Many.Equals x known ys ≡ or_of known (any_equal (value_in_lem x) (map value_in_lem ys))
 equals_from x known [] = sym (or-false known).0
 equals_from x known (y ∷ ys) =
-    equals_from x (or_of known (equal_values (value_in x) (value_in y))) ys
-    ∙ or_assoc known (equal_values (value_in x) (value_in y)) (any_equal (value_in x) (map value_in ys))
+    equals_from x (or_of known (equal_values (value_in_lem x) (value_in_lem y))) ys
+    ∙ or_assoc known (equal_values (value_in_lem x) (value_in_lem y)) (any_equal (value_in_lem x) (map value_in_lem ys))
 
 strict_assoc : (r s t : Truth) → strict_or (strict_or r s) t ≡ strict_or r (strict_or s t)
 strict_assoc Bottom s t = refl
@@ -340,31 +292,31 @@ module _ (f : Fit) (v : Value) (e : is_text v ≡ true) where
       by true false a b = strict_bottom (of_bool a)
       by false t a b = refl
 
-fits_from : (f : Fit) (x : Item) (known : Truth) → is_text (value_in x) ≡ true → (ys : List Item)
-    → tally_of (Many.Fit f) x known ys ≡ strict_or known (any_fit f (value_in x) (map value_in ys))
+fits_from : (f : Fit) (x : Item) (known : Truth) → is_text (value_in_lem x) ≡ true → (ys : List Item)
+    → tally_of (Many.Fit f) x known ys ≡ strict_or known (any_fit f (value_in_lem x) (map value_in_lem ys))
 fits_from f x known e [] = rw e (sym (strict_false known))
 fits_from f x known e (y ∷ ys) =
-    fits_from f x (strict_or known (fit_values f (value_in x) (value_in y))) e ys
-    ∙ strict_assoc known (fit_values f (value_in x) (value_in y)) (any_fit f (value_in x) (map value_in ys))
-    ∙ ap (strict_or known) (one_more f (value_in x) e (value_in y) (map value_in ys))
+    fits_from f x (strict_or known (fit_values f (value_in_lem x) (value_in_lem y))) e ys
+    ∙ strict_assoc known (fit_values f (value_in_lem x) (value_in_lem y)) (any_fit f (value_in_lem x) (map value_in_lem ys))
+    ∙ ap (strict_or known) (one_more f (value_in_lem x) e (value_in_lem y) (map value_in_lem ys))
 
 stays_bottom : (f : Fit) (x : Item) (ys : List Item) → tally_of (Many.Fit f) x Bottom ys ≡ Bottom
 stays_bottom f x [] = refl
 stays_bottom f x (y ∷ ys) = stays_bottom f x ys
 
-fits_by : (f : Fit) (x : Item) (ys : List Item) (b : Bool) → is_text (value_in x) ≡ b
-    → tally_of (Many.Fit f) x (cond (is_text (value_in x)) False Bottom) ys ≡ any_fit f (value_in x) (map value_in ys)
+fits_by : (f : Fit) (x : Item) (ys : List Item) (b : Bool) → is_text (value_in_lem x) ≡ b
+    → tally_of (Many.Fit f) x (cond (is_text (value_in_lem x)) False Bottom) ys ≡ any_fit f (value_in_lem x) (map value_in_lem ys)
 fits_by f x ys true e = ap (λ (t : Bool). tally_of (Many.Fit f) x (cond t False Bottom) ys) e ∙ fits_from f x False e ys
 fits_by f x ys false e = ap (λ (t : Bool). tally_of (Many.Fit f) x (cond t False Bottom) ys) e ∙ stays_bottom f x ys ∙ rw e
 
 pub tally : Tally
-tally (Many.Fit f) x ys = ap logic (fits_by f x ys (is_text (value_in x)) refl)
-tally Many.Equals x ys = ap logic (equals_from x False ys ∙ (or-false (any_equal (value_in x) (map value_in ys))).1)
+tally (Many.Fit f) x ys = ap logic (fits_by f x ys (is_text (value_in_lem x)) refl)
+tally Many.Equals x ys = ap logic (equals_from x False ys ∙ (or-false (any_equal (value_in_lem x) (map value_in_lem ys))).1)
 
 -- an equal value stays
 stays_true : (x : Item) (ys : List Item) → tally_of Many.Equals x True ys ≡ True
 stays_true x [] = refl
-stays_true x (y ∷ ys) = ap (λ (t : Truth). tally_of Many.Equals x t ys) (true-or-t True (equal_values (value_in x) (value_in y)) refl) ∙ stays_true x ys
+stays_true x (y ∷ ys) = ap (λ (t : Truth). tally_of Many.Equals x t ys) (true-or-t True (equal_values (value_in_lem x) (value_in_lem y)) refl) ∙ stays_true x ys
 
 pub settled : Settled
 settled (Many.Fit f) x False ys e = true_false e

@@ -1,16 +1,13 @@
 -- What holds of values and items. The proofs are in proofs/Theorems.antt, under the same names.
-use Rattle.std.specs.Prelude.{◌≡◌, ◌↔◌, ◌⊎◌, true, false, ◌&&◌, List, [], ◌∷◌, ◌++◌, map, ℕ, ◌≤◌, ◌<◌, ◌^◌, T, ℤ, pos, length, get_or, take, drop, Float}
+use Rattle.std.specs.Prelude.{◌≡◌, ◌↔◌, ◌⊎◌, true, false, ◌&&◌, List, ◌∷◌, ◌++◌, ℕ, ◌<◌, ◌^◌, T, ℤ, pos, take, drop, Float}
 use Rattle.std.specs.Float.{binary64}
 use Rattle.std.specs.Float.Ieee.{fits, to_bits}
 use Rattle.std.specs.Int.{w32, w64}
 use Rattle.std.proofs.Common.{SFits, of_z}
 use Rattle.truth.specs.declared.Truth.{Truth}
-use Rattle.truth.specs.declared.Truth.TheVariants.{False, Bottom, True}
+use Rattle.truth.specs.declared.Truth.TheVariants.{Bottom, True}
 use Rattle.truth.specs.Truth.{is_false, is_true}
 use Rattle.utf8.specs.Utf8.{HasCharacters, WellFormed}
-use Rattle.pattern.specs.Wildcard.{Accepts}
-use Rattle.regexp.specs.Grammar.{Accepts as AcceptsRegex}
-use Rattle.regexp.specs.Regex.{longest}
 use Rattle.opcode.specs.Opcode.{Kind, unary_takes, unary_gives, binary_takes, binary_gives}
 use Rattle.opcode.specs.declared.Edition.{Edition}
 use Rattle.opcode.specs.declared.Load.{Load}
@@ -25,7 +22,7 @@ use Rattle.opcode.specs.declared.Many.{Many}
 use Rattle.number.specs.declared.Number.{Number}
 use Rattle.notice.specs.Layout.{fields_of}
 use Rattle.notice.specs.Lookup.{field_named}
-use Rattle.value.specs.Value.{Value, bottom, int32, int64, real, text, Item, logic, value, number_of, is_text, fold_case_of, size_of, equal_values, truth_in, value_in, unary_of, binary_of, many_of, many_items, kind_of, is_bottom, bottom_of, is_strict, start_of, open_of, tally_of, value_named, named_value, load_of}
+use Rattle.value.specs.Value.{Value, bottom, int32, int64, real, text, Item, logic, value, number_of, is_text, fold_case_of, size_of, equal_values, truth_in, value_in, unary_of, binary_of, many_items, kind_of, is_bottom, bottom_of, is_strict, start_of, open_of, tally_of, value_named, named_value, load_of}
 
 -- The kind of each answer is the operator's, whatever the operands are.
 abbrev pub UnaryKind : Type 0
@@ -72,27 +69,6 @@ SizeFolded = (s : List ℕ) → size_of (fold_case_of (text s)) ≡ size_of (tex
 -- "In 56..58 a later operand that is no string gives bottom", whatever fitted before it.
 abbrev pub LaterNoText : Type 0
 LaterNoText = (f : Fit) (x y : Item) (ys zs : List Item) → is_text (value_in y) ≡ false → many_items (Many.Fit f) x (ys ++ (y ∷ zs)) ≡ logic Bottom
-
--- one of some patterns has the string in its language
-abbrev pub OneOf : (List ℕ → Type 0) → List (List ℕ) → Type 0
-OneOf P ps = (i : ℕ) × (i < length ps) × P (get_or ps i [])
-
--- what is true exactly if P holds, and else false
-pub record Exactly (t : Truth) (P : Type 0) : Type 0 where
-  pub yes_if : P → t ≡ True
-  pub no_if : (P → ⊥) → t ≡ False
-  pub if_yes : t ≡ True → P
-  pub if_no : t ≡ False → P → ⊥
-
--- "the whole value must fit a pattern": `wildcard` of a string with patterns is true exactly if the string is in the language of one of them, which `Accepts` of crate pattern says without a matcher, and else false ..
-abbrev pub WildcardLanguage : Type 0
-WildcardLanguage = (x : List ℕ) (ps : List (List ℕ)) → Exactly (many_of (Many.Fit Fit.Wildcard) (text x) (map text ps)) (OneOf (λ p. Accepts p x) ps)
-
--- .. and so is `regex`, "Yes and no must equal the expression's language, written without the matcher", by `Accepts` of crate regex: no string of a text or of a table is longer.
-abbrev pub RegexLanguage : Type 0
-RegexLanguage =
-    (x : List ℕ) (ps : List (List ℕ)) → ((i : ℕ) → i < length ps → length (get_or ps i []) ≤ longest)
-    → Exactly (many_of (Many.Fit Fit.Regex) (text x) (map text ps)) (OneOf (λ p. AcceptsRegex p x) ps)
 
 -- `equals` is true where any of its values is equal, also beside a bottom.
 abbrev pub EqualsTrue : Type 0

@@ -15,7 +15,7 @@ use Rattle.octets.specs.Octets.{folded, same_of, begins_of, contains_of, ends_of
 use Rattle.utf8.specs.declared.Counted.{Counted}
 use Rattle.utf8.specs.declared.Counted.TheVariants.{Characters, IllFormed}
 use Rattle.utf8.specs.Scan.{count_of}
-use Rattle.pattern.specs.Computed.{wildcard_of}
+use Rattle.pattern.specs.Wildcard.{wildcard_of}
 use Rattle.regexp.specs.Regex.{regex_of}
 use Rattle.opcode.specs.Opcode.{Kind}
 use Rattle.opcode.specs.declared.Edition.{Edition}

@@ -1,6 +1,6 @@
 // Values as a table's run holds them, and what each operator and function gives. Document 01, "Meaning", "Table".
-// Operands have no precondition: what a piece names beyond its source is not there, and an operand of the other kind counts as bottom.
-// Only `find_name` and `field` have one, which the two checks have answered: that the notice was found well-formed and the starts of its fields are at hand, so that a name is found by halving, that the name lies in the pool, and that the
+// No function here asks anything of its operands: what a piece names beyond its source is not there, and an operand of the other kind counts as bottom.
+// Only `find_name` and `field` ask something, which the two checks have answered: that the notice was found well-formed and the starts of its fields are at hand, so that a name is found by halving, that the name lies in the pool, and that the
 // field found is right.
 ghost use Rattle.std.specs.Prelude.{◌≡◌, true, List, ℕ, ◌+◌, ◌%◌, ◌≤◌, length, take, drop};
 ghost use Rattle.notice.specs.Field.{size_right};
@@ -159,7 +159,7 @@ pub fn not(s: Slot) -> Slot
     decided(truth::not(truth_in(s)))
 }
 
-// Ops 6..8. Which stretch of the pool or of the notice the slot of a string names is unspecified: one that gives its bytes.
+// Ops 6..8.
 pub fn change<'a>(pool: &'a [u8], notice: &'a [u8], op: Change, s: Slot) -> Slot
     ensures { item_in pool.now notice.now result ≡ unary_of (Unary.Change op) (item_in pool.now notice.now s) }
 {
@@ -310,7 +310,7 @@ pub fn load_real64(b: u64) -> Slot
     valued(Typed::Real(number::real_of_bits(b)))
 }
 
-// "4 string, 5 name (a length, b pool offset ..)". Of an empty string the stretch that the slot names is unspecified.
+// "4 string, 5 name (a length, b pool offset ..)"
 pub fn load_text(a: u16, b: u64) -> Slot
     ensures { (p : List ℕ) → (q : List ℕ) → item_in p q result ≡ load_of p q Load.Text a b }
 {
@@ -328,7 +328,6 @@ pub fn find_name<'a>(pool: &'a [u8], notice: &'a [u8], starts: &[u16; 64], a: u1
 }
 
 // "5 the field's or bottom": the value of a field that was found. It asks that the value has its kind's size and lies in the notice.
-// Which stretch of the notice the slot of a string or an opaque value names is unspecified: one that gives its bytes.
 pub fn field(notice: &[u8], kind: u16, start: u16, len: u16) -> Slot
     requires { (size_right kind len ≡ true) × (start + len ≤ length notice.now) }
     ensures { (p : List ℕ) → item_in p notice.now result ≡ value (field_value kind (take len (drop start notice.now))) }

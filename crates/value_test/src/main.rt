@@ -113,7 +113,7 @@ fn load_name<'a>(pool: &'a [u8], notice: &'a [u8], a: u16, b: u64) -> Slot {
     }
 }
 
-// The operand of entry i; bottom past the entries lent.
+// The operand of entry i; bottom where there is none.
 fn operand<'a>(pool: &'a [u8], notice: &'a [u8], entries: &'a [u8], i: usize) -> Slot {
     if entries.len() / 12 <= i {
         return value::decided(Truth::Bottom);

@@ -1,8 +1,9 @@
--- `absent` meets its contract: its test of the kind's second-lowest bit is the definition's, once that is unfolded. Assumes nothing.
 use borrow.Author.Rules.{rules}
 use Rattle.automaton.specs.Table.{absent}
 use Rattle.automaton.proofs.absent.Statement.{statement}
 use Rattle.automaton.proofs.absent.Tie as tie
+use Rattle.automaton.proofs.absent.Reads as reads
+use Rattle.automaton.proofs.absent.Lts as lts
 
 returns : tie.Need-returns
 unfolding absent

@@ -1,5 +1,3 @@
--- `finds_long` meets its contract: an empty stretch that may end here fits at once; else the first byte leads from the packed marks of the first pass to the word that the rest of the walk
--- starts at. Assumes nothing.
 use Prim.Native.Nat.{ℕ}
 use mathlib.Core.Path.{sym, ap, ◌∙◌}
 use mathlib.Core.Bool.{false}
@@ -12,6 +10,24 @@ use Rattle.automaton.proofs.Told.{long_seen, long_first}
 use borrow.Author.Rules.{rules}
 use Rattle.automaton.proofs.finds_long.Statement.{statement}
 use Rattle.automaton.proofs.finds_long.Tie as tie
+use Rattle.automaton.proofs.finds_long.Reads as reads
+use Rattle.automaton.proofs.finds_long.Lts as lts
+use Rattle.automaton.proofs.clear.Reads as clear_reads
+use Rattle.automaton.proofs.lead.Reads as lead-reads
+use Rattle.automaton.proofs.pack.Reads as pack-reads
+use Rattle.automaton.proofs.plain.Reads as plain-reads
+use Rattle.automaton.proofs.shift.Reads as shift-reads
+use Rattle.automaton.proofs.walk_told.Reads as walk-told-reads
+use Rattle.octets.proofs.fold.Reads as fold-reads
+
+clear-requires : tie.Need-clear-requires
+clear-requires c κs = search rules
+
+shift_requires : tie.Need-shift-requires
+shift_requires c κs = search rules
+
+same_length : tie.Need-same-length
+same_length c = search rules
 
 returns : tie.Need-returns
 returns c =
@@ -21,6 +37,18 @@ returns c =
     let e = c.before.before.before.before.before.before.before.before.clear.ensures ∙ ap (λ (m : ℕ). replicate m false) z.requires.2 in
     long_seen (tokens_of a.text.now a.kinds.now a.args.now) n a.sf a.ef (fold a.mark) a.value.now a.from _ _ c.before.before.before.before.shift.result e c.before.before.before.before.shift.ensures z.requires.3 c.if1.true
 
+plain_requires : tie.Need-plain-requires
+plain_requires c κs = search rules
+
+pack-requires : tie.Need-pack-requires
+pack-requires c κs = search rules
+
+shared-slice-read-fold : tie.Need-shared-slice-read-fold
+shared-slice-read-fold c = search rules
+
+fold-requires : tie.Need-fold-requires
+fold-requires c κs = search rules
+
 lead_requires : tie.Need-lead-requires
 lead_requires c κs = let z = c.before.before.before.before.before.before.before.before.before.before.before.before.before.before.before.before.before.before.before.before.before in (z.requires.0, z.requires.1, c.before.before.before.before.before.before.before.before.before.marks2.given ∙ c.before.before.before.before.before.before.before.before.before.before.before.before.before.marks.given ∙ z.requires.2)
 
@@ -29,6 +57,9 @@ add_walk_told c = record { fits = omega (arith, c.before.before.before.before.be
 
 walk_told_requires : tie.Need-walk-told-requires
 walk_told_requires c κs = let z = c.before.before.before.before.before.before.before.before.before.before.before.before.before.before.before.before.before.before.before.before.before.before.before.before.before in (z.requires.0, z.requires.1, c.before.before.marks3.given ∙ c.before.before.before.before.before.before.before.before.before.before.before.before.before.marks2.given ∙ c.before.before.before.before.before.before.before.before.before.before.before.before.before.before.before.before.before.marks.given ∙ z.requires.2, c.before.before.before.before.before.before.before.before.before.plain.ensures, omega (arith, z.requires.3))
+
+same_length_2 : tie.Need-same-length-2
+same_length_2 c = search rules
 
 returns_2 : tie.Need-returns-2
 returns_2 c =
@@ -42,6 +73,18 @@ returns_2 c =
 
 pub finds_long_spec : {M : Type 1} → statement M
 finds_long_spec =
-    tie.close (tie.spec (λ c κs. search rules) (λ c κs. search rules) (λ c. search rules) returns
-    (λ c κs. search rules) (λ c κs. search rules) (λ c. search rules) (λ c κs. search rules)
-    lead_requires add_walk_told walk_told_requires (λ c. search rules) returns_2)
+    tie.close
+    (tie.spec
+    clear-requires
+    shift_requires
+    same_length
+    returns
+    plain_requires
+    pack-requires
+    shared-slice-read-fold
+    fold-requires
+    lead_requires
+    add_walk_told
+    walk_told_requires
+    same_length_2
+    returns_2)

@@ -1,4 +1,3 @@
--- `hits` meets its contract: by cases of the sort: none above 2, the byte of the text (none past its end), any byte, and the set read there or its complement. Assumes nothing.
 use native.Mathlib.Omega.{arith}
 use mathlib.Core.Path.{sym, ap, ◌∙◌}
 use mathlib.Core.Bool.{Bool}
@@ -10,8 +9,14 @@ use Rattle.automaton.proofs.Step.{hits_other, hits_plain, hits_past, hits_all, h
 use Rattle.automaton.proofs.hits.Statement.{statement}
 use Rattle.automaton.proofs.hits.Tie as tie
 
+sort-requires : tie.Need-sort-requires
+sort-requires c κs = search rules
+
 returns : tie.Need-returns
 returns c = hits_other c.before.before.before.args.text.now c.before.before.before.args.kind c.before.before.before.args.at c.before.before.before.args.c (omega (arith, c.before.sort.ensures))
+
+shared_slice_read_result : tie.Need-shared-slice-read-result
+shared_slice_read_result c = search rules
 
 returns_2 : tie.Need-returns-2
 returns_2 c = hits_plain c.before.before.before.before.before.before.args.text.now c.before.before.before.before.before.before.args.kind c.before.before.before.before.before.before.args.at c.before.before.before.before.before.before.args.c (sym c.before.before.before.before.sort.ensures ∙ c.before.before.if2.true) (omega arith)
@@ -21,6 +26,18 @@ returns_3 c = hits_past c.before.before.before.before.before.args.text.now c.bef
 
 returns_4 : tie.Need-returns-4
 returns_4 c = hits_all c.before.before.before.before.before.args.text.now c.before.before.before.before.before.args.kind c.before.before.before.before.before.args.at c.before.before.before.before.before.args.c (sym c.before.before.before.sort.ensures ∙ c.if4.true)
+
+outside-requires : tie.Need-outside-requires
+outside-requires c κs = search rules
+
+set-test-requires : tie.Need-set-test-requires
+set-test-requires c κs = search rules
+
+held-requires : tie.Need-held-requires
+held-requires c κs = search rules
+
+turned-requires : tie.Need-turned-requires
+turned-requires c κs = search rules
 
 returns_5 : tie.Need-returns-5
 returns_5 c =
@@ -35,6 +52,16 @@ returns_5 c =
 
 pub hits_spec : {M : Type 1} → statement M
 hits_spec =
-    tie.close (tie.spec (λ c κs. search rules) returns (λ c. search rules) returns_2 returns_3
-    returns_4 (λ c κs. search rules) (λ c κs. search rules) (λ c κs. search rules)
-    (λ c κs. search rules) returns_5)
+    tie.close
+    (tie.spec
+    sort-requires
+    returns
+    shared_slice_read_result
+    returns_2
+    returns_3
+    returns_4
+    outside-requires
+    set-test-requires
+    held-requires
+    turned-requires
+    returns_5)

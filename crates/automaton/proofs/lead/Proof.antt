@@ -1,4 +1,3 @@
--- `lead` meets its contract: unpacking, one pass and packing are a pass from the cells of w to those of the answer, whose lowest bit says whether a way ended. Assumes nothing.
 use Prim.Native.Nat.{ℕ}
 use lib.ListN.{length}
 use Rattle.automaton.specs.Table.{tokens_of}
@@ -8,6 +7,23 @@ use Rattle.automaton.proofs.Told.{led}
 use borrow.Author.Rules.{rules}
 use Rattle.automaton.proofs.lead.Statement.{statement}
 use Rattle.automaton.proofs.lead.Tie as tie
+use Rattle.automaton.proofs.lead.Reads as reads
+use Rattle.automaton.proofs.lead.Lts as lts
+use Rattle.automaton.proofs.pack.Reads as pack-reads
+use Rattle.automaton.proofs.shift.Reads as shift-reads
+use Rattle.automaton.proofs.unpack.Reads as unpack-reads
+
+unpack-requires : tie.Need-unpack-requires
+unpack-requires c κs = search rules
+
+shift_requires : tie.Need-shift-requires
+shift_requires c κs = search rules
+
+pack-requires : tie.Need-pack-requires
+pack-requires c κs = search rules
+
+same_length : tie.Need-same-length
+same_length c = search rules
 
 returns : tie.Need-returns
 returns c =
@@ -19,5 +35,10 @@ returns c =
 
 pub lead_spec : {M : Type 1} → statement M
 lead_spec =
-    tie.close (tie.spec (λ c κs. search rules) (λ c κs. search rules) (λ c κs. search rules)
-    (λ c. search rules) returns)
+    tie.close
+    (tie.spec
+    unpack-requires
+    shift_requires
+    pack-requires
+    same_length
+    returns)

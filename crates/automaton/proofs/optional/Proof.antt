@@ -1,4 +1,3 @@
--- `optional` meets its contract: the loop keeps that the tokens from index i on may all be absent exactly if all of the table may. Assumes nothing.
 use Prim.Native.Nat.{◌≤◌, ◌-◌}
 use mathlib.Core.Path.{◌≡◌, refl, ◌∙◌}
 use native.Mathlib.Omega.{arith}
@@ -9,6 +8,9 @@ use Rattle.automaton.specs.Word.{optional}
 use Rattle.automaton.proofs.Word.{every_no, every_on, every_end}
 use Rattle.automaton.proofs.optional.Statement.{statement}
 use Rattle.automaton.proofs.optional.Tie as tie
+use Rattle.automaton.proofs.optional.Reads as reads
+use Rattle.automaton.proofs.optional.Lts as lts
+use Rattle.automaton.proofs.absent.Reads as absent-reads
 
 abbrev invariant_loop : tie.invariant_loop
 invariant_loop kinds i₀ i = (i ≤ length kinds) × (optional (drop i kinds) ≡ optional kinds)
@@ -16,10 +18,25 @@ invariant_loop kinds i₀ i = (i ≤ length kinds) × (optional (drop i kinds) �
 abbrev decreases_loop : tie.decreases_loop
 decreases_loop kinds i₀ i = length kinds - i
 
+loop_holds : tie.Need-loop-init invariant_loop decreases_loop
+loop_holds c = (omega arith, refl)
+
+shared-slice-read-absent : tie.Need-shared-slice-read-absent invariant_loop decreases_loop
+shared-slice-read-absent c = search rules
+
+absent-requires : tie.Need-absent-requires invariant_loop decreases_loop
+absent-requires c κs = search rules
+
 returns : tie.Need-returns invariant_loop decreases_loop
 returns c =
     let l = c.before.before.before.before.loop in
     every_no absent c.before.before.before.before.before.before.args.kinds.now l.i c.before.absent.result (omega arith) c.before.absent.ensures c.if1.true ∙ l.invariant.1
+
+add_i : tie.Need-overflow-add-i invariant_loop decreases_loop
+add_i c = search rules
+
+loop_less : tie.Need-loop-smaller invariant_loop decreases_loop
+loop_less c = search rules
 
 loop_again : tie.Need-loop-preserved invariant_loop decreases_loop
 loop_again c =
@@ -32,6 +49,4 @@ returns_2 c =
     every_end absent c.before.before.before.args.kinds.now l.i (omega arith) ∙ l.invariant.1
 
 pub optional_spec : {M : Type 1} → statement M
-optional_spec =
-    tie.close (tie.spec invariant_loop decreases_loop (λ c. (omega arith, refl)) (λ c. search rules)
-    (λ c κs. search rules) returns (λ c. search rules) (λ c. search rules) loop_again returns_2)
+optional_spec = tie.close (tie.spec invariant_loop decreases_loop loop_holds shared-slice-read-absent absent-requires returns add_i loop_less loop_again returns_2)

@@ -1,8 +1,9 @@
--- `outside` meets its contract: its test of the kind's third-lowest bit is the definition's, once that is unfolded. Assumes nothing.
 use borrow.Author.Rules.{rules}
 use Rattle.automaton.specs.Table.{outside}
 use Rattle.automaton.proofs.outside.Statement.{statement}
 use Rattle.automaton.proofs.outside.Tie as tie
+use Rattle.automaton.proofs.outside.Reads as reads
+use Rattle.automaton.proofs.outside.Lts as lts
 
 returns : tie.Need-returns
 unfolding outside

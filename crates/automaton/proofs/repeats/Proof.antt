@@ -1,8 +1,9 @@
--- `repeats` meets its contract: its test of the kind's lowest bit is the definition's, once that is unfolded. Assumes nothing.
 use borrow.Author.Rules.{rules}
 use Rattle.automaton.specs.Table.{repeats}
 use Rattle.automaton.proofs.repeats.Statement.{statement}
 use Rattle.automaton.proofs.repeats.Tie as tie
+use Rattle.automaton.proofs.repeats.Reads as reads
+use Rattle.automaton.proofs.repeats.Lts as lts
 
 returns : tie.Need-returns
 unfolding repeats

@@ -1,8 +1,9 @@
--- `sort` meets its contract: the quotient by 8 is the definition's, once that is unfolded. Assumes nothing.
 use borrow.Author.Rules.{rules}
 use Rattle.automaton.specs.Table.{sort}
 use Rattle.automaton.proofs.sort.Statement.{statement}
 use Rattle.automaton.proofs.sort.Tie as tie
+use Rattle.automaton.proofs.sort.Reads as reads
+use Rattle.automaton.proofs.sort.Lts as lts
 
 returns : tie.Need-returns
 unfolding sort

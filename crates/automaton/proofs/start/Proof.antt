@@ -1,4 +1,3 @@
--- `start` meets its contract: index 0 keeps the whole value; else each byte before the first token's own marks nothing and ends no way, so it may be skipped. Assumes nothing.
 use Prim.Native.Nat.{ℕ}
 use mathlib.Core.Path.{ap, ◌∙◌}
 use native.Mathlib.Omega.{arith}
@@ -9,6 +8,34 @@ use Rattle.automaton.proofs.Skips.{start_skip}
 use borrow.Author.Rules.{rules}
 use Rattle.automaton.proofs.start.Statement.{statement}
 use Rattle.automaton.proofs.start.Tie as tie
+use Rattle.automaton.proofs.start.Reads as reads
+use Rattle.automaton.proofs.start.Lts as lts
+use Rattle.automaton.proofs.ahead.Reads as ahead-reads
+use Rattle.automaton.proofs.wide.Reads as wide-reads
+
+returns : tie.Need-returns
+returns c = search rules
+
+shared-slice-read-if2 : tie.Need-shared-slice-read-if2
+shared-slice-read-if2 c = search rules
+
+returns_2 : tie.Need-returns-2
+returns_2 c = search rules
+
+shared_slice_read_wide : tie.Need-shared-slice-read-wide
+shared_slice_read_wide c = search rules
+
+wide-requires : tie.Need-wide-requires
+wide-requires c κs = search rules
+
+returns_3 : tie.Need-returns-3
+returns_3 c = search rules
+
+shared-slice-read-ahead : tie.Need-shared-slice-read-ahead
+shared-slice-read-ahead c = search rules
+
+ahead-requires : tie.Need-ahead-requires
+ahead-requires c κs = search rules
 
 returns_4 : tie.Need-returns-4
 returns_4 c =
@@ -20,6 +47,14 @@ returns_4 c =
 
 pub start_spec : {M : Type 1} → statement M
 start_spec =
-    tie.close (tie.spec (λ c. search rules) (λ c. search rules) (λ c. search rules)
-    (λ c. search rules) (λ c κs. search rules) (λ c. search rules) (λ c. search rules)
-    (λ c κs. search rules) returns_4)
+    tie.close
+    (tie.spec
+    returns
+    shared-slice-read-if2
+    returns_2
+    shared_slice_read_wide
+    wide-requires
+    returns_3
+    shared-slice-read-ahead
+    ahead-requires
+    returns_4)

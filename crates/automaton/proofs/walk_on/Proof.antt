@@ -1,4 +1,3 @@
--- `walk_on` meets its contract: without groups at most 62 tokens are a small table; else `unpack` gives `walk` the cells of the word. Assumes nothing.
 use Prim.Native.Nat.{ℕ}
 use mathlib.Core.Bool.{Bool}
 use mathlib.Core.List.{List}
@@ -12,9 +11,26 @@ use Rattle.automaton.proofs.Word.{small_of}
 use borrow.Author.Rules.{rules}
 use Rattle.automaton.proofs.walk_on.Statement.{statement}
 use Rattle.automaton.proofs.walk_on.Tie as tie
+use Rattle.automaton.proofs.walk_on.Reads as reads
+use Rattle.automaton.proofs.walk_on.Lts as lts
+use Rattle.automaton.proofs.unpack.Reads as unpack-reads
+use Rattle.automaton.proofs.walk.Reads as walk-reads
+use Rattle.automaton.proofs.walk_word.Reads as walk-word-reads
 
 walk_word_requires : tie.Need-walk-word-requires
 walk_word_requires c κs = let z = c.before.before.before.before.before.before in (small_of z.args.kinds.now z.args.single z.requires.0 z.requires.3 c.if1.true, z.requires.1, z.requires.4)
+
+returns : tie.Need-returns
+returns c = search rules
+
+unpack-requires : tie.Need-unpack-requires
+unpack-requires c κs = search rules
+
+walk-requires : tie.Need-walk-requires
+walk-requires c κs = search rules
+
+same_length : tie.Need-same-length
+same_length c = search rules
 
 returns_2 : tie.Need-returns-2
 returns_2 c =
@@ -25,5 +41,5 @@ returns_2 c =
 
 pub walk_on_spec : {M : Type 1} → statement M
 walk_on_spec =
-    tie.close (tie.spec walk_word_requires (λ c. search rules) (λ c κs. search rules)
-    (λ c κs. search rules) (λ c. search rules) returns_2)
+    tie.close
+    (tie.spec walk_word_requires returns unpack-requires walk-requires same_length returns_2)

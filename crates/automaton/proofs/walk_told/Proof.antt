@@ -1,5 +1,3 @@
--- `walk_told` meets its contract: the loop keeps that the walk from index i with word number s decides as the whole walk, and that each number kept is where its byte leads from its word.
--- Assumes nothing.
 use borrow.Author.Rules.{rules}
 use Prim.Native.Nat.{◌≤◌, ◌-◌}
 use mathlib.Core.Path.{◌≡◌, refl, sym, ◌∙◌}
@@ -16,6 +14,16 @@ use Rattle.automaton.proofs.Word.{word_on}
 use Rattle.automaton.proofs.Told.{Told, told_none, told_at, told_more, most}
 use Rattle.automaton.proofs.walk_told.Statement.{statement}
 use Rattle.automaton.proofs.walk_told.Tie as tie
+use Rattle.automaton.proofs.walk_told.Reads as reads
+use Rattle.automaton.proofs.walk_told.Lts as lts
+use Rattle.automaton.proofs.byte.Reads as byte-Reads
+use Rattle.automaton.proofs.lead.Reads as lead-reads
+use Rattle.automaton.proofs.more.Reads as more-reads
+use Rattle.automaton.proofs.number.Reads as number-reads
+use Rattle.automaton.proofs.place.Reads as place-reads
+use Rattle.automaton.proofs.spot.Reads as spot-reads
+use Rattle.automaton.proofs.walk_on.Reads as walk-on-reads
+use Rattle.octets.proofs.fold.Reads as fold-reads
 
 abbrev invariant_loop : tie.invariant_loop
 invariant_loop text kinds args marks₀ single empty value mark sf ef from word next₀ held₀ count₀ s₀ i₀ marks next held count s i =
@@ -61,12 +69,30 @@ returns c =
     let l = c.before.before.loop in
     seen (tokens_of a.text.now a.kinds.now a.args.now) a.sf a.ef a.empty (fold a.mark) a.value.now (cells_in (length a.kinds.now) (get_or l.held l.s 0)) (ended_in (get_or l.held l.s 0)) a.sf l.i (omega arith) c.if1.true ∙ l.invariant.7
 
+shared-slice-read-fold : tie.Need-shared-slice-read-fold invariant_loop decreases_loop
+shared-slice-read-fold c = search rules
+
+fold-requires : tie.Need-fold-requires invariant_loop decreases_loop
+fold-requires c κs = search rules
+
 spot_requires : tie.Need-spot-requires invariant_loop decreases_loop
 spot_requires c κs =
     let z = c.before.before.before.before.before.before.before.before.before.before in
     let a = z.args in
     let l = c.before.before.before.before.loop in
     omega (arith, l.invariant.4, l.invariant.5)
+
+array-read-number : tie.Need-array-read-number invariant_loop decreases_loop
+array-read-number c = c.spot.ensures.1
+
+number-requires : tie.Need-number-requires invariant_loop decreases_loop
+number-requires c κs = search rules
+
+add_i : tie.Need-overflow-add-i invariant_loop decreases_loop
+add_i c = search rules
+
+loop_less : tie.Need-loop-smaller invariant_loop decreases_loop
+loop_less c = search rules
 
 loop_again : tie.Need-loop-preserved invariant_loop decreases_loop
 loop_again c =
@@ -82,6 +108,9 @@ lead_requires c κs =
     let a = z.args in
     let l = c.before.before.before.before.before.before.before.before.loop in
     (z.requires.0, z.requires.1, l.invariant.1)
+
+slice-aggregate-place : tie.Need-slice-aggregate-place invariant_loop decreases_loop
+slice-aggregate-place c = search rules
 
 place_requires : tie.Need-place-requires invariant_loop decreases_loop
 place_requires c κs =
@@ -114,8 +143,20 @@ returns_2 c =
     let l = c.before.before.before.before.before.before.before.before.before.before.before.before.before.before.before.before.before.before.loop in
     c.before.before.walk_on.ensures ∙ word_on (tokens_of a.text.now a.kinds.now a.args.now) a.sf a.ef a.empty (fold a.mark) a.value.now (length a.kinds.now) (get_or l.held l.s 0) a.sf l.i (omega (arith, c.before.before.before.before.before.before.before.before.before.before.before.before.before.before.before.before.before.loop-test)) c.before.before.before.before.before.before.before.before.before.before.before.before.before.before.before.before.if1.false c.before.before.before.before.before.before.before.before.before.before.before.before.before.before.fold.result c.before.before.before.before.before.before.before.before.before.before.before.before.before.before.fold.ensures c.before.before.before.before.before.before.before.before.before.lead.result c.before.before.before.before.before.before.before.before.before.lead.ensures ∙ l.invariant.7
 
+mul-held : tie.Need-overflow-mul-held invariant_loop decreases_loop
+mul-held c = record { fits = omega (arith, c.if3.false) }
+
+array-write-held : tie.Need-array-write-held invariant_loop decreases_loop
+array-write-held c = omega (arith, c.if3.false)
+
+byte-requires : tie.Need-byte-requires invariant_loop decreases_loop
+byte-requires c κs = omega (arith, c.if3.false)
+
 array_write_next : tie.Need-array-write-next invariant_loop decreases_loop
 array_write_next c = c.before.before.before.before.before.before.before.before.before.before.spot.ensures.1
+
+more-requires : tie.Need-more-requires invariant_loop decreases_loop
+more-requires c κs = search rules
 
 add_i_2 : tie.Need-overflow-add-i-2 invariant_loop decreases_loop
 add_i_2 c = record { fits = omega (arith, c.before.before.before.before.before.before.before.before.before.before.before.before.before.before.before.loop-test) }
@@ -173,10 +214,39 @@ returns_3 c =
 
 pub walk_told_spec : {M : Type 1} → statement M
 walk_told_spec =
-    tie.close (tie.spec invariant_loop decreases_loop loop_holds mul_w array_read_w same_length returns
-    (λ c. search rules) (λ c κs. search rules) spot_requires (λ c. c.spot.ensures.1)
-    (λ c κs. search rules) (λ c. search rules) (λ c. search rules) loop_again lead_requires
-    (λ c. search rules) place_requires add_walk_on walk_on_requires same_length_2 returns_2
-    (λ c. record { fits = omega (arith, c.if3.false) }) (λ c. omega (arith, c.if3.false))
-    (λ c κs. omega (arith, c.if3.false)) array_write_next (λ c κs. search rules) add_i_2
-    loop_less_2 loop_again_2 mul_w_2 array_read_w_2 same_length_3 returns_3)
+    tie.close
+    (tie.spec
+    invariant_loop
+    decreases_loop
+    loop_holds
+    mul_w
+    array_read_w
+    same_length
+    returns
+    shared-slice-read-fold
+    fold-requires
+    spot_requires
+    array-read-number
+    number-requires
+    add_i
+    loop_less
+    loop_again
+    lead_requires
+    slice-aggregate-place
+    place_requires
+    add_walk_on
+    walk_on_requires
+    same_length_2
+    returns_2
+    mul-held
+    array-write-held
+    byte-requires
+    array_write_next
+    more-requires
+    add_i_2
+    loop_less_2
+    loop_again_2
+    mul_w_2
+    array_read_w_2
+    same_length_3
+    returns_3)

@@ -16,8 +16,29 @@ invariant_loop buffer₀ at from end n i₀ buffer i =
 abbrev decreases_loop : tie.decreases_loop
 decreases_loop buffer₀ at from end n i₀ buffer i = n - i
 
+sub-n : tie.Need-overflow-sub-n invariant_loop decreases_loop
+sub-n c = search rules
+
 loop_holds : tie.Need-loop-init invariant_loop decreases_loop
 loop_holds c = let e : c.args.at + 0 ≡ c.args.at = omega arith in (omega arith, refl, λ j h. refl, rw e)
+
+add_buffer : tie.Need-overflow-add-buffer invariant_loop decreases_loop
+add_buffer c = search rules
+
+slice-read-buffer : tie.Need-slice-read-buffer invariant_loop decreases_loop
+slice-read-buffer c = search rules
+
+add-buffer-2 : tie.Need-overflow-add-buffer-2 invariant_loop decreases_loop
+add-buffer-2 c = search rules
+
+slice_write_buffer : tie.Need-slice-write-buffer invariant_loop decreases_loop
+slice_write_buffer c = search rules
+
+add_i : tie.Need-overflow-add-i invariant_loop decreases_loop
+add_i c = search rules
+
+loop_less : tie.Need-loop-smaller invariant_loop decreases_loop
+loop_less c = search rules
 
 loop_again : tie.Need-loop-preserved invariant_loop decreases_loop
 loop_again c =
@@ -28,6 +49,9 @@ loop_again c =
       λ j h. get_or-set_other l.buffer (a.at + l.i) j _ 0 (λ e. omega arith) ∙ l.invariant.2 j (omega arith),
       lowered_one l.buffer a.buffer.now a.at a.from (a.end - a.from) l.i c.before.loop-test.true (omega arith) (omega arith) l.invariant.2 ∙ l.invariant.3,
     )
+
+same_length : tie.Need-same-length invariant_loop decreases_loop
+same_length c = search rules
 
 returns : tie.Need-returns invariant_loop decreases_loop
 returns c =
@@ -41,6 +65,18 @@ returns c =
 
 pub move_down_spec : {M : Type 1} → statement M
 move_down_spec =
-    tie.close (tie.spec invariant_loop decreases_loop (λ c. search rules) loop_holds (λ c. search rules)
-    (λ c. search rules) (λ c. search rules) (λ c. search rules) (λ c. search rules)
-    (λ c. search rules) loop_again (λ c. search rules) returns)
+    tie.close
+    (tie.spec
+    invariant_loop
+    decreases_loop
+    sub-n
+    loop_holds
+    add_buffer
+    slice-read-buffer
+    add-buffer-2
+    slice_write_buffer
+    add_i
+    loop_less
+    loop_again
+    same_length
+    returns)

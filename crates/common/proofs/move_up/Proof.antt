@@ -22,6 +22,21 @@ loop_holds c =
     let z : c.args.end - c.args.end ≡ 0 = omega arith in
     (omega arith, omega arith, refl, rw z)
 
+sub-i : tie.Need-overflow-sub-i invariant_loop decreases_loop
+sub-i c = search rules
+
+slice-read-buffer : tie.Need-slice-read-buffer invariant_loop decreases_loop
+slice-read-buffer c = search rules
+
+add_buffer : tie.Need-overflow-add-buffer invariant_loop decreases_loop
+add_buffer c = search rules
+
+slice_write_buffer : tie.Need-slice-write-buffer invariant_loop decreases_loop
+slice_write_buffer c = search rules
+
+loop_less : tie.Need-loop-smaller invariant_loop decreases_loop
+loop_less c = search rules
+
 loop_again : tie.Need-loop-preserved invariant_loop decreases_loop
 loop_again c =
     let a = c.before.before.before.args in
@@ -33,6 +48,9 @@ loop_again c =
       ap (λ (t : List ℕ). set t (l.i - 1 + a.by) (get_or t (l.i - 1) 0)) e ∙ moved_one a.buffer.now a.by a.end l.i (omega arith) (omega arith) (omega arith),
     )
 
+same_length : tie.Need-same-length invariant_loop decreases_loop
+same_length c = search rules
+
 returns : tie.Need-returns invariant_loop decreases_loop
 returns c =
     let a = c.before.before.args in
@@ -42,6 +60,16 @@ returns c =
 
 pub move_up_spec : {M : Type 1} → statement M
 move_up_spec =
-    tie.close (tie.spec invariant_loop decreases_loop loop_holds (λ c. search rules) (λ c. search rules)
-    (λ c. search rules) (λ c. search rules) (λ c. search rules) loop_again (λ c. search rules)
+    tie.close
+    (tie.spec
+    invariant_loop
+    decreases_loop
+    loop_holds
+    sub-i
+    slice-read-buffer
+    add_buffer
+    slice_write_buffer
+    loop_less
+    loop_again
+    same_length
     returns)

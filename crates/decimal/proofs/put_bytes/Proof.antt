@@ -1,10 +1,20 @@
--- `put_bytes` meets its contract: `copy_to` stores the bytes from the offset on, and the offset plus their length is the place after them. Assumes nothing.
 use mathlib.Core.Path.{refl}
 use borrow.Author.Rules.{rules}
 use Rattle.decimal.proofs.put_bytes.Statement.{statement}
 use Rattle.decimal.proofs.put_bytes.Tie as tie
 
+copy_to_requires : tie.Need-copy-to-requires
+copy_to_requires c κs = search rules
+
+add_result : tie.Need-overflow-add-result
+add_result c = search rules
+
+same_length : tie.Need-same-length
+same_length c = search rules
+
+returns : tie.Need-returns
+returns c = record { stored = c.before.before.copy-to.ensures; next = refl }
+
 pub put_bytes_spec : {M : Type 1} → statement M
 put_bytes_spec =
-    tie.close (tie.spec (λ c κs. search rules) (λ c. search rules) (λ c. search rules)
-    (λ c. record { stored = c.before.before.copy-to.ensures; next = refl }))
+    tie.close (tie.spec copy_to_requires add_result same_length returns)

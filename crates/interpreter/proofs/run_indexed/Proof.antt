@@ -10,7 +10,7 @@ use native.Mathlib.Omega.{arith}
 use borrow.Author.Rules.{rules}
 use lib.ListN.{length}
 use Rattle.opcode.specs.Opcode.{op_of}
-use Rattle.opcode.specs.Groups.{change_in, combine_in, is_not_equal, equality_by, order_in, test_in}
+use Rattle.opcode.specs.Groups.{change_in, combine_in, is_not_equal, equality_by, order_in, test_in, many_in}
 use Rattle.opcode.specs.declared.Edition.{Edition}
 use Rattle.opcode.specs.declared.Load.{Load}
 use Rattle.opcode.specs.declared.Unary.{Unary}
@@ -25,7 +25,6 @@ use Rattle.notice.specs.Field.{size_right}
 use Rattle.table.specs.Table.{edition_of}
 use Rattle.table.proofs.Theorems.{checked_layout}
 use Rattle.table.proofs.Laid.{laid}
-use Rattle.table.proofs.Reading.{op_of_lem, a_of, b_of}
 use Rattle.value.proofs.FieldValues.{found_right}
 use Rattle.value.proofs.Theorems.{known_not, known_test, known_connect}
 use Rattle.interpreter.specs.Run.{skips}
@@ -101,7 +100,7 @@ visit d e =
       going = (head d.before.before).going;
       more = (more_at (head d.before.before) (taken d.before.before)).0;
       spare = (more_at (head d.before.before) (taken d.before.before)).1;
-      op = ap op_of (sym (op_of_lem _ _ _ _ d.before.op-from.ensures (head d.before.before).starts)) ∙ grouped o ∙ ap (λ (g : Group). op_by g o) (sym d.Group-of.ensures ∙ e);
+      op = ap op_of (sym (d.before.op-from.ensures _ (head d.before.before).starts)) ∙ grouped o ∙ ap (λ (g : Group). op_by g o) (sym d.Group-of.ensures ∙ e);
     }
 
 int32 : (g : tie.After-enum-told invariant_loop2 decreases_loop2 invariant_loop decreases_loop) → Visit g.before.before.before.before (Op.Load Load.Int32)
@@ -168,7 +167,7 @@ right g =
 
 -- the later operands, once their number is read
 later : (g : tie.After-a-to5 invariant_loop2 decreases_loop2 invariant_loop decreases_loop) → let d = g.before.before.before.before.before.before.before.loop.depth in (g.a-to5.result + 1 ≤ d) × (d ≤ 32)
-later g = many_fits_lem (many (search)) (a_of _ _ _ _ g.a-to5.ensures (end_is (search)))
+later g = many_fits_lem (many (search)) (g.a-to5.ensures _ (end_is (search)))
 
 -- The needs in the order of the code, one a line; `search` finds the turn or the group of a need.
 pub run_indexed_spec : {M : Type 1} → statement M
@@ -197,7 +196,7 @@ run_indexed_spec =
     (λ c. omega (arith, load_fits (int32 (search))))
     (λ c. omega (arith, load_fits (int32 (search))))
     (λ c. omega (arith, early (search)))
-    (λ c. onward (head (search)) (load_known (int32 (search)) c.load_int32.result refl (b_of _ _ _ _ c.before.b-to.ensures (end_is (search))) (c.load_int32.ensures _ _ 0) refl))
+    (λ c. onward (head (search)) (load_known (int32 (search)) c.load_int32.result refl (c.before.b-to.ensures _ (end_is (search))) (c.load_int32.ensures _ _ 0) refl))
     -- `load_int64`
     (λ c. search rules)
     (λ c κs. lies (search))
@@ -206,7 +205,7 @@ run_indexed_spec =
     (λ c. omega (arith, load_fits (int64 (search))))
     (λ c. omega (arith, load_fits (int64 (search))))
     (λ c. omega (arith, early (search)))
-    (λ c. onward (head (search)) (load_known (int64 (search)) c.load_int64.result refl (b_of _ _ _ _ c.before.b-to2.ensures (end_is (search))) (c.load_int64.ensures _ _ 0) refl))
+    (λ c. onward (head (search)) (load_known (int64 (search)) c.load_int64.result refl (c.before.b-to2.ensures _ (end_is (search))) (c.load_int64.ensures _ _ 0) refl))
     -- `load_real64`
     (λ c. search rules)
     (λ c κs. lies (search))
@@ -215,7 +214,7 @@ run_indexed_spec =
     (λ c. omega (arith, load_fits (real64 (search))))
     (λ c. omega (arith, load_fits (real64 (search))))
     (λ c. omega (arith, early (search)))
-    (λ c. onward (head (search)) (load_known (real64 (search)) c.load_real64.result refl (b_of _ _ _ _ c.before.b-to3.ensures (end_is (search))) (c.load_real64.ensures _ _ 0) refl))
+    (λ c. onward (head (search)) (load_known (real64 (search)) c.load_real64.result refl (c.before.b-to3.ensures _ (end_is (search))) (c.load_real64.ensures _ _ 0) refl))
     -- `load_text`
     (λ c. search rules)
     (λ c κs. lies (search))
@@ -225,26 +224,26 @@ run_indexed_spec =
     (λ c. omega (arith, load_fits (text (search))))
     (λ c. omega (arith, load_fits (text (search))))
     (λ c. omega (arith, early (search)))
-    (λ c. onward (head (search)) (load_known (text (search)) c.load_text.result (a_of _ _ _ _ c.before.before.a-to.ensures (end_is (search))) (b_of _ _ _ _ c.before.b-to4.ensures (end_is (search))) (c.load_text.ensures _ _) refl))
+    (λ c. onward (head (search)) (load_known (text (search)) c.load_text.result (c.before.before.a-to.ensures _ (end_is (search))) (c.before.b-to4.ensures _ (end_is (search))) (c.load_text.ensures _ _) refl))
     -- `find_name`, then its field's value or bottom
     (λ c. search rules)
     (λ c κs. lies (search))
     (λ c κs. lies (search))
-    (λ c κs. let s : tie.Start invariant_loop2 decreases_loop2 invariant_loop decreases_loop = search in (s.pre.1, s.pre.2, name_fits_lem (name (search)) (a_of _ _ _ _ c.before.a-to2.ensures (end_is (search))) (b_of _ _ _ _ c.b-to5.ensures (end_is (search)))))
+    (λ c κs. let s : tie.Start invariant_loop2 decreases_loop2 invariant_loop decreases_loop = search in (s.pre.1, s.pre.2, name_fits_lem (name (search)) (c.before.a-to2.ensures _ (end_is (search))) (c.b-to5.ensures _ (end_is (search)))))
     (λ c. omega (arith, load_fits (name (search))))
     (λ c. search rules)
     (λ c κs. right c)
     (λ c. omega (arith, load_fits (name (search))))
     (λ c. omega (arith, load_fits (name (search))))
     (λ c. omega (arith, early (search)))
-    (λ c. let g : tie.After-find-name invariant_loop2 decreases_loop2 invariant_loop decreases_loop = search in onward (head (search)) (name_found (name (search)) (a_of _ _ _ _ g.before.before.a-to2.ensures (end_is (search))) (b_of _ _ _ _ g.before.b-to5.ensures (end_is (search))) g.find-name.ensures c.field.result c.before.before.found.given.1 (right c.before).0 (c.field.ensures _)))
+    (λ c. let g : tie.After-find-name invariant_loop2 decreases_loop2 invariant_loop decreases_loop = search in onward (head (search)) (name_found (name (search)) (g.before.before.a-to2.ensures _ (end_is (search))) (g.before.b-to5.ensures _ (end_is (search))) g.find-name.ensures c.field.result c.before.before.found.given.1 (right c.before).0 (c.field.ensures _)))
     (λ c. search rules)
     (λ c κs. tt)
     (λ c. omega (arith, load_fits (name (search))))
     (λ c. omega (arith, load_fits (name (search))))
     (λ c κs. omega (arith, early (search)))
     (λ c. omega (arith, early (search)))
-    (λ c. let g : tie.After-find-name invariant_loop2 decreases_loop2 invariant_loop decreases_loop = search in noting (head (search)) (taken (search)) _ (c.noted.ensures _ _) (name_missing (name (search)) (a_of _ _ _ _ g.before.before.a-to2.ensures (end_is (search))) (b_of _ _ _ _ g.before.b-to5.ensures (end_is (search))) g.find-name.ensures c.before.missing.result c.before.before.enum-told6.given.1 (c.before.missing.ensures _ _) refl))
+    (λ c. let g : tie.After-find-name invariant_loop2 decreases_loop2 invariant_loop decreases_loop = search in noting (head (search)) (taken (search)) _ (c.noted.ensures _ _) (name_missing (name (search)) (g.before.before.a-to2.ensures _ (end_is (search))) (g.before.b-to5.ensures _ (end_is (search))) g.find-name.ensures c.before.missing.result c.before.before.enum-told6.given.1 (c.before.missing.ensures _ _) refl))
     -- `change`
     (λ c. search rules)
     (λ c. omega (arith, unary_fits_lem (change (search))))
@@ -360,12 +359,12 @@ run_indexed_spec =
     (λ c κs. tt)
     (λ c κs. lies (search))
     (λ c. search rules)
-    (λ c. omega (arith, skip_room (skip_if_false (search)) (a_of _ _ _ _ c.a-to3.ensures (end_is (search)))))
-    (λ c. omega (arith, early (search), skip_room (skip_if_false (search)) (a_of _ _ _ _ c.a-to3.ensures (end_is (search)))))
-    (λ c. omega (arith, skip_room (skip_if_false (search)) (a_of _ _ _ _ c.a-to3.ensures (end_is (search)))))
-    (λ c κs. omega (arith, skip_room (skip_if_false (search)) (a_of _ _ _ _ c.a-to3.ensures (end_is (search)))))
+    (λ c. omega (arith, skip_room (skip_if_false (search)) (c.a-to3.ensures _ (end_is (search)))))
+    (λ c. omega (arith, early (search), skip_room (skip_if_false (search)) (c.a-to3.ensures _ (end_is (search)))))
+    (λ c. omega (arith, skip_room (skip_if_false (search)) (c.a-to3.ensures _ (end_is (search)))))
+    (λ c κs. omega (arith, skip_room (skip_if_false (search)) (c.a-to3.ensures _ (end_is (search)))))
     (λ c. omega (arith, early (search)))
-    (λ c. let t : tie.After-truth-in invariant_loop2 decreases_loop2 invariant_loop decreases_loop = search in let u : tie.After-skips-on invariant_loop2 decreases_loop2 invariant_loop decreases_loop = search in skipping (head (search)) _ c.limit2.ensures (skip_taken (skip_if_false (search)) (a_of _ _ _ _ c.before.a-to3.ensures (end_is (search))) (ap (skips Skip.IfFalse) (sym (t.truth_in.ensures _ _)) ∙ sym u.skips-on.ensures ∙ c.before.before.if1.true) refl))
+    (λ c. let t : tie.After-truth-in invariant_loop2 decreases_loop2 invariant_loop decreases_loop = search in let u : tie.After-skips-on invariant_loop2 decreases_loop2 invariant_loop decreases_loop = search in skipping (head (search)) _ c.limit2.ensures (skip_taken (skip_if_false (search)) (c.before.a-to3.ensures _ (end_is (search))) (ap (skips Skip.IfFalse) (sym (t.truth_in.ensures _ _)) ∙ sym u.skips-on.ensures ∙ c.before.before.if1.true) refl))
     (λ c. omega (arith, early (search)))
     (λ c. let t : tie.After-truth-in invariant_loop2 decreases_loop2 invariant_loop decreases_loop = search in let u : tie.After-skips-on invariant_loop2 decreases_loop2 invariant_loop decreases_loop = search in onward (head (search)) (skip_kept (skip_if_false (search)) (ap (skips Skip.IfFalse) (sym (t.truth_in.ensures _ _)) ∙ sym u.skips-on.ensures ∙ c.if1.false)))
     -- a skip if true
@@ -377,12 +376,12 @@ run_indexed_spec =
     (λ c κs. tt)
     (λ c κs. lies (search))
     (λ c. search rules)
-    (λ c. omega (arith, skip_room (skip_if_true (search)) (a_of _ _ _ _ c.a-to4.ensures (end_is (search)))))
-    (λ c. omega (arith, early (search), skip_room (skip_if_true (search)) (a_of _ _ _ _ c.a-to4.ensures (end_is (search)))))
-    (λ c. omega (arith, skip_room (skip_if_true (search)) (a_of _ _ _ _ c.a-to4.ensures (end_is (search)))))
-    (λ c κs. omega (arith, skip_room (skip_if_true (search)) (a_of _ _ _ _ c.a-to4.ensures (end_is (search)))))
+    (λ c. omega (arith, skip_room (skip_if_true (search)) (c.a-to4.ensures _ (end_is (search)))))
+    (λ c. omega (arith, early (search), skip_room (skip_if_true (search)) (c.a-to4.ensures _ (end_is (search)))))
+    (λ c. omega (arith, skip_room (skip_if_true (search)) (c.a-to4.ensures _ (end_is (search)))))
+    (λ c κs. omega (arith, skip_room (skip_if_true (search)) (c.a-to4.ensures _ (end_is (search)))))
     (λ c. omega (arith, early (search)))
-    (λ c. let t : tie.After-truth-in2 invariant_loop2 decreases_loop2 invariant_loop decreases_loop = search in let u : tie.After-skips-on2 invariant_loop2 decreases_loop2 invariant_loop decreases_loop = search in skipping (head (search)) _ c.limit3.ensures (skip_taken (skip_if_true (search)) (a_of _ _ _ _ c.before.a-to4.ensures (end_is (search))) (ap (skips Skip.IfTrue) (sym (t.truth-in2.ensures _ _)) ∙ sym u.skips-on2.ensures ∙ c.before.before.if2.true) refl))
+    (λ c. let t : tie.After-truth-in2 invariant_loop2 decreases_loop2 invariant_loop decreases_loop = search in let u : tie.After-skips-on2 invariant_loop2 decreases_loop2 invariant_loop decreases_loop = search in skipping (head (search)) _ c.limit3.ensures (skip_taken (skip_if_true (search)) (c.before.a-to4.ensures _ (end_is (search))) (ap (skips Skip.IfTrue) (sym (t.truth-in2.ensures _ _)) ∙ sym u.skips-on2.ensures ∙ c.before.before.if2.true) refl))
     (λ c. omega (arith, early (search)))
     (λ c. let t : tie.After-truth-in2 invariant_loop2 decreases_loop2 invariant_loop decreases_loop = search in let u : tie.After-skips-on2 invariant_loop2 decreases_loop2 invariant_loop decreases_loop = search in onward (head (search)) (skip_kept (skip_if_true (search)) (ap (skips Skip.IfTrue) (sym (t.truth-in2.ensures _ _)) ∙ sym u.skips-on2.ensures ∙ c.if2.false)))
     -- `test`
@@ -423,7 +422,7 @@ run_indexed_spec =
     (λ c κs. omega (arith, early (search)))
     (λ c. omega (arith, later (search)))
     (λ c. omega (arith, early (search)))
-    (λ c. noting (head (search)) (taken (search)) _ (c.noted6.ensures _ _) (many_law (many (search)) (a_of _ _ _ _ c.before.before.before.before.before.before.before.a-to5.ensures (end_is (search))) c.before.decided.result c.before.before.before.before.loop2.invariant c.before.before.before.is_open.ensures c.before.before.if3.false (c.before.decided.ensures _ _) refl))
+    (λ c. noting (head (search)) (taken (search)) _ (c.noted6.ensures _ _) (many_law (many (search)) (c.before.before.before.before.before.before.before.a-to5.ensures _ (end_is (search))) c.before.decided.result c.before.before.before.before.loop2.invariant c.before.before.before.is_open.ensures c.before.before.if3.false (c.before.decided.ensures _ _) refl))
     -- no operator
     (λ c. search rules)
     (λ c. omega (arith, early (search)))

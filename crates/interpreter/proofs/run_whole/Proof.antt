@@ -10,6 +10,15 @@ use Rattle.interpreter.proofs.run_whole.Tie as tie
 count_requires : tie.Need-count-requires
 count_requires c κs = (laid c.before.before.args.table.now (checked_layout _ c.before.before.requires.0)).head
 
+run_indexed_requires : tie.Need-run-indexed-requires
+run_indexed_requires c κs = search rules
+
+element-copy-out-slot : tie.Need-element-copy-out-slot
+element-copy-out-slot c = search rules
+
+truth-in-requires : tie.Need-truth-in-requires
+truth-in-requires c κs = search rules
+
 returns : tie.Need-returns
 returns c =
     let s : tie.Start = search in
@@ -19,5 +28,5 @@ returns c =
 
 pub run_whole_spec : {M : Type 1} → statement M
 run_whole_spec =
-    tie.close (tie.spec count_requires (λ c κs. search rules) (λ c. search rules)
-    (λ c κs. search rules) returns)
+    tie.close
+    (tie.spec count_requires run_indexed_requires element-copy-out-slot truth-in-requires returns)

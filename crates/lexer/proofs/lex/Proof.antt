@@ -1,4 +1,3 @@
--- `lex` meets its contract: the loop keeps that the tokens from the offset on, stored after the n found so far, give the answer and both arrays of the whole text. Assumes nothing.
 use Prim.Native.Nat.{◌≤◌, ◌<◌, ◌-◌, ◌+◌}
 use mathlib.Core.Path.{◌≡◌, refl, sym, ◌∙◌}
 use native.Mathlib.Omega.{arith}
@@ -7,6 +6,10 @@ use Rattle.lexer.proofs.Streams.{Goes, goes_first, goes_space, goes_on, lexes_lo
 use borrow.Author.Rules.{rules}
 use Rattle.lexer.proofs.lex.Statement.{statement}
 use Rattle.lexer.proofs.lex.Tie as tie
+use Rattle.lexer.proofs.lex.Reads as reads
+use Rattle.lexer.proofs.lex.Lts as lts
+use Rattle.lexer.proofs.byte.is_space.Reads as is-space-reads
+use Rattle.lexer.proofs.scan.Reads as scan-reads
 
 abbrev invariant_loop : tie.invariant_loop
 invariant_loop text kinds₀ starts₀ n₀ at₀ kinds starts n at =
@@ -36,11 +39,29 @@ returns c = let w = lexes_long c.before.before.before.before.args.text.now c.bef
 loop_holds : tie.Need-loop-init invariant_loop decreases_loop
 loop_holds c = (c.if1.false, goes_first c.before.before.before.before.args.text.now c.before.before.before.before.args.kinds.now c.before.before.before.before.args.starts.now, refl, refl)
 
+shared-slice-read-is-space : tie.Need-shared-slice-read-is-space invariant_loop decreases_loop
+shared-slice-read-is-space c = search rules
+
+is-space-requires : tie.Need-is-space-requires invariant_loop decreases_loop
+is-space-requires c κs = search rules
+
+add_at : tie.Need-overflow-add-at invariant_loop decreases_loop
+add_at c = search rules
+
+loop_less : tie.Need-loop-smaller invariant_loop decreases_loop
+loop_less c = let g = c.before.before.before.before.loop.invariant.1 in omega arith
+
 loop_again : tie.Need-loop-preserved invariant_loop decreases_loop
 loop_again c =
     let l = c.before.before.before.before.loop in
     let a = c.before.before.before.before.before.before.before.before.before.args in
     (l.invariant.0, goes_space a.text.now a.kinds.now a.starts.now l.kinds l.starts l.n l.at l.invariant.1 (omega arith) (sym c.before.is-space.ensures ∙ c.if2.true), l.invariant.2, l.invariant.3)
+
+scan-requires : tie.Need-scan-requires invariant_loop decreases_loop
+scan-requires c κs = (c.before.before.before.before.loop.invariant.0, omega arith)
+
+enum-known-kind : tie.Need-enum-known-kind invariant_loop decreases_loop
+enum-known-kind c = c.match.keys1
 
 slice_write_kinds : tie.Need-slice-write-kinds invariant_loop decreases_loop
 slice_write_kinds c =
@@ -74,6 +95,15 @@ loop_again_2 c =
     let l = c.before.before.before.before.before.before.before.before.loop in
     (l.invariant.0, (next c.before).0, simp length-set l.invariant.2, simp length-set l.invariant.3)
 
+enum-known-number : tie.Need-enum-known-number invariant_loop decreases_loop
+enum-known-number c = c.match.keys2
+
+same_length : tie.Need-same-length invariant_loop decreases_loop
+same_length c = search rules
+
+same_length_2 : tie.Need-same-length-2 invariant_loop decreases_loop
+same_length_2 c = search rules
+
 returns_2 : tie.Need-returns-2 invariant_loop decreases_loop
 returns_2 c =
     let l = c.before.before.before.before.before.before.before.before.loop in
@@ -82,6 +112,12 @@ returns_2 c =
     let q = sym c.before.before.before.scan.ensures ∙ c.before.number.given.1 in
     let w = lexes_bad a.text.now a.kinds.now a.starts.now l.kinds l.starts l.n l.at l.invariant.0 l.invariant.1 (omega arith) f c.before.number.given.0.0 q in
     (w.answer, (w.kinds, w.starts))
+
+same_length_3 : tie.Need-same-length-3 invariant_loop decreases_loop
+same_length_3 c = search rules
+
+same_length_4 : tie.Need-same-length-4 invariant_loop decreases_loop
+same_length_4 c = search rules
 
 returns_3 : tie.Need-returns-3 invariant_loop decreases_loop
 returns_3 c =
@@ -92,10 +128,31 @@ returns_3 c =
 
 pub lex_spec : {M : Type 1} → statement M
 lex_spec =
-    tie.close (tie.spec invariant_loop decreases_loop returns loop_holds (λ c. search rules)
-    (λ c κs. search rules) (λ c. search rules)
-    (λ c. let g = c.before.before.before.before.loop.invariant.1 in omega arith) loop_again
-    (λ c κs. (c.before.before.before.before.loop.invariant.0, omega arith)) (λ c. c.match.keys1)
-    slice_write_kinds cast_starts mul_starts slice_write_starts add_n add_at_2 loop_less_2
-    loop_again_2 (λ c. c.match.keys2) (λ c. search rules) (λ c. search rules) returns_2
-    (λ c. search rules) (λ c. search rules) returns_3)
+    tie.close
+    (tie.spec
+    invariant_loop
+    decreases_loop
+    returns
+    loop_holds
+    shared-slice-read-is-space
+    is-space-requires
+    add_at
+    loop_less
+    loop_again
+    scan-requires
+    enum-known-kind
+    slice_write_kinds
+    cast_starts
+    mul_starts
+    slice_write_starts
+    add_n
+    add_at_2
+    loop_less_2
+    loop_again_2
+    enum-known-number
+    same_length
+    same_length_2
+    returns_2
+    same_length_3
+    same_length_4
+    returns_3)

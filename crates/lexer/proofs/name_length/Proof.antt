@@ -1,4 +1,3 @@
--- `name_length` meets its contract: a name that ends after its common bytes is these alone; any other is counted without escapes by `plain_length`. Assumes nothing.
 use mathlib.Core.Path.{sym, ap, ◌∙◌}
 use Prim.Native.Nat.{◌-◌}
 use lib.ListN.{length, drop}
@@ -8,6 +7,21 @@ use Rattle.lexer.proofs.Runs.{rest_later, ended_name}
 use borrow.Author.Rules.{rules}
 use Rattle.lexer.proofs.name_length.Statement.{statement}
 use Rattle.lexer.proofs.name_length.Tie as tie
+use Rattle.lexer.proofs.name_length.Reads as reads
+use Rattle.lexer.proofs.name_length.Lts as lts
+use Rattle.lexer.proofs.run.common_end.Reads as common-end-reads
+use Rattle.lexer.proofs.run.ended.Reads as ended-reads
+use Rattle.lexer.proofs.run.plain_length.Reads as plain-length-reads
+use Rattle.lexer.proofs.run.rest.Reads as rest-reads
+
+common-end-requires : tie.Need-common-end-requires
+common-end-requires c κs = search rules
+
+ended-requires : tie.Need-ended-requires
+ended-requires c κs = search rules
+
+sub_result : tie.Need-overflow-sub-result
+sub_result c = search rules
 
 returns : tie.Need-returns
 returns c =
@@ -16,10 +30,23 @@ returns c =
     let e = ap (λ l. is_empty (run_of 0 l)) (rest_later a.text.now a.at g.result g.ensures.0) ∙ sym c.before.ended.ensures ∙ c.if1.true in
     (ended_name (drop a.at a.text.now) (g.result - a.at) g.ensures.1 e).1
 
+rest-requires : tie.Need-rest-requires
+rest-requires c κs = search rules
+
+plain-length-requires : tie.Need-plain-length-requires
+plain-length-requires c κs = search rules
+
 returns_2 : tie.Need-returns-2
 returns_2 c = c.plain-length.ensures ∙ ap (λ l. length (unescaped false (run_of 0 l))) c.before.rest.ensures
 
 pub name_length_spec : {M : Type 1} → statement M
 name_length_spec =
-    tie.close (tie.spec (λ c κs. search rules) (λ c κs. search rules) (λ c. search rules) returns
-    (λ c κs. search rules) (λ c κs. search rules) returns_2)
+    tie.close
+    (tie.spec
+    common-end-requires
+    ended-requires
+    sub_result
+    returns
+    rest-requires
+    plain-length-requires
+    returns_2)

@@ -1,4 +1,3 @@
--- `plain_real` meets its contract: by the tests the run is digits, a point and 1 to 22 digits, below 10^15 as a whole, which is a real within its limits; 0 promises nothing. Assumes nothing.
 use Prim.Native.Nat.{◌-◌}
 use mathlib.Core.Path.{refl, sym, ◌∙◌}
 use mathlib.Core.Bool.{◌&&◌}
@@ -11,11 +10,27 @@ use Rattle.lexer.proofs.Points.{plain_real}
 use borrow.Author.Rules.{rules}
 use Rattle.lexer.proofs.plain_real.Statement.{statement}
 use Rattle.lexer.proofs.plain_real.Tie as tie
+use Rattle.lexer.proofs.plain_real.Reads as reads
+use Rattle.lexer.proofs.plain_real.Lts as lts
+use Rattle.lexer.proofs.digits.digits.Reads as digits-reads
+use Rattle.lexer.proofs.run.ended.Reads as ended-reads
 
 add_digits : tie.Need-overflow-add-digits
 add_digits c =
     let t = c.before in
     omega (arith, t.requires.3.0, digits_fit 10 t.args.at t.args.text.now, t.requires.0, t.requires.1)
+
+digits-requires : tie.Need-digits-requires
+digits-requires c κs = search rules
+
+sub-n : tie.Need-overflow-sub-n
+sub-n c = search rules
+
+ended-requires : tie.Need-ended-requires
+ended-requires c κs = search rules
+
+sub_result : tie.Need-overflow-sub-result
+sub_result c = search rules
 
 returns : tie.Need-returns
 returns c =
@@ -32,7 +47,10 @@ returns c =
     let w = and_parts (leb 2 n) (leb n 23) o.1 in
     λ _. plain_real a.text.now a.at a.whole.end g.result.end a.whole.value v t.requires.3.0 t.requires.3.1 t.requires.2 g.ensures.0 g.ensures.1 (ltb-true a.at a.whole.end o.0) (leb-true 2 n w.0) (leb-true n 23 w.1) (ltb-true v 1000000000000000 q.1) (sym c.before.before.ended.ensures ∙ p.1)
 
+returns_2 : tie.Need-returns-2
+returns_2 c = λ n. absurd (n refl)
+
 pub plain_real_spec : {M : Type 1} → statement M
 plain_real_spec =
-    tie.close (tie.spec add_digits (λ c κs. search rules) (λ c. search rules) (λ c κs. search rules)
-    (λ c. search rules) returns (λ c. λ n. absurd (n refl)))
+    tie.close
+    (tie.spec add_digits digits-requires sub-n ended-requires sub_result returns returns_2)

@@ -1,4 +1,3 @@
--- `scan_name` meets its contract: a name that ends after its common bytes is legal and has no escape, so its length decides; any other is the one that `scan_odd_name` scans. Assumes nothing.
 use Prim.Native.Nat.{◌-◌}
 use mathlib.Core.Bool.{true, false}
 use lib.ListN.{length, drop}
@@ -13,10 +12,31 @@ use Rattle.lexer.proofs.Scans.{name_over, name_legal}
 use borrow.Author.Rules.{rules}
 use Rattle.lexer.proofs.scan_name.Statement.{statement}
 use Rattle.lexer.proofs.scan_name.Tie as tie
+use Rattle.lexer.proofs.scan_name.Reads as reads
+use Rattle.lexer.proofs.scan_name.Lts as lts
+use Rattle.lexer.proofs.run.common_end.Reads as common-end-reads
+use Rattle.lexer.proofs.run.ended.Reads as ended-reads
+use Rattle.lexer.proofs.run.rest.Reads as rest-reads
+use Rattle.lexer.proofs.scan_odd_name.Reads as scan-odd-name-reads
+
+common-end-requires : tie.Need-common-end-requires
+common-end-requires c κs = search rules
+
+sub-n : tie.Need-overflow-sub-n
+sub-n c = search rules
+
+ended-requires : tie.Need-ended-requires
+ended-requires c κs = search rules
+
+rest-requires : tie.Need-rest-requires
+rest-requires c κs = search rules
 
 scan_odd_name_requires : tie.Need-scan-odd-name-requires
 scan_odd_name_requires c κs =
     rw c.rest.ensures c.before.before.before.common-end.ensures.1
+
+returns : tie.Need-returns
+returns c = c.scan-odd-name.ensures ∙ ap (λ s. scanned_of (scan_name s)) c.before.rest.ensures
 
 -- a name of common bytes alone
 whole : (c : tie.Else1) → let s = drop c.before.before.before.before.args.at c.before.before.before.before.args.text.now in
@@ -44,7 +64,13 @@ returns_3 c =
 
 pub scan_name_spec : {M : Type 1} → statement M
 scan_name_spec =
-    tie.close (tie.spec (λ c κs. search rules) (λ c. search rules) (λ c κs. search rules)
-    (λ c κs. search rules) scan_odd_name_requires
-    (λ c. c.scan-odd-name.ensures ∙ ap (λ s. scanned_of (scan_name s)) c.before.rest.ensures)
-    returns_2 returns_3)
+    tie.close
+    (tie.spec
+    common-end-requires
+    sub-n
+    ended-requires
+    rest-requires
+    scan_odd_name_requires
+    returns
+    returns_2
+    returns_3)

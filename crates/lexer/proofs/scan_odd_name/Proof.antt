@@ -1,10 +1,15 @@
--- `scan_odd_name` meets its contract: by legality, then by the unescaped length; both, and the token's length, are what `measure_name` promises. Assumes nothing.
 use mathlib.Core.Path.{◌∙◌, sym}
 use borrow.Author.Tests.{not-true, not-false}
 use Rattle.lexer.proofs.Scans.{name_illegal, name_over, name_legal}
 use borrow.Author.Rules.{rules}
 use Rattle.lexer.proofs.scan_odd_name.Statement.{statement}
 use Rattle.lexer.proofs.scan_odd_name.Tie as tie
+use Rattle.lexer.proofs.scan_odd_name.Reads as reads
+use Rattle.lexer.proofs.scan_odd_name.Lts as lts
+use Rattle.lexer.proofs.run.measure_name.Reads as measure-name-reads
+
+measure-name-requires : tie.Need-measure-name-requires
+measure-name-requires c κs = search rules
 
 returns : tie.Need-returns
 returns c = name_illegal c.before.before.before.before.args.s.now (sym c.before.before.measure-name.ensures.2 ∙ not-true _ c.if1.true)
@@ -20,4 +25,4 @@ returns_3 c =
     name_over c.before.before.before.before.before.args.s.now (sym c.before.before.before.measure-name.ensures.2 ∙ not-false _ c.before.if1.false) f
 
 pub scan_odd_name_spec : {M : Type 1} → statement M
-scan_odd_name_spec = tie.close (tie.spec (λ c κs. search rules) returns returns_2 returns_3)
+scan_odd_name_spec = tie.close (tie.spec measure-name-requires returns returns_2 returns_3)

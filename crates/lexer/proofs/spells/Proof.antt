@@ -1,10 +1,23 @@
--- `spells` meets its contract: where bytes of a name stand right after the word's length, the name is not the word; else it is exactly if the text begins with the word. Assumes nothing.
 use mathlib.Core.Path.{sym, ◌∙◌}
 use lib.ListN.{drop}
 use Rattle.lexer.proofs.Runs.{word_begins, word_goes_on}
 use borrow.Author.Rules.{rules}
 use Rattle.lexer.proofs.spells.Statement.{statement}
 use Rattle.lexer.proofs.spells.Tie as tie
+use Rattle.lexer.proofs.spells.Reads as reads
+use Rattle.lexer.proofs.spells.Lts as lts
+use Rattle.lexer.proofs.run.ended.Reads as ended-reads
+use Rattle.lexer.proofs.run.rest.Reads as rest-reads
+use Rattle.octets.proofs.begins.Reads as begins-reads
+
+rest-requires : tie.Need-rest-requires
+rest-requires c κs = search rules
+
+ended-requires : tie.Need-ended-requires
+ended-requires c κs = search rules
+
+begins-requires : tie.Need-begins-requires
+begins-requires c κs = search rules
 
 returns : tie.Need-returns
 returns c =
@@ -21,6 +34,4 @@ returns_2 c =
     word_goes_on (drop a.at a.text.now) a.word.now c.before.before.before.before.before.requires (sym f ∙ c.if1.false)
 
 pub spells_spec : {M : Type 1} → statement M
-spells_spec =
-    tie.close (tie.spec (λ c κs. search rules) (λ c κs. search rules) (λ c κs. search rules) returns
-    returns_2)
+spells_spec = tie.close (tie.spec rest-requires ended-requires begins-requires returns returns_2)

@@ -1,4 +1,3 @@
--- `starts_number` meets its contract: by whether the byte is a minus sign: then the next byte decides, whose index fits since the offset is at most 4,096, else the byte itself. Assumes nothing.
 use mathlib.Core.Path.{sym}
 use mathlib.Core.Bool.{or-false}
 use borrow.Author.Tests.{ne_eqb}
@@ -6,6 +5,25 @@ use Rattle.lexer.specs.Byte.{is_digit_in}
 use borrow.Author.Rules.{rules}
 use Rattle.lexer.proofs.starts_number.Statement.{statement}
 use Rattle.lexer.proofs.starts_number.Tie as tie
+use Rattle.lexer.proofs.starts_number.Reads as reads
+use Rattle.lexer.proofs.starts_number.Lts as lts
+use Rattle.lexer.proofs.byte.is_decimal.Reads as is-decimal-reads
+use Rattle.lexer.proofs.run.byte_at.Reads as byte-at-reads
+
+add-byte-at : tie.Need-overflow-add-byte-at
+add-byte-at c = search rules
+
+byte-at-requires : tie.Need-byte-at-requires
+byte-at-requires c κs = search rules
+
+is-decimal-requires : tie.Need-is-decimal-requires
+is-decimal-requires c κs = search rules
+
+returns : tie.Need-returns
+returns c = rw (c.is-decimal.ensures, c.before.byte_at.ensures, c.before.before.if1.true)
+
+is-decimal-requires-2 : tie.Need-is-decimal-requires-2
+is-decimal-requires-2 c κs = search rules
 
 returns_2 : tie.Need-returns-2
 returns_2 c =
@@ -14,6 +32,4 @@ returns_2 c =
 
 pub starts_number_spec : {M : Type 1} → statement M
 starts_number_spec =
-    tie.close (tie.spec (λ c. search rules) (λ c κs. search rules) (λ c κs. search rules)
-    (λ c. rw (c.is-decimal.ensures, c.before.byte_at.ensures, c.before.before.if1.true))
-    (λ c κs. search rules) returns_2)
+    tie.close (tie.spec add-byte-at byte-at-requires is-decimal-requires returns is-decimal-requires-2 returns_2)

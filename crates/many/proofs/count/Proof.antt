@@ -13,9 +13,21 @@ invariant_loop tables n₀ at₀ n at = Counts tables n at
 abbrev decreases_loop : tie.decreases_loop
 decreases_loop tables n₀ at₀ n at = length tables - at
 
+loop_holds : tie.Need-loop-init invariant_loop decreases_loop
+loop_holds c = counts_first c.before.args.tables.now
+
 -- there is a table left, and few are counted
 more : (c : tie.In-loop invariant_loop decreases_loop) → (c.before.loop.at < length c.before.before.before.args.tables.now) × (c.before.loop.n < 65)
 more c = counts_more c.before.before.before.args.tables.now c.before.loop.n c.before.loop.at c.loop-test.true
+
+end-of-requires : tie.Need-end-of-requires invariant_loop decreases_loop
+end-of-requires c κs = (more c).0
+
+add_n : tie.Need-overflow-add-n invariant_loop decreases_loop
+add_n c = search rules
+
+loop_less : tie.Need-loop-smaller invariant_loop decreases_loop
+loop_less c = omega (arith, c.end_of_lem.ensures.1, c.end_of_lem.ensures.2)
 
 loop_again : tie.Need-loop-preserved invariant_loop decreases_loop
 loop_again c =
@@ -27,6 +39,5 @@ returns c = counted c.before.before.before.args.tables.now c.before.loop.n c.bef
 
 pub count_spec : {M : Type 1} → statement M
 count_spec =
-    tie.close (tie.spec invariant_loop decreases_loop (λ c. counts_first c.before.args.tables.now)
-    (λ c κs. (more c).0) (λ c. search rules)
-    (λ c. omega (arith, c.end_of_lem.ensures.1, c.end_of_lem.ensures.2)) loop_again returns)
+    tie.close
+    (tie.spec invariant_loop decreases_loop loop_holds end-of-requires add_n loop_less loop_again returns)

@@ -6,12 +6,21 @@ use borrow.Author.Rules.{rules}
 use Rattle.many.proofs.judge.Statement.{statement}
 use Rattle.many.proofs.judge.Tie as tie
 
+count_requires : tie.Need-count-requires
+count_requires c κs = search rules
+
+refused-requires : tie.Need-refused-requires
+refused-requires c κs = search rules
+
 returns : tie.Need-returns
 returns c =
     let s = c.before.before.before.before.before.before in
     let a = s.args in
     let n = c.before.before.count in
     many_over a.tables.now a.notice.now a.verdicts.now c.refused.result s.requires.0 (counted_over a.tables.now n.result n.ensures (omega arith)) c.refused.ensures
+
+refused-requires-2 : tie.Need-refused-requires-2
+refused-requires-2 c κs = search rules
 
 returns_2 : tie.Need-returns-2
 returns_2 c =
@@ -29,6 +38,9 @@ deliver_requires c κs =
     let m = counted_all a.tables.now n.result n.ensures (omega arith) in
     (s.requires.0, s.requires.1, omega arith, omega arith)
 
+same_length : tie.Need-same-length
+same_length c = search rules
+
 returns_3 : tie.Need-returns-3
 returns_3 c =
     let s = c.before.before.before.before.before.before.before.before.before.before in
@@ -40,5 +52,13 @@ returns_3 c =
 
 pub judge_spec : {M : Type 1} → statement M
 judge_spec =
-    tie.close (tie.spec (λ c κs. search rules) (λ c κs. search rules) returns (λ c κs. search rules)
-    returns_2 deliver_requires (λ c. search rules) returns_3)
+    tie.close
+    (tie.spec
+    count_requires
+    refused-requires
+    returns
+    refused-requires-2
+    returns_2
+    deliver_requires
+    same_length
+    returns_3)

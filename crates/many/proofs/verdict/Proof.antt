@@ -8,6 +8,9 @@ use borrow.Author.Rules.{rules}
 use Rattle.many.proofs.verdict.Statement.{statement}
 use Rattle.many.proofs.verdict.Tie as tie
 
+check-requires : tie.Need-check-requires
+check-requires c κs = search rules
+
 returns : tie.Need-returns
 returns c =
     let a = c.before.before.before.before.args in
@@ -17,6 +20,9 @@ run_whole_requires : tie.Need-run-whole-requires
 run_whole_requires c κs =
     let s = c.before.before.before.before in
     (sym c.before.check.ensures ∙ not-false _ c.if1.false, s.requires.0, s.requires.1)
+
+number-requires : tie.Need-number-requires
+number-requires c κs = search rules
 
 returns_2 : tie.Need-returns-2
 returns_2 c =
@@ -28,5 +34,4 @@ returns_2 c =
 
 pub verdict_spec : {M : Type 1} → statement M
 verdict_spec =
-    tie.close (tie.spec (λ c κs. search rules) returns run_whole_requires (λ c κs. search rules)
-    returns_2)
+    tie.close (tie.spec check-requires returns run_whole_requires number-requires returns_2)

@@ -1,4 +1,3 @@
--- `equal` meets its contract: the two reals of `sides` are equal exactly when the integer's exact value and the real are. Assumes nothing.
 use mathlib.Core.Path.{ap, ◌∙◌}
 use lib.IntN.{ℤ}
 use lib.Ieee.{eq}
@@ -9,10 +8,13 @@ use borrow.Author.Rules.{rules}
 use Rattle.mixed.proofs.equal.Statement.{statement}
 use Rattle.mixed.proofs.equal.Tie as tie
 
+sides-requires : tie.Need-sides-requires
+sides-requires c κs = search rules
+
 returns : tie.Need-returns
 returns c =
     let q = c.before in let s = q.before in
     q.sides.ensures.same ∙ ap (λ (y : ℤ). eq (exactly y) s.args.x) (to_z-of_z w64 s.args.z s.ranges.z)
 
 pub equal_spec : {M : Type 1} → statement M
-equal_spec = tie.close (tie.spec (λ c κs. search rules) returns)
+equal_spec = tie.close (tie.spec sides-requires returns)

@@ -1,4 +1,3 @@
--- `order` meets its contract: the two reals of `sides` compare as the integer and the real do, so that every operator answers the same of both pairs. Assumes nothing.
 use mathlib.Core.Path.{ap, ◌∙◌}
 use lib.IntN.{ℤ}
 use mir.Syntax.{w64}
@@ -9,6 +8,12 @@ use borrow.Author.Rules.{rules}
 use Rattle.mixed.proofs.order.Statement.{statement}
 use Rattle.mixed.proofs.order.Tie as tie
 
+sides-requires : tie.Need-sides-requires
+sides-requires c κs = search rules
+
+order-real-requires : tie.Need-order-real-requires
+order-real-requires c κs = search rules
+
 returns : tie.Need-returns
 returns c =
     let q = c.before in let s = q.before in
@@ -17,4 +22,4 @@ returns c =
     ∙ ap (λ (y : ℤ). order_real s.args.op (exactly y) s.args.x) (to_z-of_z w64 s.args.z s.ranges.z)
 
 pub order_spec : {M : Type 1} → statement M
-order_spec = tie.close (tie.spec (λ c κs. search rules) (λ c κs. search rules) returns)
+order_spec = tie.close (tie.spec sides-requires order-real-requires returns)

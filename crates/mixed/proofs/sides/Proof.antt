@@ -1,4 +1,3 @@
--- `sides` meets its contract: up to 2^53 the cast is exact; beyond, integer and real are equal or at least 1 apart, and the rounded difference keeps this order. Assumes nothing.
 use mathlib.Core.Path.{sym, subst}
 use lib.Dec.{T}
 use Rattle.nearest.proofs.Wholes.{cast_holds}
@@ -12,6 +11,12 @@ int_to_float_t6 c = let i = c.before in let s = i.before in cast_holds s.args.z 
 returns : tie.Need-returns
 returns c = let i = c.before in let s = i.before in near s.args.z s.ranges.z i.if1.true s.args.x
 
+int-to-float-t8 : tie.Need-int-to-float-t8
+int-to-float-t8 c = let s = c.before.before in masked_holds s.args.z s.ranges.z
+
+int-to-float-t10 : tie.Need-int-to-float-t10
+int-to-float-t10 c = let s = c.before.before.before in shifted_holds s.args.z s.ranges.z
+
 returns_2 : tie.Need-returns-2
 returns_2 c =
     let i = c.before.before in let s = i.before in
@@ -19,6 +24,4 @@ returns_2 c =
 
 pub sides_spec : {M : Type 1} → statement M
 sides_spec =
-    tie.close (tie.spec int_to_float_t6 returns
-    (λ c. let s = c.before.before in masked_holds s.args.z s.ranges.z)
-    (λ c. let s = c.before.before.before in shifted_holds s.args.z s.ranges.z) returns_2)
+    tie.close (tie.spec int_to_float_t6 returns int-to-float-t8 int-to-float-t10 returns_2)

@@ -1,5 +1,3 @@
--- `check_fields` meets its contract: the loop keeps that the check of the fields left gives the whole check's answer, and that their starts, stored from index i on, make the same of the
--- array. Assumes nothing.
 use Rattle.std.proofs.Common.{◌≡◌, ◌-◌, sym, ◌∙◌, arith, rules}
 use Rattle.octets.specs.Octets.{before_of}
 use Rattle.octets.proofs.Theorems.{and_parts}
@@ -30,8 +28,20 @@ lying c =
     let l = c.before.before.before.before.loop in
     right_lies s l.at (and_parts (right_at s l.at) (before_of (last_name_at s l.last) (name_at s l.at)) (sym (stands c.before) ∙ c.if1.true)).0
 
+read_u16_requires : tie.Need-read-u16-requires invariant_loop decreases_loop
+read_u16_requires c κs = let h = header c.before in omega arith
+
+cast-n : tie.Need-overflow-cast-n invariant_loop decreases_loop
+cast-n c = search rules
+
 loop_holds : tie.Need-loop-init invariant_loop decreases_loop
 loop_holds c = goes_first c.before.before.args.notice.now c.before.before.args.starts.now c.before.before.requires
+
+key-at-requires : tie.Need-key-at-requires invariant_loop decreases_loop
+key-at-requires c κs = let g = c.before.loop.invariant in (g.start, g.within)
+
+follows-requires : tie.Need-follows-requires invariant_loop decreases_loop
+follows-requires c κs = (c.before.before.loop.invariant.last_is, c.key-at.ensures)
 
 cast_starts : tie.Need-overflow-cast-starts invariant_loop decreases_loop
 cast_starts c =
@@ -47,6 +57,21 @@ element_write_starts : tie.Need-element-write-starts invariant_loop decreases_lo
 element_write_starts c =
     let h = header c.before.before.before.before.before.before.before in
     omega arith
+
+add_at : tie.Need-overflow-add-at invariant_loop decreases_loop
+add_at c = search rules
+
+field_size_requires : tie.Need-field-size-requires invariant_loop decreases_loop
+field_size_requires c κs = let l = lying c in omega arith
+
+add_at_2 : tie.Need-overflow-add-at-2 invariant_loop decreases_loop
+add_at_2 c = search rules
+
+add_i : tie.Need-overflow-add-i invariant_loop decreases_loop
+add_i c = search rules
+
+loop_less : tie.Need-loop-smaller invariant_loop decreases_loop
+loop_less c = search rules
 
 loop_again : tie.Need-loop-preserved invariant_loop decreases_loop
 loop_again c =
@@ -77,9 +102,24 @@ returns_3 c =
 
 pub check_fields_spec : {M : Type 1} → statement M
 check_fields_spec =
-    tie.close (tie.spec invariant_loop decreases_loop (λ c κs. let h = header c.before in omega arith)
-    (λ c. search rules) loop_holds (λ c κs. let g = c.before.loop.invariant in (g.start, g.within))
-    (λ c κs. (c.before.before.loop.invariant.last_is, c.key-at.ensures)) cast_starts mul_starts
-    element_write_starts (λ c. search rules) (λ c κs. let l = lying c in omega arith)
-    (λ c. search rules) (λ c. search rules) (λ c. search rules) loop_again returns returns_2
+    tie.close
+    (tie.spec
+    invariant_loop
+    decreases_loop
+    read_u16_requires
+    cast-n
+    loop_holds
+    key-at-requires
+    follows-requires
+    cast_starts
+    mul_starts
+    element_write_starts
+    add_at
+    field_size_requires
+    add_at_2
+    add_i
+    loop_less
+    loop_again
+    returns
+    returns_2
     returns_3)

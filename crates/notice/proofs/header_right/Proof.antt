@@ -1,19 +1,36 @@
--- `header_right` meets its contract: by the tests in their order: under 8 bytes, over 16,384, another length word, another kind; then the count alone decides. Assumes nothing.
 use Rattle.std.proofs.Common.{ℕ, ◌+◌, leb, sym, ap, ◌∙◌, rules}
 use Rattle.notice.proofs.Checks.{short, long, other_length, other-kind, by_count}
 use Rattle.notice.proofs.header_right.Statement.{statement}
 use Rattle.notice.proofs.header_right.Tie as tie
 
+returns : tie.Need-returns
+returns c = short c.before.before.args.notice.now c.if1.true
+
 returns_2 : tie.Need-returns-2
 returns_2 c = long c.before.before.before.args.notice.now c.before.if1.false c.if2.true
+
+read_u32_requires : tie.Need-read-u32-requires
+read_u32_requires c κs = search rules
+
+cast-if3 : tie.Need-overflow-cast-if3
+cast-if3 c = search rules
+
+add_if3 : tie.Need-overflow-add-if3
+add_if3 c = search rules
 
 returns_3 : tie.Need-returns-3
 returns_3 c =
     other_length c.before.before.before.before.before.args.notice.now c.before.before.before.if1.false c.before.before.if2.false (λ e. c.if3.true (ap (λ (n : ℕ). 4 + n) c.before.read_u32.ensures ∙ e))
 
+read_u16_requires : tie.Need-read-u16-requires
+read_u16_requires c κs = search rules
+
 returns_4 : tie.Need-returns-4
 returns_4 c =
     other-kind c.before.before.before.before.before.before.before.args.notice.now c.before.before.before.before.before.if1.false c.before.before.before.before.if2.false (ap (λ (n : ℕ). 4 + n) (sym c.before.before.before.read_u32.ensures) ∙ c.before.before.if3.false) (λ e. c.if4.true (c.before.read-u16.ensures ∙ e))
+
+read_u16_requires_2 : tie.Need-read-u16-requires-2
+read_u16_requires_2 c κs = search rules
 
 returns_5 : tie.Need-returns-5
 returns_5 c =
@@ -22,6 +39,15 @@ returns_5 c =
 
 pub header_right_spec : {M : Type 1} → statement M
 header_right_spec =
-    tie.close (tie.spec (λ c. short c.before.before.args.notice.now c.if1.true)
-    returns_2 (λ c κs. search rules) (λ c. search rules) (λ c. search rules) returns_3
-    (λ c κs. search rules) returns_4 (λ c κs. search rules) returns_5)
+    tie.close
+    (tie.spec
+    returns
+    returns_2
+    read_u32_requires
+    cast-if3
+    add_if3
+    returns_3
+    read_u16_requires
+    returns_4
+    read_u16_requires_2
+    returns_5)

@@ -1,4 +1,3 @@
--- `index` meets its contract: where the header is right, `check_fields` gives the whole check's answer and starts; else the fault is at 0 and no start is stored. Assumes nothing.
 use Rattle.std.proofs.Common.{◌≡◌, true, false, sym, ap, ◌∙◌, rules}
 use lib.Seq.{sets}
 use Rattle.notice.specs.Layout.{header_right}
@@ -9,6 +8,12 @@ use Rattle.notice.proofs.index.Tie as tie
 
 right : (c : tie.Then1) → header_right c.before.before.before.args.notice.now ≡ true
 right c = sym c.before.header-right.ensures ∙ c.if1.true
+
+header-right-requires : tie.Need-header-right-requires
+header-right-requires c κs = search rules
+
+check-fields-requires : tie.Need-check-fields-requires
+check-fields-requires c κs = right c.before
 
 returns : tie.Need-returns
 returns c =
@@ -22,5 +27,4 @@ returns_2 c =
     (wrong_header a.notice.now wrong, ap (sets a.starts.now 0) (none_stood a.notice.now wrong))
 
 pub index_spec : {M : Type 1} → statement M
-index_spec =
-    tie.close (tie.spec (λ c κs. search rules) (λ c κs. right c.before) returns returns_2)
+index_spec = tie.close (tie.spec header-right-requires check-fields-requires returns returns_2)

@@ -1,5 +1,3 @@
--- `lookup_in` meets its contract: the field where `halved` stops, if it is found, is right and is what a walk over all fields finds; a well-formed notice is short enough for `found_at`.
--- Assumes nothing.
 use Rattle.std.proofs.Common.{sym, ◌∙◌, rules}
 use Rattle.word.specs.Word.{Bytes}
 use Rattle.notice.proofs.Renders.{well_header}
@@ -8,6 +6,9 @@ use Rattle.notice.proofs.lookup_in.Tie as tie
 
 bytes : (c : tie.After-shared-slice-known) → Bytes c.before.args.notice.now
 bytes c i = (c.shared-slice-known.given i).fits
+
+halved-requires : tie.Need-halved-requires
+halved-requires c κs = search rules
 
 found_at_requires : tie.Need-found-at-requires
 found_at_requires c κs =
@@ -24,4 +25,4 @@ returns_2 c =
     sym (rw c.if1.false at l)
 
 pub lookup_in_spec : {M : Type 1} → statement M
-lookup_in_spec = tie.close (tie.spec (λ c κs. search rules) found_at_requires returns returns_2)
+lookup_in_spec = tie.close (tie.spec halved-requires found_at_requires returns returns_2)

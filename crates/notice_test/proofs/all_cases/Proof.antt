@@ -1,8 +1,10 @@
--- `all_cases` of the test program meets its contract: the loop ends, since each turn lowers the number of turns left, which its test finds above 0. Assumes nothing.
 use native.Mathlib.Omega.{arith}
 use borrow.Author.Rules.{rules}
 use Rattle.notice_test.proofs.all_cases.Statement.{statement}
 use Rattle.notice_test.proofs.all_cases.Tie as tie
+use Rattle.notice_test.proofs.all_cases.Reads as reads
+use Rattle.notice_test.proofs.all_cases.Lts as lts
+use Rattle.notice_test.proofs.next_case.Reads as next-case-reads
 
 abbrev invariant_loop : tie.invariant_loop
 invariant_loop turns₀ turns = Unit {0}
@@ -10,7 +12,37 @@ invariant_loop turns₀ turns = Unit {0}
 abbrev decreases_loop : tie.decreases_loop
 decreases_loop turns₀ turns = turns
 
+loop_holds : tie.Need-loop-init invariant_loop decreases_loop
+loop_holds c = tt
+
+next-case-requires : tie.Need-next-case-requires invariant_loop decreases_loop
+next-case-requires c κs = search rules
+
+sub-turns : tie.Need-overflow-sub-turns invariant_loop decreases_loop
+sub-turns c = search rules
+
+loop_less : tie.Need-loop-smaller invariant_loop decreases_loop
+loop_less c = omega arith
+
+loop_again : tie.Need-loop-preserved invariant_loop decreases_loop
+loop_again c = tt
+
+returns : tie.Need-returns invariant_loop decreases_loop
+returns c = search rules
+
+returns_2 : tie.Need-returns-2 invariant_loop decreases_loop
+returns_2 c = search rules
+
 pub all_cases_spec : {M : Type 1} → statement M
 all_cases_spec =
-    tie.close (tie.spec invariant_loop decreases_loop (λ c. tt) (λ c κs. search rules) (λ c. search rules)
-    (λ c. omega arith) (λ c. tt) (λ c. search rules) (λ c. search rules))
+    tie.close
+    (tie.spec
+    invariant_loop
+    decreases_loop
+    loop_holds
+    next-case-requires
+    sub-turns
+    loop_less
+    loop_again
+    returns
+    returns_2)

@@ -1,4 +1,3 @@
--- `int32_order` meets its contract: by cases of b, where x keeps its value in 64 bits beside an integer and in f64 beside a real, so that it orders as its exact value. Assumes nothing.
 use Rattle.std.proofs.Common.{refl, ◌∙◌, w64, rules}
 use Rattle.mixed.specs.Mixed.{order_real}
 use mir.ValLaws.{to_z-of_z}
@@ -8,6 +7,48 @@ use Rattle.number.proofs.Integers.{wide_is, wide_fits}
 use Rattle.number.proofs.Numbers.{compared, reread, int32_left}
 use Rattle.number.proofs.int32_order.Statement.{statement}
 use Rattle.number.proofs.int32_order.Tie as tie
+
+enum-known-b : tie.Need-enum-known-b
+enum-known-b c = search rules
+
+cast-order-i64 : tie.Need-overflow-cast-order-i64
+cast-order-i64 c = let s = c.before.before.before in wide_fits s.args.x s.ranges.x
+
+cast-order-i64-2 : tie.Need-overflow-cast-order-i64-2
+cast-order-i64-2 c = wide_fits c.before.b.given.0.0 (record { sfits = c.known-told.given.0.1 })
+
+order-i64-requires : tie.Need-order-i64-requires
+order-i64-requires c κs = search rules
+
+of-bool-requires : tie.Need-of-bool-requires
+of-bool-requires c κs = search rules
+
+enum-known-b-2 : tie.Need-enum-known-b-2
+enum-known-b-2 c = search rules
+
+cast-order-i64-3 : tie.Need-overflow-cast-order-i64-3
+cast-order-i64-3 c = let s = c.before.before.before in wide_fits s.args.x s.ranges.x
+
+order-i64-requires-2 : tie.Need-order-i64-requires-2
+order-i64-requires-2 c κs = search rules
+
+of-bool-requires-2 : tie.Need-of-bool-requires-2
+of-bool-requires-2 c κs = search rules
+
+enum-known-b-3 : tie.Need-enum-known-b-3
+enum-known-b-3 c = search rules
+
+int-to-float-order-real : tie.Need-int-to-float-order-real
+int-to-float-order-real c = search rules
+
+order-real-requires : tie.Need-order-real-requires
+order-real-requires c κs = search rules
+
+of-bool-requires-3 : tie.Need-of-bool-requires-3
+of-bool-requires-3 c κs = search rules
+
+enum_told : tie.Need-enum-told
+enum_told c = search rules
 
 returns : tie.Need-returns
 returns c =
@@ -26,13 +67,28 @@ returns_3 c =
     let r = c.before in let m = r.before.before in let g = m.before in let s = g.before.before in let x = s.args.x in let y = g.b3.given.0.0 in let op = s.args.op in
     c.of-bool3.ensures ∙ compared (order_real op) (Int32 x) (Real y) s.args.b refl refl g.b3.given.1 (r.order-real.ensures ∙ same_order op _ _ _ _ (int32_left x s.ranges.x y))
 
+returns_4 : tie.Need-returns-4
+returns_4 c = search rules
+
 pub int32_order_spec : {M : Type 1} → statement M
 int32_order_spec =
-    tie.close (tie.spec (λ c. search rules)
-    (λ c. let s = c.before.before.before in wide_fits s.args.x s.ranges.x)
-    (λ c. wide_fits c.before.b.given.0.0 (record { sfits = c.known-told.given.0.1 }))
-    (λ c κs. search rules) (λ c κs. search rules) (λ c. search rules)
-    (λ c. let s = c.before.before.before in wide_fits s.args.x s.ranges.x)
-    (λ c κs. search rules) (λ c κs. search rules) (λ c. search rules) (λ c. search rules)
-    (λ c κs. search rules) (λ c κs. search rules) (λ c. search rules) returns returns_2 returns_3
-    (λ c. search rules))
+    tie.close
+    (tie.spec
+    enum-known-b
+    cast-order-i64
+    cast-order-i64-2
+    order-i64-requires
+    of-bool-requires
+    enum-known-b-2
+    cast-order-i64-3
+    order-i64-requires-2
+    of-bool-requires-2
+    enum-known-b-3
+    int-to-float-order-real
+    order-real-requires
+    of-bool-requires-3
+    enum_told
+    returns
+    returns_2
+    returns_3
+    returns_4)

@@ -1,4 +1,3 @@
--- `int64_equal` meets its contract: by cases of b, where an int32 keeps its value in 64 bits and a real is compared with the exact integer. Assumes nothing.
 use Rattle.std.proofs.Common.{refl, ◌∙◌, w64, rules}
 use lib.Ieee.{eq}
 use mir.ValLaws.{to_z-of_z}
@@ -7,6 +6,39 @@ use Rattle.number.proofs.Integers.{wide_is, wide_fits}
 use Rattle.number.proofs.Numbers.{compared, reread, int64_left}
 use Rattle.number.proofs.int64_equal.Statement.{statement}
 use Rattle.number.proofs.int64_equal.Tie as tie
+
+enum-known-b : tie.Need-enum-known-b
+enum-known-b c = search rules
+
+cast-equal-i64 : tie.Need-overflow-cast-equal-i64
+cast-equal-i64 c = wide_fits c.before.b.given.0.0 (record { sfits = c.known-told.given.0.1 })
+
+equal-i64-requires : tie.Need-equal-i64-requires
+equal-i64-requires c κs = search rules
+
+of-bool-requires : tie.Need-of-bool-requires
+of-bool-requires c κs = search rules
+
+enum-known-b-2 : tie.Need-enum-known-b-2
+enum-known-b-2 c = search rules
+
+equal-i64-requires-2 : tie.Need-equal-i64-requires-2
+equal-i64-requires-2 c κs = search rules
+
+of-bool-requires-2 : tie.Need-of-bool-requires-2
+of-bool-requires-2 c κs = search rules
+
+enum-known-b-3 : tie.Need-enum-known-b-3
+enum-known-b-3 c = search rules
+
+equal-requires : tie.Need-equal-requires
+equal-requires c κs = search rules
+
+of-bool-requires-3 : tie.Need-of-bool-requires-3
+of-bool-requires-3 c κs = search rules
+
+enum_told : tie.Need-enum-told
+enum_told c = search rules
 
 returns : tie.Need-returns
 returns c =
@@ -26,10 +58,25 @@ returns_3 c =
     c.of-bool3.ensures
     ∙ compared eq (Int64 x) (Real y) s.args.b refl refl g.b3.given.1 (int64_left x s.ranges.x.sfits y eq q.equal.ensures)
 
+returns_4 : tie.Need-returns-4
+returns_4 c = search rules
+
 pub int64_equal_spec : {M : Type 1} → statement M
 int64_equal_spec =
-    tie.close (tie.spec (λ c. search rules)
-    (λ c. wide_fits c.before.b.given.0.0 (record { sfits = c.known-told.given.0.1 }))
-    (λ c κs. search rules) (λ c κs. search rules) (λ c. search rules) (λ c κs. search rules)
-    (λ c κs. search rules) (λ c. search rules) (λ c κs. search rules) (λ c κs. search rules)
-    (λ c. search rules) returns returns_2 returns_3 (λ c. search rules))
+    tie.close
+    (tie.spec
+    enum-known-b
+    cast-equal-i64
+    equal-i64-requires
+    of-bool-requires
+    enum-known-b-2
+    equal-i64-requires-2
+    of-bool-requires-2
+    enum-known-b-3
+    equal-requires
+    of-bool-requires-3
+    enum_told
+    returns
+    returns_2
+    returns_3
+    returns_4)

@@ -1,4 +1,3 @@
--- `int64_order` meets its contract: by cases of b, where an int32 keeps its value in 64 bits and a real is ordered with the exact integer. Assumes nothing.
 use Rattle.std.proofs.Common.{refl, ◌∙◌, w64, rules}
 use Rattle.mixed.specs.Mixed.{order_real}
 use mir.ValLaws.{to_z-of_z}
@@ -7,6 +6,39 @@ use Rattle.number.proofs.Integers.{wide_is, wide_fits}
 use Rattle.number.proofs.Numbers.{compared, reread, int64_left}
 use Rattle.number.proofs.int64_order.Statement.{statement}
 use Rattle.number.proofs.int64_order.Tie as tie
+
+enum-known-b : tie.Need-enum-known-b
+enum-known-b c = search rules
+
+cast-order-i64 : tie.Need-overflow-cast-order-i64
+cast-order-i64 c = wide_fits c.before.b.given.0.0 (record { sfits = c.known-told.given.0.1 })
+
+order-i64-requires : tie.Need-order-i64-requires
+order-i64-requires c κs = search rules
+
+of-bool-requires : tie.Need-of-bool-requires
+of-bool-requires c κs = search rules
+
+enum-known-b-2 : tie.Need-enum-known-b-2
+enum-known-b-2 c = search rules
+
+order-i64-requires-2 : tie.Need-order-i64-requires-2
+order-i64-requires-2 c κs = search rules
+
+of-bool-requires-2 : tie.Need-of-bool-requires-2
+of-bool-requires-2 c κs = search rules
+
+enum-known-b-3 : tie.Need-enum-known-b-3
+enum-known-b-3 c = search rules
+
+order-requires : tie.Need-order-requires
+order-requires c κs = search rules
+
+of-bool-requires-3 : tie.Need-of-bool-requires-3
+of-bool-requires-3 c κs = search rules
+
+enum_told : tie.Need-enum-told
+enum_told c = search rules
 
 returns : tie.Need-returns
 returns c =
@@ -26,10 +58,25 @@ returns_3 c =
     c.of-bool3.ensures
     ∙ compared (order_real op) (Int64 x) (Real y) s.args.b refl refl g.b3.given.1 (int64_left x s.ranges.x.sfits y (order_real op) q.order.ensures)
 
+returns_4 : tie.Need-returns-4
+returns_4 c = search rules
+
 pub int64_order_spec : {M : Type 1} → statement M
 int64_order_spec =
-    tie.close (tie.spec (λ c. search rules)
-    (λ c. wide_fits c.before.b.given.0.0 (record { sfits = c.known-told.given.0.1 }))
-    (λ c κs. search rules) (λ c κs. search rules) (λ c. search rules) (λ c κs. search rules)
-    (λ c κs. search rules) (λ c. search rules) (λ c κs. search rules) (λ c κs. search rules)
-    (λ c. search rules) returns returns_2 returns_3 (λ c. search rules))
+    tie.close
+    (tie.spec
+    enum-known-b
+    cast-order-i64
+    order-i64-requires
+    of-bool-requires
+    enum-known-b-2
+    order-i64-requires-2
+    of-bool-requires-2
+    enum-known-b-3
+    order-requires
+    of-bool-requires-3
+    enum_told
+    returns
+    returns_2
+    returns_3
+    returns_4)

@@ -1,4 +1,3 @@
--- `on_int32` meets its contract: a zero divisor gives no number; past that test the divisor is not 0, as the callee requires, and the exact result is narrowed. Assumes nothing.
 use Rattle.std.proofs.Common.{true, refl, ap, ◌∙◌, w32, w64, rules}
 use Rattle.number.specs.Integer.{exact_of}
 use Rattle.number.specs.Number.{typed}
@@ -7,6 +6,9 @@ use Rattle.number.proofs.Integers.{unread}
 use Rattle.number.proofs.Numbers.{joined, zero_bits, by_zero, two_integers, divisor, result_read}
 use Rattle.number.proofs.on_int32.Statement.{statement}
 use Rattle.number.proofs.on_int32.Tie as tie
+
+divides-requires : tie.Need-divides-requires
+divides-requires c κs = search rules
 
 returns : tie.Need-returns
 returns c =
@@ -18,6 +20,9 @@ arithmetic_i32_requires c κs =
     let d = c.before in let s = d.before in
     divisor w32 s.args.op s.args.b s.ranges.b (joined d.divides.ensures (zero_bits w32 s.args.b s.ranges.b) c.if1.false)
 
+narrow_requires : tie.Need-narrow-requires
+narrow_requires c κs = search rules
+
 returns_2 : tie.Need-returns-2
 returns_2 c =
     let r = c.before in let i = r.before in let d = i.before in let s = d.before in let a = s.args.a in let b = s.args.b in
@@ -26,6 +31,4 @@ returns_2 c =
     ∙ two_integers s.args.op (Int32 a) (Int32 b) (joined d.divides.ensures (zero_bits w32 b s.ranges.b) i.if1.false) refl
 
 pub on_int32_spec : {M : Type 1} → statement M
-on_int32_spec =
-    tie.close (tie.spec (λ c κs. search rules) returns arithmetic_i32_requires
-    (λ c κs. search rules) returns_2)
+on_int32_spec = tie.close (tie.spec divides-requires returns arithmetic_i32_requires narrow_requires returns_2)

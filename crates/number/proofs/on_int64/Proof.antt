@@ -1,4 +1,3 @@
--- `on_int64` meets its contract: a zero divisor gives no number; past that test the divisor is not 0, as the callee requires, and the exact result gets its type there. Assumes nothing.
 use Rattle.std.proofs.Common.{false, refl, ap, ◌∙◌, w64, rules}
 use Rattle.number.specs.Integer.{exact_of}
 use Rattle.number.specs.Number.{typed}
@@ -7,6 +6,9 @@ use Rattle.number.proofs.Integers.{unread}
 use Rattle.number.proofs.Numbers.{joined, zero_bits, by_zero, two_integers, divisor}
 use Rattle.number.proofs.on_int64.Statement.{statement}
 use Rattle.number.proofs.on_int64.Tie as tie
+
+divides-requires : tie.Need-divides-requires
+divides-requires c κs = search rules
 
 returns : tie.Need-returns
 returns c =
@@ -25,5 +27,4 @@ returns_2 c =
     ∙ two_integers s.args.op (Int64 a) (Int64 b) (joined d.divides.ensures (zero_bits w64 b s.ranges.b) i.if1.false) refl
 
 pub on_int64_spec : {M : Type 1} → statement M
-on_int64_spec =
-    tie.close (tie.spec (λ c κs. search rules) returns arithmetic_i64_requires returns_2)
+on_int64_spec = tie.close (tie.spec divides-requires returns arithmetic_i64_requires returns_2)

@@ -1,8 +1,19 @@
--- `places_in` meets its contract: by cases of the edition, where each arm's contract is the equation of `count_in` for it. Assumes nothing.
 use Rattle.number.proofs.Numbers.{first_count, second_count}
 use Rattle.std.proofs.Common.{rules}
 use Rattle.number.proofs.places_in.Statement.{statement}
 use Rattle.number.proofs.places_in.Tie as tie
+
+enum_told : tie.Need-enum-told
+enum_told c = search rules
+
+places-requires : tie.Need-places-requires
+places-requires c κs = search rules
+
+enum-told-2 : tie.Need-enum-told-2
+enum-told-2 c = search rules
+
+remainder-places-requires : tie.Need-remainder-places-requires
+remainder-places-requires c κs = search rules
 
 returns : tie.Need-returns
 returns c =
@@ -16,5 +27,5 @@ returns_2 c =
 
 pub places_in_spec : {M : Type 1} → statement M
 places_in_spec =
-    tie.close (tie.spec (λ c. search rules) (λ c κs. search rules) (λ c. search rules)
-    (λ c κs. search rules) returns returns_2)
+    tie.close
+    (tie.spec enum_told places-requires enum-told-2 remainder-places-requires returns returns_2)

@@ -1,13 +1,21 @@
--- `remainder_places` meets its contract: by whether b is an integer, whose value is read back from its bits and then divided by the width. Assumes nothing.
 use Rattle.number.proofs.Numbers.{no_remainder, remainder_in}
 use Rattle.std.proofs.Common.{rules}
 use Rattle.number.proofs.remainder_places.Statement.{statement}
 use Rattle.number.proofs.remainder_places.Tie as tie
 
+is-integer-requires : tie.Need-is-integer-requires
+is-integer-requires c κs = search rules
+
 returns : tie.Need-returns
 returns c =
     let i = c.before in let s = i.before in
     no_remainder s.args.width s.args.b _ i.is-integer.ensures c.if1.true
+
+integer-of-requires : tie.Need-integer-of-requires
+integer-of-requires c κs = search rules
+
+remainder-requires : tie.Need-remainder-requires
+remainder-requires c κs = search rules
 
 returns_2 : tie.Need-returns-2
 returns_2 c =
@@ -16,5 +24,5 @@ returns_2 c =
 
 pub remainder_places_spec : {M : Type 1} → statement M
 remainder_places_spec =
-    tie.close (tie.spec (λ c κs. search rules) returns (λ c κs. search rules) (λ c κs. search rules)
-    returns_2)
+    tie.close
+    (tie.spec is-integer-requires returns integer-of-requires remainder-requires returns_2)

@@ -1,4 +1,3 @@
--- `same` meets its contract: by cases: the lengths differ; a side is folded, and which side comes first does not matter; or none is, and the marks change nothing. Assumes nothing.
 use mathlib.Core.Path.{sym}
 use native.Mathlib.Omega.{arith}
 use Rattle.octets.specs.Octets.{fold}
@@ -17,6 +16,21 @@ returns c =
 sub_same_folded : tie.Need-overflow-sub-same-folded
 sub_same_folded c = search rules
 
+part-same-folded-start : tie.Need-slice-bounds-same-folded-start
+part-same-folded-start c = search rules
+
+part-same-folded-end : tie.Need-slice-bounds-same-folded-end
+part-same-folded-end c = search rules
+
+sub-same-folded-2 : tie.Need-overflow-sub-same-folded-2
+sub-same-folded-2 c = search rules
+
+part-same-folded-start-2 : tie.Need-slice-bounds-same-folded-start-2
+part-same-folded-start-2 c = search rules
+
+part-same-folded-end-2 : tie.Need-slice-bounds-same-folded-end-2
+part-same-folded-end-2 c = search rules
+
 same_folded_requires : tie.Need-same-folded-requires
 same_folded_requires c κs =
     let a = c.before.before.before.before.before.before.args in
@@ -30,6 +44,21 @@ returns_2 c =
 -- where only t is
 sub_same_folded_3 : tie.Need-overflow-sub-same-folded-3
 sub_same_folded_3 c = search rules
+
+part-same-folded-start-3 : tie.Need-slice-bounds-same-folded-start-3
+part-same-folded-start-3 c = search rules
+
+part-same-folded-end-3 : tie.Need-slice-bounds-same-folded-end-3
+part-same-folded-end-3 c = search rules
+
+sub-same-folded-4 : tie.Need-overflow-sub-same-folded-4
+sub-same-folded-4 c = search rules
+
+part-same-folded-start-4 : tie.Need-slice-bounds-same-folded-start-4
+part-same-folded-start-4 c = search rules
+
+part-same-folded-end-4 : tie.Need-slice-bounds-same-folded-end-4
+part-same-folded-end-4 c = search rules
 
 same_folded_requires_2 : tie.Need-same-folded-requires-2
 same_folded_requires_2 c κs =
@@ -50,6 +79,9 @@ returns_4 c =
     let a = c.before.before.before.before.before.before.before.args in
     none_folded a.s-mark a.t-mark a.s.now a.t.now _ c.before.before.before.if2.false c.before.before.if3.false c.same_bytes.ensures
 
+same-words-requires : tie.Need-same-words-requires
+same-words-requires c κs = (omega arith, omega arith)
+
 returns_5 : tie.Need-returns-5
 returns_5 c =
     let a = c.before.before.before.before.before.before.before.args in
@@ -57,8 +89,26 @@ returns_5 c =
 
 pub same_spec : {M : Type 1} → statement M
 same_spec =
-    tie.close (tie.spec returns sub_same_folded (λ c. search rules) (λ c. search rules)
-    (λ c. search rules) (λ c. search rules) (λ c. search rules) same_folded_requires returns_2
-    sub_same_folded_3 (λ c. search rules) (λ c. search rules) (λ c. search rules)
-    (λ c. search rules) (λ c. search rules) same_folded_requires_2 returns_3 same_bytes_requires
-    returns_4 (λ c κs. (omega arith, omega arith)) returns_5)
+    tie.close
+    (tie.spec
+    returns
+    sub_same_folded
+    part-same-folded-start
+    part-same-folded-end
+    sub-same-folded-2
+    part-same-folded-start-2
+    part-same-folded-end-2
+    same_folded_requires
+    returns_2
+    sub_same_folded_3
+    part-same-folded-start-3
+    part-same-folded-end-3
+    sub-same-folded-4
+    part-same-folded-start-4
+    part-same-folded-end-4
+    same_folded_requires_2
+    returns_3
+    same_bytes_requires
+    returns_4
+    same-words-requires
+    returns_5)

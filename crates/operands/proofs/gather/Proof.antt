@@ -1,5 +1,3 @@
--- `gather` meets its contract: the loop keeps that the operands from i on, stored after the n so far, make the same of both slices as all operands, and that n and their count are the whole
--- count. Assumes nothing.
 use borrow.Author.Rules.{rules}
 use Prim.Native.Nat.{ℕ, ◌-◌}
 use lib.ListN.{length}
@@ -7,6 +5,9 @@ use Rattle.operands.specs.Gather.{place_at, size_at}
 use Rattle.operands.proofs.Gathers.{Gathering, gathering_starts, gathering_on, gathering_ends, counting_ends}
 use Rattle.operands.proofs.gather.Statement.{statement}
 use Rattle.operands.proofs.gather.Tie as tie
+use Rattle.operands.proofs.gather.Reads as reads
+use Rattle.operands.proofs.gather.Lts as lts
+use Rattle.operands.proofs.gather_at.Reads as gather-at-reads
 
 abbrev invariant_loop : tie.invariant_loop
 invariant_loop text marks starts places₀ sizes₀ n₀ i₀ places sizes n i = Gathering (place_at starts) marks places₀ places n i × Gathering (size_at text marks starts) marks sizes₀ sizes n i
@@ -14,8 +15,17 @@ invariant_loop text marks starts places₀ sizes₀ n₀ i₀ places sizes n i =
 abbrev decreases_loop : tie.decreases_loop
 decreases_loop text marks starts places₀ sizes₀ n₀ i₀ places sizes n i = length marks - i
 
+loop_holds : tie.Need-loop-init invariant_loop decreases_loop
+loop_holds c = (gathering_starts _ _ _, gathering_starts _ _ _)
+
 gather_at_requires : tie.Need-gather-at-requires invariant_loop decreases_loop
 gather_at_requires c κs = (c.before.before.before.before.before.before.before.before.before.requires, c.before.before.loop-test.true, c.before.before.before.loop.invariant.0.few)
+
+add_i : tie.Need-overflow-add-i invariant_loop decreases_loop
+add_i c = search rules
+
+loop_less : tie.Need-loop-smaller invariant_loop decreases_loop
+loop_less c = search rules
 
 loop_again : tie.Need-loop-preserved invariant_loop decreases_loop
 loop_again c =
@@ -25,6 +35,12 @@ loop_again c =
     let t = c.before.before.before.before.before.before.before.loop-test.true in
     (gathering_on l.invariant.0 place t g.ensures.0 g.ensures.1.0, gathering_on l.invariant.1 place t g.ensures.0 g.ensures.1.1)
 
+same_length : tie.Need-same-length invariant_loop decreases_loop
+same_length c = c.before.loop.invariant.0.long
+
+same_length_2 : tie.Need-same-length-2 invariant_loop decreases_loop
+same_length_2 c = c.before.loop.invariant.1.long
+
 returns : tie.Need-returns invariant_loop decreases_loop
 returns c =
     let l = c.before.loop in
@@ -33,6 +49,15 @@ returns c =
 
 pub gather_spec : {M : Type 1} → statement M
 gather_spec =
-    tie.close (tie.spec invariant_loop decreases_loop (λ c. (gathering_starts _ _ _, gathering_starts _ _ _))
-    gather_at_requires (λ c. search rules) (λ c. search rules) loop_again
-    (λ c. c.before.loop.invariant.0.long) (λ c. c.before.loop.invariant.1.long) returns)
+    tie.close
+    (tie.spec
+    invariant_loop
+    decreases_loop
+    loop_holds
+    gather_at_requires
+    add_i
+    loop_less
+    loop_again
+    same_length
+    same_length_2
+    returns)

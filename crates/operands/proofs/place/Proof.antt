@@ -1,11 +1,22 @@
--- `place` meets its contract: within the slice the element itself, and past the end the default, 0. Assumes nothing.
 use mathlib.Core.Path.{sym}
 use lib.ListN.{get_or-eq_default}
 use borrow.Author.Rules.{rules}
 use Rattle.operands.proofs.place.Statement.{statement}
 use Rattle.operands.proofs.place.Tie as tie
+use Rattle.operands.proofs.place.Reads as reads
+use Rattle.operands.proofs.place.Lts as lts
+
+mul_result : tie.Need-overflow-mul-result
+mul_result c = search rules
+
+shared_slice_read_result : tie.Need-shared-slice-read-result
+shared_slice_read_result c = search rules
+
+returns : tie.Need-returns
+returns c = search rules
+
+returns_2 : tie.Need-returns-2
+returns_2 c = sym (get_or-eq_default c.before.args.starts.now 0 c.if1.false)
 
 pub place_spec : {M : Type 1} → statement M
-place_spec =
-    tie.close (tie.spec (λ c. search rules) (λ c. search rules) (λ c. search rules)
-    (λ c. sym (get_or-eq_default c.before.args.starts.now 0 c.if1.false)))
+place_spec = tie.close (tie.spec mul_result shared_slice_read_result returns returns_2)

@@ -1,13 +1,30 @@
--- `right_at` meets its contract: by the innermost function, then by `is_later`: a token that need not be a pattern is right, and for one that must be `literal_right` answers. Assumes nothing.
 use borrow.Author.Rules.{rules}
 use Rattle.operands.proofs.Passes.{right_unasked, right_judged, right_other}
 use Rattle.operands.proofs.right_at.Statement.{statement}
 use Rattle.operands.proofs.right_at.Tie as tie
+use Rattle.operands.proofs.right_at.Reads as reads
+use Rattle.operands.proofs.right_at.Lts as lts
+use Rattle.grammar.proofs.stream.start.Reads as start-reads
+use Rattle.operands.proofs.function_by.Reads as function-by-reads
+use Rattle.operands.proofs.is_later.Reads as is-later-reads
+use Rattle.operands.proofs.literal.literal_right.Reads as literal-right-reads
+
+function-by-requires : tie.Need-function-by-requires
+function-by-requires c κs = search rules
 
 returns : tie.Need-returns
 returns c =
     let a = c.before.before.before.before.before.args in
     right_unasked a.text.now a.marks.now a.starts.now a.opens a.i c.before.function-by.ensures c.if1.true
+
+is-later-requires : tie.Need-is-later-requires
+is-later-requires c κs = search rules
+
+start_requires : tie.Need-start-requires
+start_requires c κs = search rules
+
+literal-right-requires : tie.Need-literal-right-requires
+literal-right-requires c κs = search rules
 
 returns_2 : tie.Need-returns-2
 returns_2 c =
@@ -21,5 +38,12 @@ returns_3 c =
 
 pub right_at_spec : {M : Type 1} → statement M
 right_at_spec =
-    tie.close (tie.spec (λ c κs. search rules) returns (λ c κs. search rules) (λ c κs. search rules)
-    (λ c κs. search rules) returns_2 returns_3)
+    tie.close
+    (tie.spec
+    function-by-requires
+    returns
+    is-later-requires
+    start_requires
+    literal-right-requires
+    returns_2
+    returns_3)

@@ -7,6 +7,12 @@ use Rattle.quorum.proofs.Opening.{openable, open_refused, open_done}
 use Rattle.quorum.proofs.open.Statement.{statement}
 use Rattle.quorum.proofs.open.Tie as tie
 
+refusal_requires : tie.Need-refusal-requires
+refusal_requires c κs = search rules
+
+nothing-yet-requires : tie.Need-nothing-yet-requires
+nothing-yet-requires c κs = search rules
+
 returns : tie.Need-returns
 returns c =
     let a = c.before.before.before.before.before.args in
@@ -25,6 +31,12 @@ keep_requires c κs =
     let o = openable (length a.buffer.now) a.table.now a.needed (sym c.before.before.refusal.ensures ∙ c.before.if1.false) in
     (o.short, o.fits)
 
+nothing-yet-requires-2 : tie.Need-nothing-yet-requires-2
+nothing-yet-requires-2 c κs = search rules
+
+same_length : tie.Need-same-length
+same_length c = search rules
+
 returns_2 : tie.Need-returns-2
 returns_2 c =
     let a = c.before.before.before.before.before.before.before.before.before.args in
@@ -33,5 +45,13 @@ returns_2 c =
 
 pub open_spec : {M : Type 1} → statement M
 open_spec =
-    tie.close (tie.spec (λ c κs. search rules) (λ c κs. search rules) returns cast_keep
-    keep_requires (λ c κs. search rules) (λ c. search rules) returns_2)
+    tie.close
+    (tie.spec
+    refusal_requires
+    nothing-yet-requires
+    returns
+    cast_keep
+    keep_requires
+    nothing-yet-requires-2
+    same_length
+    returns_2)

@@ -7,6 +7,9 @@ use Rattle.quorum.proofs.Opening.{bad_table, too_few, too_many, no_room, may-ope
 use Rattle.quorum.proofs.refusal.Statement.{statement}
 use Rattle.quorum.proofs.refusal.Tie as tie
 
+check-requires : tie.Need-check-requires
+check-requires c κs = search rules
+
 returns : tie.Need-returns
 returns c =
     let a = c.before.before.before.args in
@@ -39,5 +42,4 @@ returns_6 c =
 
 pub refusal_spec : {M : Type 1} → statement M
 refusal_spec =
-    tie.close (tie.spec (λ c κs. search rules) returns returns_2 returns_3 returns_4 returns_5
-    returns_6)
+    tie.close (tie.spec check-requires returns returns_2 returns_3 returns_4 returns_5 returns_6)

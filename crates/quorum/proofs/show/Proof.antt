@@ -16,6 +16,15 @@ use Rattle.quorum.proofs.Turns.{length_by, with_staff, without_staff, not_held, 
 use Rattle.quorum.proofs.show.Statement.{statement}
 use Rattle.quorum.proofs.show.Tie as tie
 
+holds-requires : tie.Need-holds-requires
+holds-requires c κs = search rules
+
+nothing-yet-requires : tie.Need-nothing-yet-requires
+nothing-yet-requires c κs = search rules
+
+same_length : tie.Need-same-length
+same_length c = search rules
+
 returns : tie.Need-returns
 returns c =
     let a = c.before.before.before.before.before.before.args in
@@ -39,8 +48,20 @@ held c = found c.before.before.before.before.before.before
 holding_of : (c : tie.After-turn-of) → Holding (buffer_of c)
 holding_of c = holding (buffer_of c) (held c)
 
+run-in-requires : tie.Need-run-in-requires
+run-in-requires c κs = (found c.before.before, refl)
+
 turn_of_requires : tie.Need-turn-of-requires
 turn_of_requires c κs = let r = c.before.before.run_in.ensures in (found c.before.before.before.before.before, r.0, r.1)
+
+slice-read-needed : tie.Need-slice-read-needed
+slice-read-needed c = omega (arith, (holding_of c.before).head.long)
+
+slice-read-count : tie.Need-slice-read-count
+slice-read-count c = omega (arith, (holding_of c.before.before).head.long)
+
+adds-requires : tie.Need-adds-requires
+adds-requires c κs = search rules
 
 staff_requires : tie.Need-staff-requires
 staff_requires c κs =
@@ -53,6 +74,9 @@ add_requires c κs =
     let t = c.before.before.before.before.before.before.before in
     let n = free-place (buffer_of t) (notice_of_lem t) (held t) t.turn-of.result t.turn-of.ensures (sym c.before.before.before.before.adds.ensures ∙ c.before.before.before.if2.true) in
     ((holding_of t).head.long, n, omega (arith, ap length c.staff.ensures, staff_short (notice_of_lem t)))
+
+answer-by-requires : tie.Need-answer-by-requires
+answer-by-requires c κs = let h = holding_of c.before.before.before.before in omega (arith, h.head.few)
 
 -- the bytes that are left
 settled : (c : tie.Joined2) → c.if2.buffer ≡ bytes_by c.before.before.before.before.turn-of.result (buffer_of c.before.before.before.before) (staff_of (notice_of_lem c.before.before.before.before))
@@ -76,10 +100,19 @@ returns_2 c =
 
 pub show_spec : {M : Type 1} → statement M
 show_spec =
-    tie.close (tie.spec (λ c κs. search rules) (λ c κs. search rules) (λ c. search rules) returns
-    (λ c κs. (found c.before.before, refl)) turn_of_requires
-    (λ c. omega (arith, (holding_of c.before).head.long))
-    (λ c. omega (arith, (holding_of c.before.before).head.long)) (λ c κs. search rules)
-    staff_requires add_requires
-    (λ c κs. let h = holding_of c.before.before.before.before in omega (arith, h.head.few))
-    same_length_2 returns_2)
+    tie.close
+    (tie.spec
+    holds-requires
+    nothing-yet-requires
+    same_length
+    returns
+    run-in-requires
+    turn_of_requires
+    slice-read-needed
+    slice-read-count
+    adds-requires
+    staff_requires
+    add_requires
+    answer-by-requires
+    same_length_2
+    returns_2)

@@ -1,4 +1,3 @@
--- `put_error_line` meets its contract: the store of the letter and the store of the newline behind it are one store of the line, which has 2 bytes. Assumes nothing.
 use native.Mathlib.Omega.{arith}
 use mathlib.Core.List.{[], ◌∷◌}
 use Rattle.record.specs.Line.{line_end}
@@ -6,6 +5,18 @@ use Rattle.decimal.proofs.Laws.{joined}
 use borrow.Author.Rules.{rules}
 use Rattle.record.proofs.put_error_line.Statement.{statement}
 use Rattle.record.proofs.put_error_line.Tie as tie
+use Rattle.record.proofs.put_error_line.Reads as reads
+use Rattle.record.proofs.put_error_line.Lts as lts
+use Rattle.decimal.proofs.put_byte.Reads as put-byte-reads
+
+put_byte_requires : tie.Need-put-byte-requires
+put_byte_requires c κs = search rules
+
+put_byte_requires_2 : tie.Need-put-byte-requires-2
+put_byte_requires_2 c κs = search rules
+
+same_length : tie.Need-same-length
+same_length c = search rules
 
 returns : tie.Need-returns
 returns c =
@@ -13,4 +24,4 @@ returns c =
 
 pub put_error_line_spec : {M : Type 1} → statement M
 put_error_line_spec =
-    tie.close (tie.spec (λ c κs. search rules) (λ c κs. search rules) (λ c. search rules) returns)
+    tie.close (tie.spec put_byte_requires put_byte_requires_2 same_length returns)

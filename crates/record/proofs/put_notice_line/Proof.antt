@@ -1,4 +1,3 @@
--- `put_notice_line` meets its contract: the seven stores, one behind the other, are one store of the line, which has at most 93 bytes: four numbers of 21, a verdict of 7, and 2. Assumes nothing.
 use native.Mathlib.Omega.{arith}
 use mathlib.Core.List.{[], ◌∷◌, ◌++◌}
 use Rattle.record.specs.Line.{spaced, verdict_of, line_end}
@@ -6,6 +5,35 @@ use Rattle.decimal.proofs.Laws.{joined}
 use borrow.Author.Rules.{rules}
 use Rattle.record.proofs.put_notice_line.Statement.{statement}
 use Rattle.record.proofs.put_notice_line.Tie as tie
+use Rattle.record.proofs.put_notice_line.Reads as reads
+use Rattle.record.proofs.put_notice_line.Lts as lts
+use Rattle.decimal.proofs.put_byte.Reads as put-byte-reads
+use Rattle.record.proofs.put_number.Reads as put-number-reads
+use Rattle.record.proofs.put_verdict.Reads as put-verdict-reads
+
+put_byte_requires : tie.Need-put-byte-requires
+put_byte_requires c κs = search rules
+
+put-number-requires : tie.Need-put-number-requires
+put-number-requires c κs = search rules
+
+put_verdict_requires : tie.Need-put-verdict-requires
+put_verdict_requires c κs = search rules
+
+put-number-requires-2 : tie.Need-put-number-requires-2
+put-number-requires-2 c κs = search rules
+
+put-number-requires-3 : tie.Need-put-number-requires-3
+put-number-requires-3 c κs = search rules
+
+put-number-requires-4 : tie.Need-put-number-requires-4
+put-number-requires-4 c κs = search rules
+
+put_byte_requires_2 : tie.Need-put-byte-requires-2
+put_byte_requires_2 c κs = search rules
+
+same_length : tie.Need-same-length
+same_length c = search rules
 
 returns : tie.Need-returns
 returns c =
@@ -26,6 +54,14 @@ returns c =
 
 pub put_notice_line_spec : {M : Type 1} → statement M
 put_notice_line_spec =
-    tie.close (tie.spec (λ c κs. search rules) (λ c κs. search rules) (λ c κs. search rules)
-    (λ c κs. search rules) (λ c κs. search rules) (λ c κs. search rules) (λ c κs. search rules)
-    (λ c. search rules) returns)
+    tie.close
+    (tie.spec
+    put_byte_requires
+    put-number-requires
+    put_verdict_requires
+    put-number-requires-2
+    put-number-requires-3
+    put-number-requires-4
+    put_byte_requires_2
+    same_length
+    returns)

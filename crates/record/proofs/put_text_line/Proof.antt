@@ -1,4 +1,3 @@
--- `put_text_line` meets its contract: the five stores, one behind the other, are one store of the line, which has at most 65 bytes: three numbers of 21, and 2. Assumes nothing.
 use native.Mathlib.Omega.{arith}
 use mathlib.Core.List.{[], ◌∷◌, ◌++◌}
 use Rattle.record.specs.Line.{spaced, line_end}
@@ -6,6 +5,28 @@ use Rattle.decimal.proofs.Laws.{joined}
 use borrow.Author.Rules.{rules}
 use Rattle.record.proofs.put_text_line.Statement.{statement}
 use Rattle.record.proofs.put_text_line.Tie as tie
+use Rattle.record.proofs.put_text_line.Reads as reads
+use Rattle.record.proofs.put_text_line.Lts as lts
+use Rattle.decimal.proofs.put_byte.Reads as put-byte-reads
+use Rattle.record.proofs.put_number.Reads as put-number-reads
+
+put_byte_requires : tie.Need-put-byte-requires
+put_byte_requires c κs = search rules
+
+put-number-requires : tie.Need-put-number-requires
+put-number-requires c κs = search rules
+
+put-number-requires-2 : tie.Need-put-number-requires-2
+put-number-requires-2 c κs = search rules
+
+put-number-requires-3 : tie.Need-put-number-requires-3
+put-number-requires-3 c κs = search rules
+
+put_byte_requires_2 : tie.Need-put-byte-requires-2
+put_byte_requires_2 c κs = search rules
+
+same_length : tie.Need-same-length
+same_length c = search rules
 
 returns : tie.Need-returns
 returns c =
@@ -22,5 +43,12 @@ returns c =
 
 pub put_text_line_spec : {M : Type 1} → statement M
 put_text_line_spec =
-    tie.close (tie.spec (λ c κs. search rules) (λ c κs. search rules) (λ c κs. search rules)
-    (λ c κs. search rules) (λ c κs. search rules) (λ c. search rules) returns)
+    tie.close
+    (tie.spec
+    put_byte_requires
+    put-number-requires
+    put-number-requires-2
+    put-number-requires-3
+    put_byte_requires_2
+    same_length
+    returns)

@@ -1,12 +1,27 @@
--- `easy` meets its contract: by whether the index lies in the text: the promises of `is_plain` and `is_repeat` of the byte there are the two tests of `easy_at`. Assumes nothing.
 use native.Mathlib.Omega.{arith}
 use Rattle.regexp.proofs.Simple.{easy_none, easy_some}
 use borrow.Author.Rules.{rules}
 use Rattle.regexp.proofs.easy.Statement.{statement}
 use Rattle.regexp.proofs.easy.Tie as tie
+use Rattle.regexp.proofs.easy.Reads as reads
+use Rattle.regexp.proofs.easy.Lts as lts
+use Rattle.regexp.proofs.is_plain.Reads as is-plain-reads
+use Rattle.regexp.proofs.is_repeat.Reads as is-repeat-reads
 
 returns : tie.Need-returns
 returns c = easy_none c.before.before.args.text.now c.before.before.args.i c.before.before.args.some (omega arith)
+
+shared-slice-read-is-plain : tie.Need-shared-slice-read-is-plain
+shared-slice-read-is-plain c = search rules
+
+is-plain-requires : tie.Need-is-plain-requires
+is-plain-requires c κs = search rules
+
+shared-slice-read-is-repeat : tie.Need-shared-slice-read-is-repeat
+shared-slice-read-is-repeat c = search rules
+
+is-repeat-requires : tie.Need-is-repeat-requires
+is-repeat-requires c κs = search rules
 
 returns_2 : tie.Need-returns-2
 returns_2 c =
@@ -15,5 +30,11 @@ returns_2 c =
 
 pub easy_spec : {M : Type 1} → statement M
 easy_spec =
-    tie.close (tie.spec returns (λ c. search rules) (λ c κs. search rules) (λ c. search rules)
-    (λ c κs. search rules) returns_2)
+    tie.close
+    (tie.spec
+    returns
+    shared-slice-read-is-plain
+    is-plain-requires
+    shared-slice-read-is-repeat
+    is-repeat-requires
+    returns_2)

@@ -1,12 +1,21 @@
--- `repeated` meets its contract: by whether the flag is asked for and already set: adding 1 to an even kind sets it, leaves the others as they are, and fits a byte. Assumes nothing.
 use Rattle.regexp.proofs.Parts.{again_not, again_is, again_more}
 use borrow.Author.Rules.{rules}
 use Rattle.regexp.proofs.repeated.Statement.{statement}
 use Rattle.regexp.proofs.repeated.Tie as tie
+use Rattle.regexp.proofs.repeated.Reads as reads
+use Rattle.regexp.proofs.repeated.Lts as lts
+
+add_result : tie.Need-overflow-add-result
+add_result c = search rules
+
+returns : tie.Need-returns
+returns c = rw c.before.if1.true (again_more c.before.before.args.k c.if2.true)
+
+returns_2 : tie.Need-returns-2
+returns_2 c = rw c.before.if1.true (again_is c.before.before.args.k c.if2.false)
+
+returns_3 : tie.Need-returns-3
+returns_3 c = rw c.if1.false (again_not c.before.args.k)
 
 pub repeated_spec : {M : Type 1} → statement M
-repeated_spec =
-    tie.close (tie.spec (λ c. search rules)
-    (λ c. rw c.before.if1.true (again_more c.before.before.args.k c.if2.true))
-    (λ c. rw c.before.if1.true (again_is c.before.before.args.k c.if2.false))
-    (λ c. rw c.if1.false (again_not c.before.args.k)))
+repeated_spec = tie.close (tie.spec add_result returns returns_2 returns_3)

@@ -1,10 +1,21 @@
--- `search_short` meets its contract: arrays of 32 have the room that `search` asks for, and up to 4,096 bytes its promise is the definition. Assumes nothing.
 use native.Mathlib.Omega.{arith}
 use Rattle.octets.specs.Octets.{folded}
 use Rattle.regexp.proofs.Loops.{regex_short}
 use borrow.Author.Rules.{rules}
 use Rattle.regexp.proofs.search_short.Statement.{statement}
 use Rattle.regexp.proofs.search_short.Tie as tie
+use Rattle.regexp.proofs.search_short.Reads as reads
+use Rattle.regexp.proofs.search_short.Lts as lts
+use Rattle.regexp.proofs.search.Reads as search-reads
+
+slice-aggregate-search : tie.Need-slice-aggregate-search
+slice-aggregate-search c = search rules
+
+slice-aggregate-search-2 : tie.Need-slice-aggregate-search-2
+slice-aggregate-search-2 c = search rules
+
+slice-aggregate-search-3 : tie.Need-slice-aggregate-search-3
+slice-aggregate-search-3 c = search rules
 
 search_requires : tie.Need-search-requires
 search_requires c κs = let z = c.before.before.before.before.before in (omega (arith, z.requires), z.requires, z.requires, z.requires)
@@ -13,6 +24,4 @@ returns : tie.Need-returns
 returns c = let z = c.before.before.before.before.before.before.before.before.before in regex_short (folded z.args.s-mark z.args.s.now) z.args.p.now (omega (arith, z.requires)) _ c.before.before.before.search.ensures
 
 pub search_short_spec : {M : Type 1} → statement M
-search_short_spec =
-    tie.close (tie.spec (λ c. search rules) (λ c. search rules) (λ c. search rules) search_requires
-    returns)
+search_short_spec = tie.close (tie.spec slice-aggregate-search slice-aggregate-search-2 slice-aggregate-search-3 search_requires returns)

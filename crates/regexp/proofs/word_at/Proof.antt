@@ -1,15 +1,35 @@
--- `word_at` meets its contract: by the byte, test by test in the order of `word_by`: each branch is the equation for that byte, and a byte of no test stands for itself. Assumes nothing.
 use Rattle.regexp.proofs.Parts.{word_escaped, word_bad, word_set, word-open, word-close, word-bar, word-star, word-plus, word-optional, word-any, word-hat, word-dollar, word_plain}
 use native.Mathlib.Omega.{arith}
 use borrow.Author.Rules.{rules}
 use Rattle.regexp.proofs.word_at.Statement.{statement}
 use Rattle.regexp.proofs.word_at.Tie as tie
+use Rattle.regexp.proofs.word_at.Reads as reads
+use Rattle.regexp.proofs.word_at.Lts as lts
+use Rattle.regexp.proofs.set_word.Reads as set-word-reads
+
+shared_slice_read_b : tie.Need-shared-slice-read-b
+shared_slice_read_b c = search rules
+
+add_if2 : tie.Need-overflow-add-if2
+add_if2 c = search rules
+
+add-t10 : tie.Need-overflow-add-t10
+add-t10 c = search rules
+
+add_t11 : tie.Need-overflow-add-t11
+add_t11 c = search rules
 
 returns : tie.Need-returns
 returns c = word_escaped c.before.before.before.before.args.text.now c.before.before.before.before.args.i c.before.before.before.before.requires c.before.if1.true (omega arith)
 
 returns_2 : tie.Need-returns-2
 returns_2 c = word_bad c.before.before.before.before.args.text.now c.before.before.before.before.args.i c.before.before.before.before.requires c.before.if1.true (omega arith)
+
+add-set-word : tie.Need-overflow-add-set-word
+add-set-word c = search rules
+
+set-word-requires : tie.Need-set-word-requires
+set-word-requires c κs = search rules
 
 returns_3 : tie.Need-returns-3
 returns_3 c = word_set c.before.before.before.before.before.args.text.now c.before.before.before.before.before.args.i c.before.before.before.before.before.requires c.before.before.if1.false c.before.if3.true c.set_word.result c.set_word.ensures
@@ -32,6 +52,9 @@ returns_8 c = word-plus c.before.before.before.before.before.before.before.befor
 returns_9 : tie.Need-returns-9
 returns_9 c = word-optional c.before.before.before.before.before.before.before.before.before.before.args.text.now c.before.before.before.before.before.before.before.before.before.before.args.i c.before.before.before.before.before.before.before.before.before.before.requires c.before.before.before.before.before.before.before.if1.false c.before.before.before.before.before.before.if3.false c.if9.true
 
+add-t13 : tie.Need-overflow-add-t13
+add-t13 c = search rules
+
 returns_10 : tie.Need-returns-10
 returns_10 c = word-any c.before.before.before.before.before.before.before.before.before.before.before.args.text.now c.before.before.before.before.before.before.before.before.before.before.before.args.i c.before.before.before.before.before.before.before.before.before.before.before.requires c.before.before.before.before.before.before.before.before.if1.false c.before.before.before.before.before.before.before.if3.false c.if10.true
 
@@ -41,12 +64,34 @@ returns_11 c = word-hat c.before.before.before.before.before.before.before.befor
 returns_12 : tie.Need-returns-12
 returns_12 c = word-dollar c.before.before.before.before.before.before.before.before.before.before.before.before.before.args.text.now c.before.before.before.before.before.before.before.before.before.before.before.before.before.args.i c.before.before.before.before.before.before.before.before.before.before.before.before.before.requires c.before.before.before.before.before.before.before.before.before.before.if1.false c.before.before.before.before.before.before.before.before.before.if3.false c.if12.true
 
+add-t14 : tie.Need-overflow-add-t14
+add-t14 c = search rules
+
 returns_13 : tie.Need-returns-13
 returns_13 c = word_plain c.before.before.before.before.before.before.before.before.before.before.before.before.before.args.text.now c.before.before.before.before.before.before.before.before.before.before.before.before.before.args.i c.before.before.before.before.before.before.before.before.before.before.before.before.before.requires c.before.before.before.before.before.before.before.before.before.before.if1.false c.before.before.before.before.before.before.before.before.before.if3.false c.before.before.before.before.before.before.before.before.if4.false c.before.before.before.before.before.before.before.if5.false c.before.before.before.before.before.before.if6.false c.before.before.before.before.before.if7.false c.before.before.before.before.if8.false c.before.before.before.if9.false c.before.before.if10.false c.before.if11.false c.if12.false
 
 pub word_at_spec : {M : Type 1} → statement M
 word_at_spec =
-    tie.close (tie.spec (λ c. search rules) (λ c. search rules) (λ c. search rules)
-    (λ c. search rules) returns returns_2 (λ c. search rules) (λ c κs. search rules) returns_3
-    returns_4 returns_5 returns_6 returns_7 returns_8 returns_9 (λ c. search rules) returns_10
-    returns_11 returns_12 (λ c. search rules) returns_13)
+    tie.close
+    (tie.spec
+    shared_slice_read_b
+    add_if2
+    add-t10
+    add_t11
+    returns
+    returns_2
+    add-set-word
+    set-word-requires
+    returns_3
+    returns_4
+    returns_5
+    returns_6
+    returns_7
+    returns_8
+    returns_9
+    add-t13
+    returns_10
+    returns_11
+    returns_12
+    add-t14
+    returns_13)

@@ -1,6 +1,6 @@
 -- `repeat::sum` meets its contract. The loop's invariant: the sum is i times what one run adds, and at most 268433410 for each. Assumes nothing.
-use mathlib.Core.Path.{◌≡◌, ap, ◌∙◌}
-use Prim.Native.Nat.{ℕ, ◌*◌, ◌≤◌, ◌-◌}
+use mathlib.Core.Path.{◌≡◌, sym, ap, ◌∙◌}
+use Prim.Native.Nat.{ℕ, ◌+◌, ◌*◌, ◌≤◌, ◌-◌}
 use native.Mathlib.Omega.{arith}
 use Rattle.table.specs.Table.{decode}
 use Rattle.interpreter.specs.Running.{answer_of}
@@ -16,6 +16,21 @@ invariant_loop table notice starts times total₀ i₀ total i = (i ≤ times) �
 abbrev decreases_loop : tie.decreases_loop
 decreases_loop table notice starts times total₀ i₀ total i = times - i
 
+loop_holds : tie.Need-loop-init invariant_loop decreases_loop
+loop_holds c = search rules
+
+weight-requires : tie.Need-weight-requires invariant_loop decreases_loop
+weight-requires c κs = search rules
+
+add_total : tie.Need-overflow-add-total invariant_loop decreases_loop
+add_total c = record { fits = omega (arith, c.weight.ensures.1) }
+
+add_i : tie.Need-overflow-add-i invariant_loop decreases_loop
+add_i c = omega arith
+
+loop_less : tie.Need-loop-smaller invariant_loop decreases_loop
+loop_less c = omega arith
+
 loop_again : tie.Need-loop-preserved invariant_loop decreases_loop
 loop_again c =
     let l = c.before.before.loop in
@@ -29,6 +44,14 @@ returns c =
 
 pub sum_spec : {M : Type 1} → statement M
 sum_spec =
-    tie.close (tie.spec invariant_loop decreases_loop (λ c. search rules) (λ c κs. search rules)
-    (λ c. record { fits = omega (arith, c.weight.ensures.1) }) (λ c. omega arith)
-    (λ c. omega arith) loop_again returns)
+    tie.close
+    (tie.spec
+    invariant_loop
+    decreases_loop
+    loop_holds
+    weight-requires
+    add_total
+    add_i
+    loop_less
+    loop_again
+    returns)

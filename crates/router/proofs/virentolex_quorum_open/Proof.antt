@@ -4,9 +4,17 @@ use Rattle.quorum.proofs.Turns.{gives}
 use Rattle.router.proofs.virentolex_quorum_open.Statement.{statement}
 use Rattle.router.proofs.virentolex_quorum_open.Tie as tie
 
+open-requires : tie.Need-open-requires
+open-requires c κs = search rules
+
+flag-requires : tie.Need-flag-requires
+flag-requires c κs = search rules
+
+same_length : tie.Need-same-length
+same_length c = search rules
+
 returns : tie.Need-returns
 returns c = let a = c.before.before.before.open in (gives a.result _ _ a.ensures.answer c.flag.ensures, a.ensures.bytes)
 
 pub virentolex_quorum_open_spec : {M : Type 1} → statement M
-virentolex_quorum_open_spec =
-    tie.close (tie.spec (λ c κs. search rules) (λ c κs. search rules) (λ c. search rules) returns)
+virentolex_quorum_open_spec = tie.close (tie.spec open-requires flag-requires same_length returns)

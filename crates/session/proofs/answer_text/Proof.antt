@@ -1,9 +1,36 @@
--- `session::answer_text` meets its contract: the bytes from 6 on are the record's text; its table stands at the buffer's start, is empty or passes the check, and the line is that of the
--- translation. Assumes nothing.
+use mathlib.Core.Path.{ap}
 use Rattle.session.proofs.Laws.{to_end, text_answers}
 use borrow.Author.Rules.{rules}
 use Rattle.session.proofs.answer_text.Statement.{statement}
 use Rattle.session.proofs.answer_text.Tie as tie
+use Rattle.session.proofs.answer_text.Reads as reads
+use Rattle.session.proofs.answer_text.Lts as lts
+use Rattle.record.proofs.put_text_line.Reads as put-text-line-reads
+use Rattle.translator.proofs.translate.Reads as translate-reads
+
+sub-translate : tie.Need-overflow-sub-translate
+sub-translate c = search rules
+
+part-translate-start : tie.Need-slice-bounds-translate-start
+part-translate-start c = search rules
+
+part-translate-end : tie.Need-slice-bounds-translate-end
+part-translate-end c = search rules
+
+translate-requires : tie.Need-translate-requires
+translate-requires c κs = search rules
+
+cast-put-text-line : tie.Need-overflow-cast-put-text-line
+cast-put-text-line c = search rules
+
+put-text-line-requires : tie.Need-put-text-line-requires
+put-text-line-requires c κs = search rules
+
+same_length : tie.Need-same-length
+same_length c = search rules
+
+same_length_2 : tie.Need-same-length-2
+same_length_2 c = search rules
 
 returns : tie.Need-returns
 returns c =
@@ -13,6 +40,14 @@ returns c =
 
 pub answer_text_spec : {M : Type 1} → statement M
 answer_text_spec =
-    tie.close (tie.spec (λ c. search rules) (λ c. search rules) (λ c. search rules)
-    (λ c κs. search rules) (λ c. search rules) (λ c κs. search rules) (λ c. search rules)
-    (λ c. search rules) returns)
+    tie.close
+    (tie.spec
+    sub-translate
+    part-translate-start
+    part-translate-end
+    translate-requires
+    cast-put-text-line
+    put-text-line-requires
+    same_length
+    same_length_2
+    returns)

@@ -1,10 +1,9 @@
--- `session::serve` meets its contract: the loop keeps that the lines stored and the answers to the records from at on make the whole, that the table is sound, and that the lines left have
--- room. Assumes nothing.
 use mathlib.Core.Path.{◌≡◌, refl, sym, ap, ◌∙◌}
-use Prim.Native.Nat.{◌+◌, ◌/◌, ◌≤◌}
+use mathlib.Core.Bool.{true, false}
+use Prim.Native.Nat.{ℕ, ◌+◌, ◌-◌, ◌*◌, ◌/◌, ◌≤◌, ◌<◌}
 use native.Mathlib.Omega.{arith}
 use borrow.Author.Rules.{rules}
-use lib.ListN.{length, drop, length-drop}
+use lib.ListN.{length, take, drop, length-drop}
 use Rattle.record.specs.declared.Record.{Record}
 use Rattle.record.specs.declared.Record.TheVariants.{Whole}
 use Rattle.record.specs.contracts.Record.{the_type}
@@ -13,8 +12,15 @@ use Rattle.record.specs.Record.{record_of, waits_of}
 use Rattle.record.proofs.Theorems.{whole_lies}
 use Rattle.record.specs.Line.{line_room}
 use Rattle.session.proofs.Laws.{to_end, between, between_length, not_whole, Along, along_first, along_more, along_full, along_waits, along_error}
+use borrow.Author.Rules.{rules}
 use Rattle.session.proofs.serve.Statement.{statement}
 use Rattle.session.proofs.serve.Tie as tie
+use Rattle.session.proofs.serve.Reads as reads
+use Rattle.session.proofs.serve.Lts as lts
+use Rattle.record.proofs.next_record.Reads as next-record-reads
+use Rattle.record.proofs.put_error_line.Reads as put-error-line-reads
+use Rattle.record.proofs.waits.Reads as waits-reads
+use Rattle.session.proofs.answer.Reads as answer-reads
 
 abbrev invariant_loop : tie.invariant_loop
 invariant_loop input last table₀ held out₀ at₀ size-held₀ written₀ left₀ table out at size-held written left = Along input last table₀ held out₀ (length out₀ / line_room) table out at size-held written left
@@ -42,10 +48,34 @@ loop_holds : tie.Need-loop-init invariant_loop decreases_loop
 loop_holds c =
     let a = c.before.before.before.args in along_first a.input.now a.last a.table.now a.held a.out.now (length a.out.now / line_room) c.before.before.before.requires.0 c.before.before.before.requires.1 (omega arith)
 
+sub-next-record : tie.Need-overflow-sub-next-record invariant_loop decreases_loop
+sub-next-record c = omega (arith, c.before.loop.invariant.placed)
+
+part-next-record-start : tie.Need-slice-bounds-next-record-start invariant_loop decreases_loop
+part-next-record-start c = omega (arith, c.before.loop.invariant.placed)
+
+part-next-record-end : tie.Need-slice-bounds-next-record-end invariant_loop decreases_loop
+part-next-record-end c = omega (arith, c.before.loop.invariant.placed)
+
+next-record-requires : tie.Need-next-record-requires invariant_loop decreases_loop
+next-record-requires c κs = search rules
+
+waits-requires : tie.Need-waits-requires invariant_loop decreases_loop
+waits-requires c κs = search rules
+
+same_length : tie.Need-same-length invariant_loop decreases_loop
+same_length c = c.before.before.before.before.before.loop.invariant.same_buffer
+
+same_length_2 : tie.Need-same-length-2 invariant_loop decreases_loop
+same_length_2 c = c.before.before.before.before.before.loop.invariant.same_out
+
 returns : tie.Need-returns invariant_loop decreases_loop
 returns c =
     along_waits c.before.before.before.before.before.loop.invariant c.before.before.before.before.loop-test.true
     (ap (λ (r : Record). waits_of r c.before.before.before.before.before.before.before.before.before.args.last) (sym (found c.before.before)) ∙ sym c.before.waits.ensures ∙ c.if1.true)
+
+enum-known-found : tie.Need-enum-known-found invariant_loop decreases_loop
+enum-known-found c = search rules
 
 put_error_line_requires : tie.Need-put-error-line-requires invariant_loop decreases_loop
 put_error_line_requires c κs = omega (arith, c.before.before.before.before.before.before.before.loop.invariant.room)
@@ -86,6 +116,12 @@ answer_requires c κs =
     let n = between_length c.before.before.before.before.before.before.before.before.before.before.before.before.before.before.before.args.input.now c.before.before.before.before.before.before.before.before.before.before.before.loop.at k.before.found.given.0.1.0 (lies k).1 in
     (omega (arith, lies k, n), c.before.before.before.before.before.before.before.before.before.before.before.loop.invariant.within, c.before.before.before.before.before.before.before.before.before.before.before.loop.invariant.sound, omega (arith, c.before.before.before.before.before.before.before.before.before.before.before.loop.invariant.room, c.before.before.before.before.before.before.before.before.before.before.loop-test.true))
 
+sub_left : tie.Need-overflow-sub-left invariant_loop decreases_loop
+sub_left c = omega arith
+
+loop_less : tie.Need-loop-smaller invariant_loop decreases_loop
+loop_less c = omega arith
+
 loop_again : tie.Need-loop-preserved invariant_loop decreases_loop
 loop_again c =
     let k = c.before.before.before.before.before.before.before.before in
@@ -95,16 +131,43 @@ loop_again c =
     along_more _ _ _ k.before.found.given.0.0 size a.result c.before.before.before.before.before.before.before.before.before.before.before.before.before.before.before.before.loop.invariant c.before.before.before.before.before.before.before.before.before.before.before.before.before.before.before.loop-test.true (whole k) (lies k).1
     (between c.before.before.before.before.before.before.before.before.before.before.before.before.before.before.before.before.before.before.before.before.args.input.now at size) a.auto.1.1.0 a.auto.1.1.1.1.0 a.ensures
 
+same_length_5 : tie.Need-same-length-5 invariant_loop decreases_loop
+same_length_5 c = c.before.loop.invariant.same_buffer
+
+same_length_6 : tie.Need-same-length-6 invariant_loop decreases_loop
+same_length_6 c = c.before.loop.invariant.same_out
+
+returns_3 : tie.Need-returns-3 invariant_loop decreases_loop
+returns_3 c = along_full c.before.loop.invariant c.loop-test.false
+
 pub serve_spec : {M : Type 1} → statement M
 serve_spec =
-    tie.close (tie.spec invariant_loop decreases_loop loop_holds
-    (λ c. omega (arith, c.before.loop.invariant.placed))
-    (λ c. omega (arith, c.before.loop.invariant.placed))
-    (λ c. omega (arith, c.before.loop.invariant.placed)) (λ c κs. search rules) (λ c κs. search rules)
-    (λ c. c.before.before.before.before.before.loop.invariant.same_buffer)
-    (λ c. c.before.before.before.before.before.loop.invariant.same_out) returns
-    (λ c. search rules) put_error_line_requires same_length_3 same_length_4 returns_2 add_next
-    sub_answer part_answer_start part_answer_end answer_requires (λ c. omega arith)
-    (λ c. omega arith) loop_again (λ c. c.before.loop.invariant.same_buffer)
-    (λ c. c.before.loop.invariant.same_out)
-    (λ c. along_full c.before.loop.invariant c.loop-test.false))
+    tie.close
+    (tie.spec
+    invariant_loop
+    decreases_loop
+    loop_holds
+    sub-next-record
+    part-next-record-start
+    part-next-record-end
+    next-record-requires
+    waits-requires
+    same_length
+    same_length_2
+    returns
+    enum-known-found
+    put_error_line_requires
+    same_length_3
+    same_length_4
+    returns_2
+    add_next
+    sub_answer
+    part_answer_start
+    part_answer_end
+    answer_requires
+    sub_left
+    loop_less
+    loop_again
+    same_length_5
+    same_length_6
+    returns_3)

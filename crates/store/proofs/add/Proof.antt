@@ -16,6 +16,12 @@ accepted c = sym (ap (λ (a : Added). a.refusal) c.before.before.judge.ensures) 
 lowest : (c : tie.Else1) → c.before.before.judge.result.number ≡ lowest_free (places_in c.before.before.before.before.before.before.args.store.now)
 lowest c = ap (λ (a : Added). a.number) c.before.before.judge.ensures ∙ number_is c.before.before.before.before.before.before.args.store.now c.before.before.before.before.before.before.args.table.now (accepted c)
 
+judge_requires : tie.Need-judge-requires
+judge_requires c κs = search rules
+
+same_length : tie.Need-same-length
+same_length c = search rules
+
 returns : tie.Need-returns
 returns c =
     let a = c.before.before.before.before.before.before.args in
@@ -26,6 +32,9 @@ append_requires : tie.Need-append-requires
 append_requires c κs =
     let a = c.before.before.before.before.before.before.before.args in
     rw (sym (lowest c.before)) at (appendable a.store.now a.table.now (accepted c.before))
+
+same_length_2 : tie.Need-same-length-2
+same_length_2 c = search rules
 
 returns_2 : tie.Need-returns-2
 returns_2 c =
@@ -38,5 +47,4 @@ returns_2 c =
 
 pub add_spec : {M : Type 1} → statement M
 add_spec =
-    tie.close (tie.spec (λ c κs. search rules) (λ c. search rules) returns append_requires
-    (λ c. search rules) returns_2)
+    tie.close (tie.spec judge_requires same_length returns append_requires same_length_2 returns_2)

@@ -11,8 +11,23 @@ use borrow.Author.Rules.{rules}
 use Rattle.store.proofs.make.Statement.{statement}
 use Rattle.store.proofs.make.Tie as tie
 
+returns : tie.Need-returns
+returns c = made_refused c.before.before.args.store.now (rw (lt-leb 8 _ c.if1.true))
+
 returns_2 : tie.Need-returns-2
 returns_2 c = made_refused c.before.before.before.args.store.now (rw (le-leb 8 _ c.before.if1.false, lt-leb _ 65536 c.if2.true))
+
+write_u32_requires : tie.Need-write-u32-requires
+write_u32_requires c κs = search rules
+
+write_u16_requires : tie.Need-write-u16-requires
+write_u16_requires c κs = search rules
+
+write_u16_requires_2 : tie.Need-write-u16-requires-2
+write_u16_requires_2 c κs = search rules
+
+same_length : tie.Need-same-length
+same_length c = search rules
 
 returns_3 : tie.Need-returns-3
 returns_3 c =
@@ -25,7 +40,12 @@ returns_3 c =
 
 pub make_spec : {M : Type 1} → statement M
 make_spec =
-    tie.close (tie.spec
-    (λ c. made_refused c.before.before.args.store.now (rw (lt-leb 8 _ c.if1.true)))
-    returns_2 (λ c κs. search rules) (λ c κs. search rules) (λ c κs. search rules)
-    (λ c. search rules) returns_3)
+    tie.close
+    (tie.spec
+    returns
+    returns_2
+    write_u32_requires
+    write_u16_requires
+    write_u16_requires_2
+    same_length
+    returns_3)

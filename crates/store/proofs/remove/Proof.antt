@@ -18,6 +18,12 @@ ok c = sym c.before.index.ensures.0 ∙ not-false _ c.if1.false
 start_is : (c : tie.After-start-of) → c.start_of_lem.result ≡ get_or (starts_of c.before.before.before.before.before.before.before.args.store.now) c.before.before.before.before.before.before.before.args.number 0
 start_is c = c.start_of_lem.ensures ∙ ap (λ (l : List ℕ). get_or l c.before.before.before.before.before.before.before.args.number 0) (c.before.before.before.index.ensures.1 (not-false _ c.before.before.if1.false))
 
+index-requires : tie.Need-index-requires
+index-requires c κs = search rules
+
+same_length : tie.Need-same-length
+same_length c = search rules
+
 returns : tie.Need-returns
 returns c =
     let a = c.before.before.before.before.before.args in
@@ -26,6 +32,12 @@ returns c =
 start_of_requires : tie.Need-start-of-requires
 start_of_requires c κs =
     ap length (c.before.before.index.ensures.1 (not-false _ c.before.if1.false)) ∙ starts_64 c.before.before.before.before.before.before.args.store.now
+
+cast_at : tie.Need-overflow-cast-at
+cast_at c = search rules
+
+same_length_2 : tie.Need-same-length-2
+same_length_2 c = search rules
 
 returns_2 : tie.Need-returns-2
 returns_2 c =
@@ -40,6 +52,9 @@ cut_out_requires c κs =
       found = found a.store.now a.number (ok c.before.before.before.before) (λ i. (c.before.before.before.before.before.before.before.before.slice-known.given i).fits) c.before.before.start_of_lem.result (start_is c.before.before) c.before.if2.false;
     }
 
+same_length_3 : tie.Need-same-length-3
+same_length_3 c = search rules
+
 returns_3 : tie.Need-returns-3
 returns_3 c =
     let s = c.before.before.before.before.before.before.before.before.before.before.before.before.args.store.now in
@@ -53,6 +68,15 @@ returns_3 c =
 
 pub remove_spec : {M : Type 1} → statement M
 remove_spec =
-    tie.close (tie.spec (λ c κs. search rules) (λ c. search rules) returns start_of_requires
-    (λ c. search rules) (λ c. search rules) returns_2 cut_out_requires (λ c. search rules)
+    tie.close
+    (tie.spec
+    index-requires
+    same_length
+    returns
+    start_of_requires
+    cast_at
+    same_length_2
+    returns_2
+    cut_out_requires
+    same_length_3
     returns_3)

@@ -1,7 +1,15 @@
--- `int32_right` meets its contract: the two tests are the contract's own, the second by what `in_range` promises. Assumes nothing.
 use borrow.Author.Rules.{rules}
 use Rattle.table.proofs.int32_right.Statement.{statement}
 use Rattle.table.proofs.int32_right.Tie as tie
+use Rattle.table.proofs.int32_right.Reads as reads
+use Rattle.table.proofs.int32_right.Lts as lts
+use Rattle.table.proofs.in_range.Reads as in-range-reads
+
+in-range-requires : tie.Need-in-range-requires
+in-range-requires c κs = search rules
+
+returns : tie.Need-returns
+returns c = rw c.in_range.ensures
 
 pub int32_right_spec : {M : Type 1} → statement M
-int32_right_spec = tie.close (tie.spec (λ c κs. search rules) (λ c. rw c.in_range.ensures))
+int32_right_spec = tie.close (tie.spec in-range-requires returns)

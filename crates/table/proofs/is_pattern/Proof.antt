@@ -1,14 +1,23 @@
--- `is_pattern` meets its contract: by cases of the number: 60 and 61 each have one test, which is what the callee promises, and no other number has a test. Assumes nothing.
 use mathlib.Core.Path.{refl, ap, ◌∙◌}
 use mathlib.Core.Bool.{Bool}
 use mathlib.Core.List.{List}
 use Prim.Native.Nat.{ℕ}
-use Rattle.pattern.specs.Computed.{well_formed}
+use Rattle.pattern.specs.Wildcard.{well_formed}
 use Rattle.regexp.specs.Regex.{well_formed as regexFormed}
 use Rattle.table.proofs.Patterns.{no_test, the_test}
 use borrow.Author.Rules.{rules}
 use Rattle.table.proofs.is_pattern.Statement.{statement}
 use Rattle.table.proofs.is_pattern.Tie as tie
+use Rattle.table.proofs.is_pattern.Reads as reads
+use Rattle.table.proofs.is_pattern.Lts as lts
+use Rattle.pattern.proofs.wildcard.well_formed.Reads as well-formed-reads
+use Rattle.regexp.proofs.well_formed.Reads as well-formed-reads-2
+
+well-formed-requires : tie.Need-well-formed-requires
+well-formed-requires c κs = search rules
+
+well-formed-requires-2 : tie.Need-well-formed-requires-2
+well-formed-requires-2 c κs = search rules
 
 returns : tie.Need-returns
 returns c = λ test e.
@@ -20,7 +29,8 @@ returns_2 c = λ test e.
     let a = c.before.before.before.args in
     c.well-formed2.ensures ∙ ap (λ (t : List ℕ → Bool). t a.p.now) (the_test a.number 61 regexFormed test c.before.match.keys2 refl e)
 
+returns_3 : tie.Need-returns-3
+returns_3 c = λ test e. no_test c.before.before.args.number test c.match.rest e
+
 pub is_pattern_spec : {M : Type 1} → statement M
-is_pattern_spec =
-    tie.close (tie.spec (λ c κs. search rules) (λ c κs. search rules) returns returns_2
-    (λ c. λ test e. no_test c.before.before.args.number test c.match.rest e))
+is_pattern_spec = tie.close (tie.spec well-formed-requires well-formed-requires-2 returns returns_2 returns_3)

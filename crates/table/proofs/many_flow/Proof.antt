@@ -1,4 +1,3 @@
--- `many_flow` meets its contract: the loop keeps that popping the values still left off the stack of number d ends as popping a + 1 off the first stack does. Assumes nothing.
 use mathlib.Core.Path.{◌≡◌, refl, ◌∙◌}
 use mathlib.Core.List.{List}
 use mathlib.Core.Option.{Option}
@@ -12,6 +11,10 @@ use Rattle.table.proofs.Numbers.{Popping, pop_more}
 use borrow.Author.Rules.{rules}
 use Rattle.table.proofs.many_flow.Statement.{statement}
 use Rattle.table.proofs.many_flow.Tie as tie
+use Rattle.table.proofs.many_flow.Reads as reads
+use Rattle.table.proofs.many_flow.Lts as lts
+use Rattle.table.proofs.pop_one.Reads as pop-one-reads
+use Rattle.table.proofs.push_one.Reads as push-one-reads
 
 abbrev invariant_loop : tie.invariant_loop
 invariant_loop a c d₀ left₀ d left = (s : Option (List Kind)) → c ≡ number_of s → Popping left d (pop (replicate (suc a) value) s)
@@ -19,12 +22,27 @@ invariant_loop a c d₀ left₀ d left = (s : Option (List Kind)) → c ≡ numb
 abbrev decreases_loop : tie.decreases_loop
 decreases_loop a c d₀ left₀ d left = left
 
+pop-one-requires : tie.Need-pop-one-requires invariant_loop decreases_loop
+pop-one-requires c κs = search rules
+
 loop_holds : tie.Need-loop-init invariant_loop decreases_loop
 loop_holds c = λ s e. record { stack = pop_one value s; is = c.pop-one.ensures value s refl e; rest = refl }
+
+pop-one-requires-2 : tie.Need-pop-one-requires-2 invariant_loop decreases_loop
+pop-one-requires-2 c κs = search rules
+
+sub_left : tie.Need-overflow-sub-left invariant_loop decreases_loop
+sub_left c = search rules
+
+loop_less : tie.Need-loop-smaller invariant_loop decreases_loop
+loop_less c = search rules
 
 loop_again : tie.Need-loop-preserved invariant_loop decreases_loop
 loop_again c =
     λ s e. pop_more c.before.before.loop.left c.before.before.loop.d c.pop-one2.result _ (omega arith) (c.before.before.loop.invariant s e) c.pop-one2.ensures
+
+push-one-requires : tie.Need-push-one-requires invariant_loop decreases_loop
+push-one-requires c κs = omega arith
 
 returns : tie.Need-returns invariant_loop decreases_loop
 returns c =
@@ -35,5 +53,15 @@ returns c =
 
 pub many_flow_spec : {M : Type 1} → statement M
 many_flow_spec =
-    tie.close (tie.spec invariant_loop decreases_loop (λ c κs. search rules) loop_holds (λ c κs. search rules)
-    (λ c. search rules) (λ c. search rules) loop_again (λ c κs. omega arith) returns)
+    tie.close
+    (tie.spec
+    invariant_loop
+    decreases_loop
+    pop-one-requires
+    loop_holds
+    pop-one-requires-2
+    sub_left
+    loop_less
+    loop_again
+    push-one-requires
+    returns)

@@ -1,4 +1,3 @@
--- `operands_right` meets its contract: the loop keeps that the entries left, directly before the current index, are patterns exactly if all a entries before i are. Assumes nothing.
 use mathlib.Core.Path.{◌≡◌, refl, sym, ◌∙◌}
 use mathlib.Core.Bool.{Bool}
 use mathlib.Core.List.{List}
@@ -14,6 +13,10 @@ use Rattle.table.proofs.Patterns.{string_lies, operands_turn, operands_none, ope
 use borrow.Author.Rules.{rules}
 use Rattle.table.proofs.operands_right.Statement.{statement}
 use Rattle.table.proofs.operands_right.Tie as tie
+use Rattle.table.proofs.operands_right.Reads as reads
+use Rattle.table.proofs.operands_right.Lts as lts
+use Rattle.table.proofs.entry_at.Reads as entry-at-reads
+use Rattle.table.proofs.operand_right.Reads as operand-right-reads
 
 abbrev invariant_loop : tie.invariant_loop
 invariant_loop table pool number i a at₀ left₀ at left =
@@ -23,11 +26,20 @@ invariant_loop table pool number i a at₀ left₀ at left =
 abbrev decreases_loop : tie.decreases_loop
 decreases_loop table pool number i a at₀ left₀ at left = left
 
+loop_holds : tie.Need-loop-init invariant_loop decreases_loop
+loop_holds c = (omega arith, λ test t. refl)
+
 returns : tie.Need-returns invariant_loop decreases_loop
 returns c =
     λ test t.
     let l = c.before.before.loop in
     sym (operands_none test _ _ l.at l.left c.if1.true (omega arith)) ∙ l.invariant.1 test t
+
+sub_at : tie.Need-overflow-sub-at invariant_loop decreases_loop
+sub_at c = search rules
+
+sub_left : tie.Need-overflow-sub-left invariant_loop decreases_loop
+sub_left c = search rules
 
 entry_at_requires : tie.Need-entry-at-requires invariant_loop decreases_loop
 entry_at_requires c κs = let p = c.before.before.before.before.before.requires in let l = c.before.before.loop.invariant.0 in omega (arith, p.0, p.1)
@@ -50,6 +62,9 @@ returns_2 c =
     let o = operands_turn test _ _ l.at l.left _ _ _ (omega arith) (omega arith) (e ∙ sym c.before.before.entry_at.ensures) (c.before.operand-right.ensures test t) (not-true _ c.if2.true) in
     sym o ∙ l.invariant.1 test t
 
+loop_less : tie.Need-loop-smaller invariant_loop decreases_loop
+loop_less c = search rules
+
 loop_again : tie.Need-loop-preserved invariant_loop decreases_loop
 loop_again c =
     let p = c.before.before.before.before.before.before.before.before.requires in
@@ -67,6 +82,17 @@ returns_3 c = λ test t. sym (operands_all test _ _ c.before.loop.at c.before.lo
 
 pub operands_right_spec : {M : Type 1} → statement M
 operands_right_spec =
-    tie.close (tie.spec invariant_loop decreases_loop (λ c. (omega arith, λ test t. refl)) returns
-    (λ c. search rules) (λ c. search rules) entry_at_requires operand_right_requires returns_2
-    (λ c. search rules) loop_again returns_3)
+    tie.close
+    (tie.spec
+    invariant_loop
+    decreases_loop
+    loop_holds
+    returns
+    sub_at
+    sub_left
+    entry_at_requires
+    operand_right_requires
+    returns_2
+    loop_less
+    loop_again
+    returns_3)

@@ -6,9 +6,23 @@ use Rattle.table.proofs.Patterns.{none_beside, some_beside}
 use borrow.Author.Rules.{rules}
 use Rattle.table.proofs.placed_right.Statement.{statement}
 use Rattle.table.proofs.placed_right.Tie as tie
+use Rattle.table.proofs.placed_right.Reads as reads
+use Rattle.table.proofs.placed_right.Lts as lts
+use Rattle.table.proofs.entry_right.Reads as entry-right-reads
+use Rattle.table.proofs.many_right.Reads as many-right-reads
+use Rattle.table.proofs.operands_right.Reads as operands-right-reads
+
+entry-right-requires : tie.Need-entry-right-requires
+entry-right-requires c κs = search rules
 
 returns : tie.Need-returns
 returns c = c.entry-right.ensures ∙ rw (none_beside c.before.before.before.before.before.before.args.e.op c.before.if1.true) (sym (and-true _))
+
+many-right-requires : tie.Need-many-right-requires
+many-right-requires c κs = search rules
+
+operands-right-requires : tie.Need-operands-right-requires
+operands-right-requires c κs = search rules
 
 returns_2 : tie.Need-returns-2
 returns_2 c =
@@ -19,5 +33,5 @@ returns_2 c =
 
 pub placed_right_spec : {M : Type 1} → statement M
 placed_right_spec =
-    tie.close (tie.spec (λ c κs. search rules) returns (λ c κs. search rules) (λ c κs. search rules)
-    returns_2)
+    tie.close
+    (tie.spec entry-right-requires returns many-right-requires operands-right-requires returns_2)

@@ -1,6 +1,6 @@
--- `put_table` meets its contract: the header's 10 bytes, the entries of 12 bytes and the pool, each stored where the one before ends, are one store from 0 on. Assumes nothing.
+use Prim.Native.Nat.{ℕ, ◌+◌, ◌-◌, ◌*◌, ◌≤◌, ◌<◌}
 use native.Mathlib.Omega.{arith}
-use mathlib.Core.Path.{ap, ◌∙◌}
+use mathlib.Core.Path.{◌≡◌, refl, sym, ap, ◌∙◌, subst}
 use lib.ListN.{length}
 use lib.Seq.{length-sets}
 use Rattle.table.specs.Table.{entries_bytes}
@@ -9,8 +9,11 @@ use Rattle.translator.specs.Emit.{header_bytes}
 use Rattle.translator.proofs.Stores.{kept_by}
 use Rattle.translator.proofs.Writing.{length_written}
 use Rattle.translator.proofs.Filling.{table_written}
+use borrow.Author.Rules.{rules}
 use Rattle.translator.proofs.put_table.Statement.{statement}
 use Rattle.translator.proofs.put_table.Tie as tie
+use Rattle.translator.proofs.put_table.Reads as reads
+use Rattle.translator.proofs.put_table.Lts as lts
 
 put_header_requires : tie.Need-put-header-requires
 put_header_requires c κs = (c.before.before.before.before.before.before.requires.0, c.before.before.before.before.before.before.requires.1, omega (arith, c.before.before.before.before.before.before.requires.3))
@@ -33,4 +36,10 @@ returns c =
     table_written a.edition (length codes) a.pool (entries_bytes (expand s places codes 0 0)) (pooled s places codes 0) a.out.now (length_written s places codes 0 0) c.before.before.before.before.before.before.put-header.ensures c.before.before.write.ensures
 
 pub put_table_spec : {M : Type 1} → statement M
-put_table_spec = tie.close (tie.spec put_header_requires write_requires same_length returns)
+put_table_spec =
+    tie.close
+    (tie.spec
+    put_header_requires
+    write_requires
+    same_length
+    returns)

@@ -1,4 +1,3 @@
--- `kept` of the test program meets its contract: the loop keeps that i is at most the length. Assumes nothing.
 use Prim.Native.Nat.{◌≤◌, ◌-◌}
 use native.Mathlib.Omega.{arith}
 use lib.ListN.{length}
@@ -12,7 +11,37 @@ invariant_loop rest i₀ i = i ≤ length rest
 abbrev decreases_loop : tie.decreases_loop
 decreases_loop rest i₀ i = length rest - i
 
+loop_holds : tie.Need-loop-init invariant_loop decreases_loop
+loop_holds c = search rules
+
+shared_slice_read_if1 : tie.Need-shared-slice-read-if1 invariant_loop decreases_loop
+shared_slice_read_if1 c = search rules
+
+returns : tie.Need-returns invariant_loop decreases_loop
+returns c = search rules
+
+add_i : tie.Need-overflow-add-i invariant_loop decreases_loop
+add_i c = search rules
+
+loop_less : tie.Need-loop-smaller invariant_loop decreases_loop
+loop_less c = omega arith
+
+loop_again : tie.Need-loop-preserved invariant_loop decreases_loop
+loop_again c = omega arith
+
+returns_2 : tie.Need-returns-2 invariant_loop decreases_loop
+returns_2 c = search rules
+
 pub kept_spec : {M : Type 1} → statement M
 kept_spec =
-    tie.close (tie.spec invariant_loop decreases_loop (λ c. search rules) (λ c. search rules) (λ c. search rules)
-    (λ c. search rules) (λ c. omega arith) (λ c. omega arith) (λ c. search rules))
+    tie.close
+    (tie.spec
+    invariant_loop
+    decreases_loop
+    loop_holds
+    shared_slice_read_if1
+    returns
+    add_i
+    loop_less
+    loop_again
+    returns_2)

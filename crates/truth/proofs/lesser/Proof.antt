@@ -1,10 +1,18 @@
--- `lesser` meets its contract: the test compares the places of both, by which `lesser_of` chooses. Assumes nothing.
 use native.Mathlib.Omega.{arith}
 use Rattle.truth.specs.Truth.{rank as rank_of}
 use Rattle.truth.proofs.Order.{first_chosen, second_chosen}
 use borrow.Author.Rules.{rules}
 use Rattle.truth.proofs.lesser.Statement.{statement}
 use Rattle.truth.proofs.lesser.Tie as tie
+use Rattle.truth.proofs.lesser.Reads as reads
+use Rattle.truth.proofs.lesser.Lts as lts
+use Rattle.truth.proofs.rank.Reads as rank-reads
+
+rank_requires : tie.Need-rank-requires
+rank_requires c κs = search rules
+
+rank-requires-2 : tie.Need-rank-requires-2
+rank-requires-2 c κs = search rules
 
 returns : tie.Need-returns
 returns c =
@@ -19,4 +27,4 @@ returns_2 c =
     second_chosen (rank_of a.x) (rank_of a.y) a.x a.y (omega arith)
 
 pub lesser_spec : {M : Type 1} → statement M
-lesser_spec = tie.close (tie.spec (λ c κs. search rules) (λ c κs. search rules) returns returns_2)
+lesser_spec = tie.close (tie.spec rank_requires rank-requires-2 returns returns_2)

@@ -1,5 +1,4 @@
--- `ascii` meets its contract: the loop keeps that the first j bytes from i on are ASCII if the flag is true, and that all 17 lie within the slice. Assumes nothing.
-use Prim.Native.Nat.{◌+◌, ◌-◌, ◌≤◌}
+use Prim.Native.Nat.{ℕ, ◌+◌, ◌-◌, ◌≤◌}
 use mathlib.Core.Path.{◌≡◌}
 use mathlib.Core.Bool.{true}
 use native.Mathlib.Omega.{arith}
@@ -17,8 +16,26 @@ invariant_loop s i all₀ j₀ all j = (i + 17 ≤ length s) × (j ≤ 17) × (a
 abbrev decreases_loop : tie.decreases_loop
 decreases_loop s i all₀ j₀ all j = 17 - j
 
+sub-if1 : tie.Need-overflow-sub-if1 invariant_loop decreases_loop
+sub-if1 c = search rules
+
+returns : tie.Need-returns invariant_loop decreases_loop
+returns c = λ e. false_true e
+
 loop_holds : tie.Need-loop-init invariant_loop decreases_loop
 loop_holds c = (omega arith, omega arith, λ e. ascii_one c.before.args.s.now c.before.args.i c.before.requires.0 c.before.requires.1)
+
+add-all : tie.Need-overflow-add-all invariant_loop decreases_loop
+add-all c = search rules
+
+shared-slice-read-all : tie.Need-shared-slice-read-all invariant_loop decreases_loop
+shared-slice-read-all c = search rules
+
+add-j : tie.Need-overflow-add-j invariant_loop decreases_loop
+add-j c = search rules
+
+loop_less : tie.Need-loop-smaller invariant_loop decreases_loop
+loop_less c = search rules
 
 loop_again : tie.Need-loop-preserved invariant_loop decreases_loop
 loop_again c =
@@ -34,6 +51,16 @@ returns_2 c = λ e.
 
 pub ascii_spec : {M : Type 1} → statement M
 ascii_spec =
-    tie.close (tie.spec invariant_loop decreases_loop (λ c. search rules) (λ c. λ e. false_true e) loop_holds
-    (λ c. search rules) (λ c. search rules) (λ c. search rules) (λ c. search rules) loop_again
+    tie.close
+    (tie.spec
+    invariant_loop
+    decreases_loop
+    sub-if1
+    returns
+    loop_holds
+    add-all
+    shared-slice-read-all
+    add-j
+    loop_less
+    loop_again
     returns_2)

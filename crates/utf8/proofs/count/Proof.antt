@@ -1,4 +1,3 @@
--- `count` meets its contract: the loop keeps that the first i bytes are n characters, and n at most i; if none begins the rest, the whole is ill-formed. Assumes nothing.
 use Prim.Native.Nat.{◌-◌, ◌≤◌}
 use native.Mathlib.Omega.{arith}
 use lib.ListN.{length, drop}
@@ -14,6 +13,12 @@ invariant_loop s i₀ n₀ i n = (i ≤ length s) × (n ≤ i) × Passed s i n
 abbrev decreases_loop : tie.decreases_loop
 decreases_loop s i₀ n₀ i n = length s - i
 
+loop_holds : tie.Need-loop-init invariant_loop decreases_loop
+loop_holds c = (omega arith, omega arith, starts c.before.args.s.now)
+
+advance-requires : tie.Need-advance-requires invariant_loop decreases_loop
+advance-requires c κs = search rules
+
 returns : tie.Need-returns invariant_loop decreases_loop
 returns c =
     let l = c.before.before.before.loop in
@@ -26,6 +31,9 @@ add_i c =
     let b = advanced (drop l.i s) c.before.advance.result c.if1.false c.before.advance.ensures in
     let f = fits_at_lem s l.i c.before.advance.result (characters_in c.before.advance.result) l.invariant.0 b in
     omega (arith, f)
+
+characters-requires : tie.Need-characters-requires invariant_loop decreases_loop
+characters-requires c κs = search rules
 
 add_n : tie.Need-overflow-add-n invariant_loop decreases_loop
 add_n c =
@@ -56,6 +64,16 @@ returns_2 c = finishes c.before.before.before.args.s.now c.before.loop.i c.befor
 
 pub count_spec : {M : Type 1} → statement M
 count_spec =
-    tie.close (tie.spec invariant_loop decreases_loop
-    (λ c. (omega arith, omega arith, starts c.before.args.s.now)) (λ c κs. search rules)
-    returns add_i (λ c κs. search rules) add_n loop_less loop_again returns_2)
+    tie.close
+    (tie.spec
+    invariant_loop
+    decreases_loop
+    loop_holds
+    advance-requires
+    returns
+    add_i
+    characters-requires
+    add_n
+    loop_less
+    loop_again
+    returns_2)

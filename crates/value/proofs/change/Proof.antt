@@ -1,9 +1,17 @@
--- `change` meets its contract: `value_in_lem` reads the item's value, and the slot holds `change_of` of it, as `unary_of` has it. Assumes nothing.
 use mathlib.Core.Path.{ap, ◌∙◌}
 use Rattle.value.specs.Value.{value, change_of}
 use borrow.Author.Rules.{rules}
 use Rattle.value.proofs.change.Statement.{statement}
 use Rattle.value.proofs.change.Tie as tie
+
+value-in-requires : tie.Need-value-in-requires
+value-in-requires c κs = search rules
+
+change-requires : tie.Need-change-requires
+change-requires c κs = search rules
+
+valued-requires : tie.Need-valued-requires
+valued-requires c κs = search rules
 
 returns : tie.Need-returns
 returns c =
@@ -11,6 +19,4 @@ returns c =
     c.valued.ensures p q ∙ ap value (c.before.change.ensures ∙ ap (change_of a.op) (c.before.before.value_in.ensures p q))
 
 pub change_spec : {M : Type 1} → statement M
-change_spec =
-    tie.close (tie.spec (λ c κs. search rules) (λ c κs. search rules) (λ c κs. search rules)
-    returns)
+change_spec = tie.close (tie.spec value-in-requires change-requires valued-requires returns)

@@ -1,16 +1,33 @@
--- `combine` meets its contract: bottom on either side makes `combine_of` bottom; otherwise the pair's values are those of the two items. Assumes nothing.
 use mathlib.Core.Path.{ap, ap₂, ◌∙◌}
-use Rattle.value.specs.Value.{value, value_in, combine_of}
+use Rattle.value.specs.Value.{value, value_in_lem, combine_of}
 use Rattle.value.specs.Held.{item_in}
 use Rattle.value.proofs.Theorems.{combine_bottom}
 use borrow.Author.Rules.{rules}
 use Rattle.value.proofs.combine.Statement.{statement}
 use Rattle.value.proofs.combine.Tie as tie
 
+paired-requires : tie.Need-paired-requires
+paired-requires c κs = search rules
+
+enum_told : tie.Need-enum-told
+enum_told c = search rules
+
+valued-requires : tie.Need-valued-requires
+valued-requires c κs = search rules
+
+enum-known-v : tie.Need-enum-known-v
+enum-known-v c = search rules
+
+combine-requires : tie.Need-combine-requires
+combine-requires c κs = search rules
+
+valued-requires-2 : tie.Need-valued-requires-2
+valued-requires-2 c κs = search rules
+
 returns : tie.Need-returns
 returns c =
     let s : tie.Start = search in
-    λ p q. let h = c.before.before.before.paired.ensures p q in c.valued.ensures p q ∙ ap value (combine_bottom s.args.edition s.args.op (value_in (item_in p q s.args.s)) (value_in (item_in p q s.args.t)) (rw c.before.enum_told.given.1 at h))
+    λ p q. let h = c.before.before.before.paired.ensures p q in c.valued.ensures p q ∙ ap value (combine_bottom s.args.edition s.args.op (value_in_lem (item_in p q s.args.s)) (value_in_lem (item_in p q s.args.t)) (rw c.before.enum_told.given.1 at h))
 
 returns_2 : tie.Need-returns-2
 returns_2 c =
@@ -19,5 +36,13 @@ returns_2 c =
 
 pub combine_spec : {M : Type 1} → statement M
 combine_spec =
-    tie.close (tie.spec (λ c κs. search rules) (λ c. search rules) (λ c κs. search rules)
-    (λ c. search rules) (λ c κs. search rules) (λ c κs. search rules) returns returns_2)
+    tie.close
+    (tie.spec
+    paired-requires
+    enum_told
+    valued-requires
+    enum-known-v
+    combine-requires
+    valued-requires-2
+    returns
+    returns_2)

@@ -1,9 +1,14 @@
--- `field` meets its contract: the slot holds the value that `field_value` promises of the same bytes. Assumes nothing.
 use mathlib.Core.Path.{ap, ◌∙◌}
 use Rattle.value.specs.Value.{value}
 use borrow.Author.Rules.{rules}
 use Rattle.value.proofs.field.Statement.{statement}
 use Rattle.value.proofs.field.Tie as tie
+
+field-value-requires : tie.Need-field-value-requires
+field-value-requires c κs = search rules
+
+valued-requires : tie.Need-valued-requires
+valued-requires c κs = search rules
 
 returns : tie.Need-returns
 returns c =
@@ -11,4 +16,4 @@ returns c =
     λ p. c.valued.ensures p s.args.notice.now ∙ ap value (c.before.field-value.ensures p)
 
 pub field_spec : {M : Type 1} → statement M
-field_spec = tie.close (tie.spec (λ c κs. search rules) (λ c κs. search rules) returns)
+field_spec = tie.close (tie.spec field-value-requires valued-requires returns)

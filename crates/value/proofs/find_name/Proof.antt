@@ -1,4 +1,3 @@
--- `find_name` meets its contract: the requirement puts the name's slice within the pool, and its end less its start is the length a. Assumes nothing.
 use mathlib.Core.Path.{◌≡◌, ap, ◌∙◌}
 use Prim.Native.Nat.{ℕ, ◌+◌, ◌-◌, ◌%◌}
 use native.Mathlib.Omega.{arith}
@@ -8,6 +7,21 @@ use borrow.Author.Rules.{rules}
 use Rattle.value.proofs.find_name.Statement.{statement}
 use Rattle.value.proofs.find_name.Tie as tie
 
+add_end : tie.Need-overflow-add-end
+add_end c = search rules
+
+sub-lookup-in : tie.Need-overflow-sub-lookup-in
+sub-lookup-in c = search rules
+
+part-lookup-in-start : tie.Need-slice-bounds-lookup-in-start
+part-lookup-in-start c = search rules
+
+part-lookup-in-end : tie.Need-slice-bounds-lookup-in-end
+part-lookup-in-end c = search rules
+
+lookup-in-requires : tie.Need-lookup-in-requires
+lookup-in-requires c κs = search rules
+
 returns : tie.Need-returns
 returns c =
     let s : tie.Start = search in let p = s.args.pool.now in let q = s.args.notice.now in
@@ -16,6 +30,4 @@ returns c =
     c.lookup-in.ensures ∙ ap (λ (n : ℕ). lookup_of q (take n (drop at p))) long
 
 pub find_name_spec : {M : Type 1} → statement M
-find_name_spec =
-    tie.close (tie.spec (λ c. search rules) (λ c. search rules) (λ c. search rules)
-    (λ c. search rules) (λ c κs. search rules) returns)
+find_name_spec = tie.close (tie.spec add_end sub-lookup-in part-lookup-in-start part-lookup-in-end lookup-in-requires returns)

@@ -1,9 +1,20 @@
--- `more` meets its contract: `value_in_lem` reads both items' values, and `beside_of` of them, joined to what is known, is `more_of`. Assumes nothing.
 use mathlib.Core.Path.{ap, ap₂, ◌∙◌}
 use Rattle.value.specs.Value.{join_of, beside_of}
 use borrow.Author.Rules.{rules}
 use Rattle.value.proofs.more.Statement.{statement}
 use Rattle.value.proofs.more.Tie as tie
+
+value-in-requires : tie.Need-value-in-requires
+value-in-requires c κs = search rules
+
+value-in-requires-2 : tie.Need-value-in-requires-2
+value-in-requires-2 c κs = search rules
+
+beside-requires : tie.Need-beside-requires
+beside-requires c κs = search rules
+
+join-requires : tie.Need-join-requires
+join-requires c κs = search rules
 
 returns : tie.Need-returns
 returns c =
@@ -12,5 +23,5 @@ returns c =
 
 pub more_spec : {M : Type 1} → statement M
 more_spec =
-    tie.close (tie.spec (λ c κs. search rules) (λ c κs. search rules) (λ c κs. search rules)
-    (λ c κs. search rules) returns)
+    tie.close
+    (tie.spec value-in-requires value-in-requires-2 beside-requires join-requires returns)

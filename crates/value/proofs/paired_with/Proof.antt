@@ -1,4 +1,3 @@
--- `paired_with` meets its contract: by cases of the right slot, where a truth value counts as bottom, and the test of two values is the one of `any_bottom`. Assumes nothing.
 use mathlib.Core.Path.{refl, sym, ◌∙◌}
 use mathlib.Core.Bool.{or-true}
 use lib.Dec.{eqb}
@@ -7,6 +6,15 @@ use Rattle.value.specs.Held.{typed_of}
 use borrow.Author.Rules.{rules}
 use Rattle.value.proofs.paired_with.Statement.{statement}
 use Rattle.value.proofs.paired_with.Tie as tie
+
+enum_told : tie.Need-enum-told
+enum_told c = search rules
+
+enum-known-h : tie.Need-enum-known-h
+enum-known-h c = search rules
+
+any-bottom-requires : tie.Need-any-bottom-requires
+any-bottom-requires c κs = search rules
 
 returns : tie.Need-returns
 returns c =
@@ -21,5 +29,4 @@ returns_3 c = λ p q. rw c.before.before.before.h.given.1 (sym (c.before.any-bot
 
 pub paired_with_spec : {M : Type 1} → statement M
 paired_with_spec =
-    tie.close (tie.spec (λ c. search rules) (λ c. search rules) (λ c κs. search rules) returns
-    returns_2 returns_3)
+    tie.close (tie.spec enum_told enum-known-h any-bottom-requires returns returns_2 returns_3)

@@ -1,4 +1,3 @@
--- `test` meets its contract: by cases of the slot, where a truth value counts as bottom, of which every test is bottom. Assumes nothing.
 use mathlib.Core.Path.{sym, ap, ◌∙◌}
 use Rattle.value.specs.Value.{logic}
 use Rattle.value.proofs.Theorems.{strict_unary}
@@ -6,6 +5,21 @@ use Rattle.opcode.specs.declared.Unary.{Unary}
 use borrow.Author.Rules.{rules}
 use Rattle.value.proofs.test.Statement.{statement}
 use Rattle.value.proofs.test.Tie as tie
+
+enum_told : tie.Need-enum-told
+enum_told c = search rules
+
+decided-requires : tie.Need-decided-requires
+decided-requires c κs = search rules
+
+enum-known-h : tie.Need-enum-known-h
+enum-known-h c = search rules
+
+test-requires : tie.Need-test-requires
+test-requires c κs = search rules
+
+decided-requires-2 : tie.Need-decided-requires-2
+decided-requires-2 c κs = search rules
 
 returns : tie.Need-returns
 returns c =
@@ -17,5 +31,12 @@ returns_2 c = λ p q. rw c.before.before.before.h.given.1 (c.decided2.ensures p 
 
 pub test_spec : {M : Type 1} → statement M
 test_spec =
-    tie.close (tie.spec (λ c. search rules) (λ c κs. search rules) (λ c. search rules)
-    (λ c κs. search rules) (λ c κs. search rules) returns returns_2)
+    tie.close
+    (tie.spec
+    enum_told
+    decided-requires
+    enum-known-h
+    test-requires
+    decided-requires-2
+    returns
+    returns_2)

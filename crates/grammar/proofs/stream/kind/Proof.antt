@@ -1,15 +1,20 @@
--- `kind` meets its contract: within the slice an element is the same for any default, and past the end it is the default, the kind of the end. Assumes nothing.
 use mathlib.Core.Path.{sym}
 use lib.ListN.{get_or-eq_default}
 use Rattle.grammar.proofs.Streams.{within}
 use borrow.Author.Rules.{rules}
 use Rattle.grammar.proofs.stream.kind.Statement.{statement}
 use Rattle.grammar.proofs.stream.kind.Tie as tie
+use Rattle.grammar.proofs.stream.kind.Reads as reads
+use Rattle.grammar.proofs.stream.kind.Lts as lts
+
+shared_slice_read_result : tie.Need-shared-slice-read-result
+shared_slice_read_result c = search rules
 
 returns : tie.Need-returns
 returns c = within c.before.before.args.kinds.now c.before.before.args.at 0 99 c.before.if1.true
 
+returns_2 : tie.Need-returns-2
+returns_2 c = sym (get_or-eq_default c.before.args.kinds.now 99 c.if1.false)
+
 pub kind_spec : {M : Type 1} → statement M
-kind_spec =
-    tie.close (tie.spec (λ c. search rules) returns
-    (λ c. sym (get_or-eq_default c.before.args.kinds.now 99 c.if1.false)))
+kind_spec = tie.close (tie.spec shared_slice_read_result returns returns_2)

@@ -1,7 +1,20 @@
--- `is_space` meets its contract: each of the four bytes by computing; any other byte differs from each of them. Assumes nothing.
 use borrow.Author.Tests.{ne_eqb}
 use Rattle.lexer.proofs.byte.is_space.Statement.{statement}
 use Rattle.lexer.proofs.byte.is_space.Tie as tie
+use Rattle.lexer.proofs.byte.is_space.Reads as reads
+use Rattle.lexer.proofs.byte.is_space.Lts as lts
+
+returns : tie.Need-returns
+returns c = rw c.match.keys1
+
+returns_2 : tie.Need-returns-2
+returns_2 c = rw c.match.keys2
+
+returns_3 : tie.Need-returns-3
+returns_3 c = rw c.match.keys3
+
+returns_4 : tie.Need-returns-4
+returns_4 c = rw c.match.keys4
 
 returns_5 : tie.Need-returns-5
 returns_5 c =
@@ -9,6 +22,4 @@ returns_5 c =
     rw (ne_eqb b 32 c.match.rest.0.0.0.1, ne_eqb b 9 c.match.rest.0.0.1, ne_eqb b 10 c.match.rest.0.1, ne_eqb b 13 c.match.rest.1)
 
 pub is_space_spec : {M : Type 1} → statement M
-is_space_spec =
-    tie.close (tie.spec (λ c. rw c.match.keys1) (λ c. rw c.match.keys2)
-    (λ c. rw c.match.keys3) (λ c. rw c.match.keys4) returns_5)
+is_space_spec = tie.close (tie.spec returns returns_2 returns_3 returns_4 returns_5)

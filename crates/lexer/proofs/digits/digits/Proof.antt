@@ -1,4 +1,3 @@
--- `digits` meets its contract: the loop keeps that the digits from i on, after the value so far, have the same end and the same capped value as those from the first offset on. Assumes nothing.
 use Prim.Native.Nat.{◌≤◌, ◌-◌}
 use mathlib.Core.Path.{refl}
 use native.Mathlib.Omega.{arith}
@@ -7,12 +6,25 @@ use Rattle.lexer.proofs.Wholes.{digits_stop, digits_end, Same, read_more, read_e
 use borrow.Author.Rules.{rules}
 use Rattle.lexer.proofs.digits.digits.Statement.{statement}
 use Rattle.lexer.proofs.digits.digits.Tie as tie
+use Rattle.lexer.proofs.digits.digits.Reads as reads
+use Rattle.lexer.proofs.digits.digits.Lts as lts
+use Rattle.lexer.proofs.byte.digit.Reads as digit-reads
+use Rattle.lexer.proofs.digits.with_digit.Reads as with-digit-reads
 
 abbrev invariant_loop : tie.invariant_loop
 invariant_loop s at base high v₀ i₀ v i = (v ≤ 9223372036854775809) × Same base s at high i v
 
 abbrev decreases_loop : tie.decreases_loop
 decreases_loop s at base high v₀ i₀ v i = length s - i
+
+loop_holds : tie.Need-loop-init invariant_loop decreases_loop
+loop_holds c = (c.before.requires.2, (refl, refl))
+
+shared-slice-read-digit : tie.Need-shared-slice-read-digit invariant_loop decreases_loop
+shared-slice-read-digit c = search rules
+
+digit-requires : tie.Need-digit-requires invariant_loop decreases_loop
+digit-requires c κs = search rules
 
 returns : tie.Need-returns invariant_loop decreases_loop
 returns c =
@@ -23,6 +35,12 @@ returns c =
 
 with_digit_requires : tie.Need-with-digit-requires invariant_loop decreases_loop
 with_digit_requires c κs = (c.before.before.before.before.before.before.requires.0, c.before.before.before.before.before.before.requires.1, c.before.digit.ensures.1)
+
+add_i : tie.Need-overflow-add-i invariant_loop decreases_loop
+add_i c = search rules
+
+loop_less : tie.Need-loop-smaller invariant_loop decreases_loop
+loop_less c = search rules
 
 loop_again : tie.Need-loop-preserved invariant_loop decreases_loop
 loop_again c =
@@ -42,6 +60,16 @@ returns_2 c =
 
 pub digits_spec : {M : Type 1} → statement M
 digits_spec =
-    tie.close (tie.spec invariant_loop decreases_loop (λ c. (c.before.requires.2, (refl, refl))) (λ c. search rules)
-    (λ c κs. search rules) returns with_digit_requires (λ c. search rules) (λ c. search rules)
-    loop_again returns_2)
+    tie.close
+    (tie.spec
+    invariant_loop
+    decreases_loop
+    loop_holds
+    shared-slice-read-digit
+    digit-requires
+    returns
+    with_digit_requires
+    add_i
+    loop_less
+    loop_again
+    returns_2)

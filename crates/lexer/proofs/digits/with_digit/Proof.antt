@@ -1,9 +1,10 @@
--- `with_digit` meets its contract: a value below 2^59 with one digit more is at most 2^63; for a larger one the quotient says exactly whether the sum passes the cap. Assumes nothing.
 use native.Mathlib.Omega.{arith}
 use Rattle.lexer.proofs.Wholes.{small, over, under}
 use borrow.Author.Rules.{rules}
 use Rattle.lexer.proofs.digits.with_digit.Statement.{statement}
 use Rattle.lexer.proofs.digits.with_digit.Tie as tie
+use Rattle.lexer.proofs.digits.with_digit.Reads as reads
+use Rattle.lexer.proofs.digits.with_digit.Lts as lts
 
 mul_result : tie.Need-overflow-mul-result
 mul_result c =
@@ -16,6 +17,12 @@ add_result c =
 returns : tie.Need-returns
 returns c =
     let a = c.before.args in omega (arith, small a.v a.base a.d c.before.requires.1 c.before.requires.2 c.if1.true)
+
+sub_if2 : tie.Need-overflow-sub-if2
+sub_if2 c = search rules
+
+div-if2 : tie.Need-nonzero-div-if2
+div-if2 c = search rules
 
 returns_2 : tie.Need-returns-2
 returns_2 c =
@@ -35,5 +42,14 @@ returns_3 c =
 
 pub with_digit_spec : {M : Type 1} → statement M
 with_digit_spec =
-    tie.close (tie.spec mul_result add_result returns (λ c. search rules) (λ c. search rules)
-    returns_2 mul_result_2 add_result_2 returns_3)
+    tie.close
+    (tie.spec
+    mul_result
+    add_result
+    returns
+    sub_if2
+    div-if2
+    returns_2
+    mul_result_2
+    add_result_2
+    returns_3)

@@ -1,13 +1,26 @@
--- `base` meets its contract: by the hex prefix, then by a zero after the sign: 16, 8 or 10, each above 0 and at most 16. Assumes nothing.
 use mathlib.Core.Path.{sym, ◌∙◌}
 use native.Mathlib.Omega.{arith}
 use borrow.Author.Tests.{eq-eqb, ne_eqb}
 use borrow.Author.Rules.{rules}
 use Rattle.lexer.proofs.integer.base.Statement.{statement}
 use Rattle.lexer.proofs.integer.base.Tie as tie
+use Rattle.lexer.proofs.integer.base.Reads as reads
+use Rattle.lexer.proofs.integer.base.Lts as lts
+use Rattle.lexer.proofs.digits.sign_length.Reads as sign-length-reads
+use Rattle.lexer.proofs.integer.is_hex.Reads as is-hex-reads
+use Rattle.lexer.proofs.run.byte_at.Reads as byte-at-reads
+
+is-hex-requires : tie.Need-is-hex-requires
+is-hex-requires c κs = search rules
 
 returns : tie.Need-returns
 returns c = let e = sym c.before.is-hex.ensures ∙ c.if1.true in (rw e, omega arith, omega arith)
+
+sign-length-requires : tie.Need-sign-length-requires
+sign-length-requires c κs = search rules
+
+byte-at-requires : tie.Need-byte-at-requires
+byte-at-requires c κs = search rules
 
 returns_2 : tie.Need-returns-2
 returns_2 c =
@@ -23,5 +36,5 @@ returns_3 c =
 
 pub base_spec : {M : Type 1} → statement M
 base_spec =
-    tie.close (tie.spec (λ c κs. search rules) returns (λ c κs. search rules) (λ c κs. search rules)
-    returns_2 returns_3)
+    tie.close
+    (tie.spec is-hex-requires returns sign-length-requires byte-at-requires returns_2 returns_3)

@@ -1,4 +1,3 @@
--- `integer_value` meets its contract: the capped size gives the same value as the size itself: where they differ, 64 bits hold neither, and both count as 0. Assumes nothing.
 use mathlib.Core.Path.{◌∙◌}
 use mir.Syntax.{w64}
 use mir.ValLaws.{to_z-of_z}
@@ -8,6 +7,28 @@ use Rattle.lexer.proofs.Signs.{held_capped}
 use borrow.Author.Rules.{rules}
 use Rattle.lexer.proofs.integer.integer_value.Statement.{statement}
 use Rattle.lexer.proofs.integer.integer_value.Tie as tie
+use Rattle.lexer.proofs.integer.integer_value.Reads as reads
+use Rattle.lexer.proofs.integer.integer_value.Lts as lts
+use Rattle.lexer.proofs.digits.digits.Reads as digits-reads
+use Rattle.lexer.proofs.digits.is_minus.Reads as is-minus-reads
+use Rattle.lexer.proofs.integer.base.Reads as base-reads
+use Rattle.lexer.proofs.integer.prefix_length.Reads as prefix-length-reads
+use Rattle.lexer.proofs.integer.signed.Reads as signed-Reads
+
+prefix-length-requires : tie.Need-prefix-length-requires
+prefix-length-requires c κs = search rules
+
+base-requires : tie.Need-base-requires
+base-requires c κs = search rules
+
+digits-requires : tie.Need-digits-requires
+digits-requires c κs = search rules
+
+is-minus-requires : tie.Need-is-minus-requires
+is-minus-requires c κs = search rules
+
+signed-requires : tie.Need-signed-requires
+signed-requires c κs = search rules
 
 returns : tie.Need-returns
 returns c =
@@ -18,5 +39,11 @@ returns c =
 
 pub integer_value_spec : {M : Type 1} → statement M
 integer_value_spec =
-    tie.close (tie.spec (λ c κs. search rules) (λ c κs. search rules) (λ c κs. search rules)
-    (λ c κs. search rules) (λ c κs. search rules) returns)
+    tie.close
+    (tie.spec
+    prefix-length-requires
+    base-requires
+    digits-requires
+    is-minus-requires
+    signed-requires
+    returns)

@@ -1,4 +1,3 @@
--- `is_integer` meets its contract: there are no digits exactly if they end where the prefix does; then by the suffix, which leaves one byte after the digits or none. Assumes nothing.
 use mathlib.Core.Path.{sym, ◌∙◌}
 use native.Mathlib.Omega.{arith}
 use lib.ListN.{length}
@@ -7,6 +6,13 @@ use Rattle.lexer.specs.Integer.{integer_digits}
 use borrow.Author.Rules.{rules}
 use Rattle.lexer.proofs.integer.is_integer.Statement.{statement}
 use Rattle.lexer.proofs.integer.is_integer.Tie as tie
+use Rattle.lexer.proofs.integer.is_integer.Reads as reads
+use Rattle.lexer.proofs.integer.is_integer.Lts as lts
+use Rattle.lexer.proofs.integer.prefix_length.Reads as prefix-length-reads
+use Rattle.lexer.proofs.run.rest.Reads as rest-reads
+
+prefix-length-requires : tie.Need-prefix-length-requires
+prefix-length-requires c κs = search rules
 
 returns : tie.Need-returns
 returns c =
@@ -14,6 +20,9 @@ returns c =
     let p = c.before.before.before.requires in
     let d = eq-eqb (length (integer_digits run)) 0 (omega (arith, p.0, c.before.prefix-length.ensures.0, c.if1.true)) in
     rw d
+
+rest-requires : tie.Need-rest-requires
+rest-requires c κs = search rules
 
 returns_2 : tie.Need-returns-2
 returns_2 c =
@@ -33,4 +42,4 @@ returns_3 c =
 
 pub is_integer_spec : {M : Type 1} → statement M
 is_integer_spec =
-    tie.close (tie.spec (λ c κs. search rules) returns (λ c κs. search rules) returns_2 returns_3)
+    tie.close (tie.spec prefix-length-requires returns rest-requires returns_2 returns_3)

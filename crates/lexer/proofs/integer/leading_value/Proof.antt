@@ -1,5 +1,3 @@
--- `leading_value` meets its contract: a run that starts with 1..9 has no sign and no prefix, so its digits are those of the text; where the cap changes their value, 64 bits do not hold it.
--- Assumes nothing.
 use mathlib.Core.Path.{ap, ◌∙◌}
 use mathlib.Core.Bool.{false}
 use mir.Syntax.{w64}
@@ -12,6 +10,16 @@ use Rattle.lexer.proofs.Scans.{leading_integer}
 use borrow.Author.Rules.{rules}
 use Rattle.lexer.proofs.integer.leading_value.Statement.{statement}
 use Rattle.lexer.proofs.integer.leading_value.Tie as tie
+use Rattle.lexer.proofs.integer.leading_value.Reads as reads
+use Rattle.lexer.proofs.integer.leading_value.Lts as lts
+use Rattle.lexer.proofs.digits.digits.Reads as digits-reads
+use Rattle.lexer.proofs.integer.signed.Reads as signed-Reads
+
+digits-requires : tie.Need-digits-requires
+digits-requires c κs = search rules
+
+signed-requires : tie.Need-signed-requires
+signed-requires c κs = search rules
 
 returns : tie.Need-returns
 returns c =
@@ -24,4 +32,4 @@ returns c =
     ∙ ap held (leading_integer s t.args.at t.requires.0 t.requires.1)
 
 pub leading_value_spec : {M : Type 1} → statement M
-leading_value_spec = tie.close (tie.spec (λ c κs. search rules) (λ c κs. search rules) returns)
+leading_value_spec = tie.close (tie.spec digits-requires signed-requires returns)

@@ -1,4 +1,3 @@
--- `fraction_digits` meets its contract: digits read on from the capped value of those before the point have the capped value of both parts together. Assumes nothing.
 use mathlib.Core.Path.{◌∙◌}
 use native.Mathlib.Omega.{arith}
 use lib.Dec.{lit<, lit≤}
@@ -6,6 +5,15 @@ use Rattle.lexer.specs.Real.{whole_digits, fraction_digits}
 use Rattle.lexer.proofs.Decimals.{after_point, point_fits, whole_parts}
 use Rattle.lexer.proofs.real.fraction_digits.Statement.{statement}
 use Rattle.lexer.proofs.real.fraction_digits.Tie as tie
+use Rattle.lexer.proofs.real.fraction_digits.Reads as reads
+use Rattle.lexer.proofs.real.fraction_digits.Lts as lts
+use Rattle.lexer.proofs.digits.digits.Reads as digits-reads
+
+add_digits : tie.Need-overflow-add-digits
+add_digits c = omega (arith, c.before.before.requires.0, point_fits c.before.before.args.run.now)
+
+digits-requires : tie.Need-digits-requires
+digits-requires c κs = (lit< tt, lit≤ tt, omega (arith, c.before.before.requires.1))
 
 returns : tie.Need-returns
 returns c =
@@ -16,7 +24,4 @@ returns c =
     (e, f ∙ whole_parts 10 (whole_digits run) (fraction_digits run) (lit< tt))
 
 pub fraction_digits_spec : {M : Type 1} → statement M
-fraction_digits_spec =
-    tie.close (tie.spec
-    (λ c. omega (arith, c.before.before.requires.0, point_fits c.before.before.args.run.now))
-    (λ c κs. (lit< tt, lit≤ tt, omega (arith, c.before.before.requires.1))) returns)
+fraction_digits_spec = tie.close (tie.spec add_digits digits-requires returns)

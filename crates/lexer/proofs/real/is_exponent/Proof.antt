@@ -1,4 +1,3 @@
--- `is_exponent` meets its contract: there are no digits exactly if they end where the sign does, and what the definition drops in two steps is dropped in one. Assumes nothing.
 use mathlib.Core.Path.{sym}
 use lib.ListN.{length}
 use lib.Seq.{drop-drop}
@@ -7,6 +6,24 @@ use Rattle.lexer.proofs.Decimals.{same_place}
 use borrow.Author.Rules.{rules}
 use Rattle.lexer.proofs.real.is_exponent.Statement.{statement}
 use Rattle.lexer.proofs.real.is_exponent.Tie as tie
+use Rattle.lexer.proofs.real.is_exponent.Reads as reads
+use Rattle.lexer.proofs.real.is_exponent.Lts as lts
+use Rattle.lexer.proofs.real.exponent_digits.Reads as exponent-digits-reads
+use Rattle.lexer.proofs.real.sign_end.Reads as sign-end-reads
+use Rattle.lexer.proofs.run.byte_at.Reads as byte-at-reads
+use Rattle.lexer.proofs.run.rest.Reads as rest-reads
+
+byte-at-requires : tie.Need-byte-at-requires
+byte-at-requires c κs = search rules
+
+sign-end-requires : tie.Need-sign-end-requires
+sign-end-requires c κs = search rules
+
+exponent-digits-requires : tie.Need-exponent-digits-requires
+exponent-digits-requires c κs = search rules
+
+rest-requires : tie.Need-rest-requires
+rest-requires c κs = search rules
 
 returns : tie.Need-returns
 returns c =
@@ -17,5 +34,5 @@ returns c =
 
 pub is_exponent_spec : {M : Type 1} → statement M
 is_exponent_spec =
-    tie.close (tie.spec (λ c κs. search rules) (λ c κs. search rules) (λ c κs. search rules)
-    (λ c κs. search rules) returns)
+    tie.close
+    (tie.spec byte-at-requires sign-end-requires exponent-digits-requires rest-requires returns)

@@ -1,8 +1,9 @@
--- `no_number` meets its contract: zero divided by zero is NaN by computing. Assumes nothing.
 use mathlib.Core.Path.{refl}
 use lib.Ieee.{div, of_bits}
 use Rattle.lexer.proofs.real.no_number.Statement.{statement}
 use Rattle.lexer.proofs.real.no_number.Tie as tie
+use Rattle.lexer.proofs.real.no_number.Reads as reads
+use Rattle.lexer.proofs.real.no_number.Lts as lts
 
 returns : tie.Need-returns
 unfolding div of_bits

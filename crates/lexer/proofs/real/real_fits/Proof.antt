@@ -1,4 +1,3 @@
--- `real_fits` meets its contract: by the count of the exponent's digits; a whole number has at most 15 digits without leading zeros exactly if it is below 10^15. Assumes nothing.
 use mathlib.Core.Path.{◌≡◌, ◌∙◌, ap}
 use native.Mathlib.Omega.{arith}
 use Prim.Native.Nat.{ℕ, ◌+◌}
@@ -9,6 +8,12 @@ use Rattle.lexer.proofs.Decimals.{from_exponent, fifteen_capped, real_decimal}
 use borrow.Author.Rules.{rules}
 use Rattle.lexer.proofs.real.real_fits.Statement.{statement}
 use Rattle.lexer.proofs.real.real_fits.Tie as tie
+use Rattle.lexer.proofs.real.real_fits.Reads as reads
+use Rattle.lexer.proofs.real.real_fits.Lts as lts
+use Rattle.lexer.proofs.real.exponent_digits.Reads as exponent-digits-reads
+use Rattle.lexer.proofs.real.scale.Reads as scale-reads
+use Rattle.lexer.proofs.real.sign_end.Reads as sign-end-reads
+use Rattle.lexer.proofs.run.rest.Reads as rest-reads
 
 -- how many digits the exponent has
 count : (c : tie.After-exponent-digits)
@@ -19,6 +24,18 @@ count c =
     let n = rw e at c.before.sign-end.ensures.0 in
     let d = rw e at c.exponent-digits.ensures.0 in
     omega (arith, n, d)
+
+rest-requires : tie.Need-rest-requires
+rest-requires c κs = search rules
+
+sign-end-requires : tie.Need-sign-end-requires
+sign-end-requires c κs = search rules
+
+exponent-digits-requires : tie.Need-exponent-digits-requires
+exponent-digits-requires c κs = search rules
+
+add_if1 : tie.Need-overflow-add-if1
+add_if1 c = search rules
 
 returns : tie.Need-returns
 returns c =
@@ -40,5 +57,12 @@ returns_2 c =
 
 pub real_fits_spec : {M : Type 1} → statement M
 real_fits_spec =
-    tie.close (tie.spec (λ c κs. search rules) (λ c κs. search rules) (λ c κs. search rules)
-    (λ c. search rules) returns scale_requires returns_2)
+    tie.close
+    (tie.spec
+    rest-requires
+    sign-end-requires
+    exponent-digits-requires
+    add_if1
+    returns
+    scale_requires
+    returns_2)

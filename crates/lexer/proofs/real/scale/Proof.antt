@@ -1,4 +1,3 @@
--- `scale` meets its contract: by the exponent's sign, then by whether it is below the count of fraction digits; an exponent of three digits is below 1,000, so it is not capped. Assumes nothing.
 use mathlib.Core.Path.{◌≡◌, ◌∙◌, sym, ap}
 use native.Mathlib.Omega.{arith}
 use Prim.Native.Nat.{ℕ, ◌+◌, ◌-◌, ◌<◌}
@@ -9,6 +8,11 @@ use Rattle.lexer.proofs.Decimals.{from_exponent, fraction_fits, scale_down, scal
 use borrow.Author.Rules.{rules}
 use Rattle.lexer.proofs.real.scale.Statement.{statement}
 use Rattle.lexer.proofs.real.scale.Tie as tie
+use Rattle.lexer.proofs.real.scale.Reads as reads
+use Rattle.lexer.proofs.real.scale.Lts as lts
+use Rattle.lexer.proofs.real.exponent_digits.Reads as exponent-digits-reads
+use Rattle.lexer.proofs.real.is_down.Reads as is-down-reads
+use Rattle.lexer.proofs.run.rest.Reads as rest-reads
 
 -- the part after the fraction, its exponent, which is not capped, and the count of fraction digits
 part : (c : tie.After-rest) → c.rest.result.now ≡ exponent_part c.before.before.args.run.now
@@ -28,6 +32,21 @@ small c =
 count : (c : tie.Start) → c.args.exponent - (c.args.point + 1) ≡ length (fraction_digits c.args.run.now)
 count c = omega (arith, c.requires.1, c.requires.2)
 
+rest-requires : tie.Need-rest-requires
+rest-requires c κs = search rules
+
+exponent-digits-requires : tie.Need-exponent-digits-requires
+exponent-digits-requires c κs = search rules
+
+add_n : tie.Need-overflow-add-n
+add_n c = search rules
+
+sub-n : tie.Need-overflow-sub-n
+sub-n c = search rules
+
+is-down-requires : tie.Need-is-down-requires
+is-down-requires c κs = search rules
+
 add_size : tie.Need-overflow-add-size
 add_size c =
     let s = c.before.before.before.before.before in
@@ -38,6 +57,9 @@ returns c =
     let run = c.before.before.before.before.before.args.run.now in
     let d = sym (rw (part c.before.before.before) at c.before.is_down.ensures) ∙ c.if1.true in
     scale_down (is_down (exponent_part run)) (whole_of 10 (exponent_digits (exponent_part run))) (length (fraction_digits run)) _ _ (small c.before.before).0 (count c.before.before.before.before.before) d
+
+sub-t14 : tie.Need-overflow-sub-t14
+sub-t14 c = search rules
 
 returns_2 : tie.Need-returns-2
 returns_2 c =
@@ -53,6 +75,15 @@ returns_3 c =
 
 pub scale_spec : {M : Type 1} → statement M
 scale_spec =
-    tie.close (tie.spec (λ c κs. search rules) (λ c κs. search rules) (λ c. search rules)
-    (λ c. search rules) (λ c κs. search rules) add_size returns (λ c. search rules) returns_2
+    tie.close
+    (tie.spec
+    rest-requires
+    exponent-digits-requires
+    add_n
+    sub-n
+    is-down-requires
+    add_size
+    returns
+    sub-t14
+    returns_2
     returns_3)

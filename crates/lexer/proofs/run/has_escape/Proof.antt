@@ -1,4 +1,3 @@
--- `has_escape` meets its contract: the loop keeps that there is a backslash from i on exactly if there is one at all. Assumes nothing.
 use Prim.Native.Nat.{◌≤◌, ◌-◌}
 use mathlib.Core.Path.{◌≡◌, refl, ◌∙◌}
 use native.Mathlib.Omega.{arith}
@@ -8,6 +7,8 @@ use Rattle.lexer.proofs.Runs.{escape_here, escape_later, no_escape}
 use borrow.Author.Rules.{rules}
 use Rattle.lexer.proofs.run.has_escape.Statement.{statement}
 use Rattle.lexer.proofs.run.has_escape.Tie as tie
+use Rattle.lexer.proofs.run.has_escape.Reads as reads
+use Rattle.lexer.proofs.run.has_escape.Lts as lts
 
 abbrev invariant_loop : tie.invariant_loop
 invariant_loop run i₀ i = (i ≤ length run) × (has_escape (drop i run) ≡ has_escape run)
@@ -15,9 +16,21 @@ invariant_loop run i₀ i = (i ≤ length run) × (has_escape (drop i run) ≡ h
 abbrev decreases_loop : tie.decreases_loop
 decreases_loop run i₀ i = length run - i
 
+loop_holds : tie.Need-loop-init invariant_loop decreases_loop
+loop_holds c = (omega arith, refl)
+
+shared_slice_read_if1 : tie.Need-shared-slice-read-if1 invariant_loop decreases_loop
+shared_slice_read_if1 c = search rules
+
 returns : tie.Need-returns invariant_loop decreases_loop
 returns c =
     escape_here c.before.before.before.before.args.run.now c.before.before.before.loop.i (omega arith) c.if1.true ∙ c.before.before.before.loop.invariant.1
+
+add_i : tie.Need-overflow-add-i invariant_loop decreases_loop
+add_i c = search rules
+
+loop_less : tie.Need-loop-smaller invariant_loop decreases_loop
+loop_less c = search rules
 
 loop_again : tie.Need-loop-preserved invariant_loop decreases_loop
 loop_again c =
@@ -28,5 +41,14 @@ returns_2 c = no_escape c.before.before.args.run.now c.before.loop.i (omega arit
 
 pub has_escape_spec : {M : Type 1} → statement M
 has_escape_spec =
-    tie.close (tie.spec invariant_loop decreases_loop (λ c. (omega arith, refl)) (λ c. search rules) returns
-    (λ c. search rules) (λ c. search rules) loop_again returns_2)
+    tie.close
+    (tie.spec
+    invariant_loop
+    decreases_loop
+    loop_holds
+    shared_slice_read_if1
+    returns
+    add_i
+    loop_less
+    loop_again
+    returns_2)

@@ -1,4 +1,3 @@
--- `measure_name` meets its contract: the loop keeps that length, unescaped length and legality so far, joined with those of the name from i on, are those of the whole name. Assumes nothing.
 use Prim.Native.Nat.{◌≤◌, ◌-◌, ◌+◌}
 use mathlib.Core.Path.{◌≡◌, sym, ap, ◌∙◌}
 use mathlib.Core.Bool.{true, false, ◌&&◌}
@@ -9,6 +8,11 @@ use Rattle.lexer.proofs.Runs.{passes_length, run_stop, run_more, run_end, droppe
 use borrow.Author.Rules.{rules}
 use Rattle.lexer.proofs.run.measure_name.Statement.{statement}
 use Rattle.lexer.proofs.run.measure_name.Tie as tie
+use Rattle.lexer.proofs.run.measure_name.Reads as reads
+use Rattle.lexer.proofs.run.measure_name.Lts as lts
+use Rattle.lexer.proofs.run.ends.Reads as ends-reads
+use Rattle.lexer.proofs.run.legal_byte.Reads as legal-byte-reads
+use Rattle.lexer.proofs.run.takes.Reads as takes-reads
 
 abbrev invariant_loop : tie.invariant_loop
 invariant_loop s first legal₀ n₀ taken₀ i₀ legal n taken i =
@@ -26,6 +30,12 @@ loop_holds c =
     let g = c.before.requires in
     (g.0.0, omega arith, g.0.1, passes_length 0 c.before.args.s.now c.before.args.first g.0, g.1)
 
+shared_slice_read_b : tie.Need-shared-slice-read-b invariant_loop decreases_loop
+shared_slice_read_b c = search rules
+
+ends_requires : tie.Need-ends-requires invariant_loop decreases_loop
+ends_requires c κs = search rules
+
 returns : tie.Need-returns invariant_loop decreases_loop
 returns c =
     let s = c.before.before.before.before.before.before.args.s.now in
@@ -35,6 +45,18 @@ returns c =
     let p = plain_stop s l.i (omega arith) 0 l.taken e in
     let y = legal_stop s l.i (omega arith) 0 l.taken e in
     (omega (arith, z, l.invariant.2), omega (arith, ap length p, l.invariant.3), (rw y at l.invariant.4))
+
+legal-byte-requires : tie.Need-legal-byte-requires invariant_loop decreases_loop
+legal-byte-requires c κs = search rules
+
+add_i : tie.Need-overflow-add-i invariant_loop decreases_loop
+add_i c = search rules
+
+takes-requires : tie.Need-takes-requires invariant_loop decreases_loop
+takes-requires c κs = search rules
+
+loop_less : tie.Need-loop-smaller invariant_loop decreases_loop
+loop_less c = search rules
 
 loop_again : tie.Need-loop-preserved invariant_loop decreases_loop
 loop_again c =
@@ -46,6 +68,12 @@ loop_again c =
     let d = dropped s l.i (omega arith) 0 l.taken e g in
     let y = legal-so-far s l.i (omega arith) 0 l.taken e l.legal true g in
     (omega arith, omega arith, omega (arith, (rw g at m), l.invariant.2), omega (arith, ap length d, l.invariant.3), rw c.before.before.legal-byte.ensures (y ∙ l.invariant.4))
+
+add_n : tie.Need-overflow-add-n invariant_loop decreases_loop
+add_n c = search rules
+
+loop_less_2 : tie.Need-loop-smaller-2 invariant_loop decreases_loop
+loop_less_2 c = search rules
 
 loop_again_2 : tie.Need-loop-preserved-2 invariant_loop decreases_loop
 loop_again_2 c =
@@ -69,6 +97,20 @@ returns_2 c =
 
 pub measure_name_spec : {M : Type 1} → statement M
 measure_name_spec =
-    tie.close (tie.spec invariant_loop decreases_loop loop_holds (λ c. search rules) (λ c κs. search rules)
-    returns (λ c κs. search rules) (λ c. search rules) (λ c κs. search rules) (λ c. search rules)
-    loop_again (λ c. search rules) (λ c. search rules) loop_again_2 returns_2)
+    tie.close
+    (tie.spec
+    invariant_loop
+    decreases_loop
+    loop_holds
+    shared_slice_read_b
+    ends_requires
+    returns
+    legal-byte-requires
+    add_i
+    takes-requires
+    loop_less
+    loop_again
+    add_n
+    loop_less_2
+    loop_again_2
+    returns_2)

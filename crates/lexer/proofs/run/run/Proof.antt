@@ -1,4 +1,3 @@
--- `run` meets its contract: a run is a prefix of the bytes from the offset on, so the slice of its length is within them and is the run. Assumes nothing.
 use mathlib.Core.Path.{◌∙◌, ap}
 use mathlib.Core.Bool.{false}
 use native.Mathlib.Omega.{arith}
@@ -7,6 +6,22 @@ use Rattle.lexer.proofs.Runs.{run_first, first_part, first_fits}
 use borrow.Author.Rules.{rules}
 use Rattle.lexer.proofs.run.run.Statement.{statement}
 use Rattle.lexer.proofs.run.run.Tie as tie
+use Rattle.lexer.proofs.run.run.Reads as reads
+use Rattle.lexer.proofs.run.run.Lts as lts
+use Rattle.lexer.proofs.run.rest.Reads as rest-reads
+use Rattle.lexer.proofs.run.run_length.Reads as run-length-reads
+
+rest-requires : tie.Need-rest-requires
+rest-requires c κs = search rules
+
+run-length-requires : tie.Need-run-length-requires
+run-length-requires c κs = search rules
+
+sub_result : tie.Need-overflow-sub-result
+sub_result c = search rules
+
+part-result-start : tie.Need-slice-bounds-result-start
+part-result-start c = search rules
 
 part_result_end : tie.Need-slice-bounds-result-end
 part_result_end c =
@@ -22,5 +37,11 @@ returns c =
 
 pub run_spec : {M : Type 1} → statement M
 run_spec =
-    tie.close (tie.spec (λ c κs. search rules) (λ c κs. search rules) (λ c. search rules)
-    (λ c. search rules) part_result_end returns)
+    tie.close
+    (tie.spec
+    rest-requires
+    run-length-requires
+    sub_result
+    part-result-start
+    part_result_end
+    returns)

@@ -1,4 +1,3 @@
--- `either` meets its contract: by whether the second byte is the one asked for; its index fits since the offset is at most 4,096. Assumes nothing.
 use mathlib.Core.Path.{sym, ◌∙◌}
 use Prim.Native.Nat.{◌+◌}
 use lib.ListN.{get_or}
@@ -6,6 +5,15 @@ use borrow.Author.Tests.{eq-eqb, ne_eqb}
 use borrow.Author.Rules.{rules}
 use Rattle.lexer.proofs.symbol.either.Statement.{statement}
 use Rattle.lexer.proofs.symbol.either.Tie as tie
+use Rattle.lexer.proofs.symbol.either.Reads as reads
+use Rattle.lexer.proofs.symbol.either.Lts as lts
+use Rattle.lexer.proofs.run.byte_at.Reads as byte-at-reads
+
+add-byte-at : tie.Need-overflow-add-byte-at
+add-byte-at c = search rules
+
+byte-at-requires : tie.Need-byte-at-requires
+byte-at-requires c κs = search rules
 
 returns : tie.Need-returns
 returns c =
@@ -18,4 +26,4 @@ returns_2 c =
     rw (ne_eqb (get_or a.text.now (a.at + 1) 0) a.second (λ z. c.if1.false (c.before.byte_at.ensures ∙ z)))
 
 pub either_spec : {M : Type 1} → statement M
-either_spec = tie.close (tie.spec (λ c. search rules) (λ c κs. search rules) returns returns_2)
+either_spec = tie.close (tie.spec add-byte-at byte-at-requires returns returns_2)

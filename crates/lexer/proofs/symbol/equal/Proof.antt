@@ -1,4 +1,3 @@
--- `equal` meets its contract: by the second byte: two equals signs are a symbol by computing, and one before any other byte is none. Assumes nothing.
 use mathlib.Core.Path.{◌≡◌, sym, ◌∙◌}
 use Prim.Native.Nat.{◌+◌}
 use lib.ListN.{get_or}
@@ -6,6 +5,18 @@ use borrow.Author.Tests.{ne_eqb}
 use borrow.Author.Rules.{rules}
 use Rattle.lexer.proofs.symbol.equal.Statement.{statement}
 use Rattle.lexer.proofs.symbol.equal.Tie as tie
+use Rattle.lexer.proofs.symbol.equal.Reads as reads
+use Rattle.lexer.proofs.symbol.equal.Lts as lts
+use Rattle.lexer.proofs.run.byte_at.Reads as byte-at-reads
+
+add-byte-at : tie.Need-overflow-add-byte-at
+add-byte-at c = search rules
+
+byte-at-requires : tie.Need-byte-at-requires
+byte-at-requires c κs = search rules
+
+returns : tie.Need-returns
+returns c = rw (sym c.before.byte_at.ensures ∙ c.if1.true)
 
 returns_2 : tie.Need-returns-2
 returns_2 c =
@@ -15,6 +26,4 @@ returns_2 c =
     rw (ne_eqb b 61 n, ne_eqb 61 b (λ z. n (sym z)))
 
 pub equal_spec : {M : Type 1} → statement M
-equal_spec =
-    tie.close (tie.spec (λ c. search rules) (λ c κs. search rules)
-    (λ c. rw (sym c.before.byte_at.ensures ∙ c.if1.true)) returns_2)
+equal_spec = tie.close (tie.spec add-byte-at byte-at-requires returns returns_2)

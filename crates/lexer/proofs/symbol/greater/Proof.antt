@@ -1,4 +1,3 @@
--- `greater` meets its contract: by the second byte, then the third: what `either` promises, with an equals sign or alone, where the byte is not doubled; else two or three of it. Assumes nothing.
 use mathlib.Core.Path.{◌≡◌, sym, ◌∙◌}
 use Prim.Native.Nat.{◌+◌}
 use native.Mathlib.Omega.{arith}
@@ -8,6 +7,19 @@ use Rattle.lexer.proofs.Symbols.{equalled}
 use borrow.Author.Rules.{rules}
 use Rattle.lexer.proofs.symbol.greater.Statement.{statement}
 use Rattle.lexer.proofs.symbol.greater.Tie as tie
+use Rattle.lexer.proofs.symbol.greater.Reads as reads
+use Rattle.lexer.proofs.symbol.greater.Lts as lts
+use Rattle.lexer.proofs.run.byte_at.Reads as byte-at-reads
+use Rattle.lexer.proofs.symbol.either.Reads as either-reads
+
+add-byte-at : tie.Need-overflow-add-byte-at
+add-byte-at c = search rules
+
+byte-at-requires : tie.Need-byte-at-requires
+byte-at-requires c κs = search rules
+
+either-requires : tie.Need-either-requires
+either-requires c κs = search rules
 
 returns : tie.Need-returns
 returns c =
@@ -15,6 +27,12 @@ returns c =
     let b = get_or a.text.now (a.at + 1) 0 in
     let n : b ≡ 62 → ⊥ = λ z. c.before.if1.true (c.before.before.byte_at.ensures ∙ z) in
     c.either.ensures ∙ equalled 62 b (get_or a.text.now (a.at + 2) 0) (rw (ne_eqb b 62 n)) (λ z. absurd (n (sym z))) (λ z. omega arith) (λ z. omega arith)
+
+add-byte-at-2 : tie.Need-overflow-add-byte-at-2
+add-byte-at-2 c = search rules
+
+byte-at-requires-2 : tie.Need-byte-at-requires-2
+byte-at-requires-2 c κs = search rules
 
 returns_2 : tie.Need-returns-2
 returns_2 c =
@@ -27,5 +45,13 @@ returns_3 c =
 
 pub greater_spec : {M : Type 1} → statement M
 greater_spec =
-    tie.close (tie.spec (λ c. search rules) (λ c κs. search rules) (λ c κs. search rules) returns
-    (λ c. search rules) (λ c κs. search rules) returns_2 returns_3)
+    tie.close
+    (tie.spec
+    add-byte-at
+    byte-at-requires
+    either-requires
+    returns
+    add-byte-at-2
+    byte-at-requires-2
+    returns_2
+    returns_3)

@@ -1,4 +1,3 @@
--- `less` meets its contract: by the second byte: the first byte doubled is a symbol by computing; else what `either` promises, with an equals sign or alone. Assumes nothing.
 use mathlib.Core.Path.{◌≡◌, refl, sym, ◌∙◌}
 use Prim.Native.Nat.{◌+◌}
 use native.Mathlib.Omega.{arith}
@@ -7,6 +6,22 @@ use Rattle.lexer.proofs.Symbols.{equalled}
 use borrow.Author.Rules.{rules}
 use Rattle.lexer.proofs.symbol.less.Statement.{statement}
 use Rattle.lexer.proofs.symbol.less.Tie as tie
+use Rattle.lexer.proofs.symbol.less.Reads as reads
+use Rattle.lexer.proofs.symbol.less.Lts as lts
+use Rattle.lexer.proofs.run.byte_at.Reads as byte-at-reads
+use Rattle.lexer.proofs.symbol.either.Reads as either-reads
+
+add-byte-at : tie.Need-overflow-add-byte-at
+add-byte-at c = search rules
+
+byte-at-requires : tie.Need-byte-at-requires
+byte-at-requires c κs = search rules
+
+returns : tie.Need-returns
+returns c = rw (sym c.before.byte_at.ensures ∙ c.if1.true)
+
+either-requires : tie.Need-either-requires
+either-requires c κs = search rules
 
 returns_2 : tie.Need-returns-2
 returns_2 c =
@@ -16,6 +31,4 @@ returns_2 c =
     c.either.ensures ∙ equalled 60 b 0 refl (λ z. absurd (n (sym z))) (λ z. omega arith) (λ z. omega arith)
 
 pub less_spec : {M : Type 1} → statement M
-less_spec =
-    tie.close (tie.spec (λ c. search rules) (λ c κs. search rules)
-    (λ c. rw (sym c.before.byte_at.ensures ∙ c.if1.true)) (λ c κs. search rules) returns_2)
+less_spec = tie.close (tie.spec add-byte-at byte-at-requires returns either-requires returns_2)

@@ -1,4 +1,3 @@
--- `scan_symbol` meets its contract: by the first byte: one that no byte makes longer, one that itself or an equals sign makes longer, or one that starts no symbol. Assumes nothing.
 use mathlib.Core.Path.{refl, ◌∙◌}
 use Prim.Native.Nat.{◌+◌}
 use native.Mathlib.Omega.{arith}
@@ -8,6 +7,15 @@ use Rattle.lexer.proofs.Symbols.{equalled, bytes_here, lone_here, twice_here, no
 use borrow.Author.Rules.{rules}
 use Rattle.lexer.proofs.symbol.scan_symbol.Statement.{statement}
 use Rattle.lexer.proofs.symbol.scan_symbol.Tie as tie
+use Rattle.lexer.proofs.symbol.scan_symbol.Reads as reads
+use Rattle.lexer.proofs.symbol.scan_symbol.Lts as lts
+use Rattle.lexer.proofs.symbol.either.Reads as either-reads
+use Rattle.lexer.proofs.symbol.equal.Reads as equal-reads
+use Rattle.lexer.proofs.symbol.greater.Reads as greater-reads
+use Rattle.lexer.proofs.symbol.less.Reads as less-reads
+
+shared-slice-read-a : tie.Need-shared-slice-read-a
+shared-slice-read-a c = search rules
 
 returns : tie.Need-returns
 returns c = let t = c.before.before.before.args in lone_here t.text.now t.at 40 c.match.keys1 (λ b c. refl) refl refl (λ z. omega arith)
@@ -36,31 +44,52 @@ returns_8 c = let t = c.before.before.before.args in lone_here t.text.now t.at 4
 returns_9 : tie.Need-returns-9
 returns_9 c = let t = c.before.before.before.args in lone_here t.text.now t.at 45 c.match.keys9 (λ b c. refl) refl refl (λ z. omega arith)
 
+either-requires : tie.Need-either-requires
+either-requires c κs = search rules
+
 returns_10 : tie.Need-returns-10
 returns_10 c =
     let t = c.before.before.before.before.args in
     c.either.ensures ∙ twice_here t.text.now t.at 38 c.before.match.keys10 (λ b c. refl) refl (λ z. omega arith) (λ z. omega arith) (λ z. omega arith)
+
+either-requires-2 : tie.Need-either-requires-2
+either-requires-2 c κs = search rules
 
 returns_11 : tie.Need-returns-11
 returns_11 c =
     let t = c.before.before.before.before.args in
     c.either2.ensures ∙ twice_here t.text.now t.at 94 c.before.match.keys11 (λ b c. refl) refl (λ z. omega arith) (λ z. omega arith) (λ z. omega arith)
 
+either-requires-3 : tie.Need-either-requires-3
+either-requires-3 c κs = search rules
+
 returns_12 : tie.Need-returns-12
 returns_12 c =
     let t = c.before.before.before.before.args in
     c.either3.ensures ∙ twice_here t.text.now t.at 124 c.before.match.keys12 (λ b c. refl) refl (λ z. omega arith) (λ z. omega arith) (λ z. omega arith)
+
+either-requires-4 : tie.Need-either-requires-4
+either-requires-4 c κs = search rules
 
 returns_13 : tie.Need-returns-13
 returns_13 c =
     let t = c.before.before.before.before.args in
     c.either4.ensures ∙ equalled 33 (get_or t.text.now (t.at + 1) 0) (get_or t.text.now (t.at + 2) 0) refl (λ z. refl) (λ z. omega arith) (λ z. omega arith) ∙ bytes_here t.text.now t.at 33 c.before.match.keys13
 
+equal-requires : tie.Need-equal-requires
+equal-requires c κs = search rules
+
 returns_14 : tie.Need-returns-14
 returns_14 c = let t = c.before.before.before.before.args in c.equal.ensures ∙ bytes_here t.text.now t.at 61 c.before.match.keys14
 
+less-requires : tie.Need-less-requires
+less-requires c κs = search rules
+
 returns_15 : tie.Need-returns-15
 returns_15 c = let t = c.before.before.before.before.args in c.less.ensures ∙ bytes_here t.text.now t.at 60 c.before.match.keys15
+
+greater-requires : tie.Need-greater-requires
+greater-requires c κs = search rules
 
 returns_16 : tie.Need-returns-16
 returns_16 c = let t = c.before.before.before.before.args in c.greater.ensures ∙ bytes_here t.text.now t.at 62 c.before.match.keys16
@@ -78,8 +107,30 @@ returns_17 c =
 
 pub scan_symbol_spec : {M : Type 1} → statement M
 scan_symbol_spec =
-    tie.close (tie.spec (λ c. search rules) (λ c κs. search rules) (λ c κs. search rules)
-    (λ c κs. search rules) (λ c κs. search rules) (λ c κs. search rules) (λ c κs. search rules)
-    (λ c κs. search rules) returns returns_2 returns_3 returns_4 returns_5 returns_6 returns_7
-    returns_8 returns_9 returns_10 returns_11 returns_12 returns_13 returns_14 returns_15 returns_16
+    tie.close
+    (tie.spec
+    shared-slice-read-a
+    either-requires
+    either-requires-2
+    either-requires-3
+    either-requires-4
+    equal-requires
+    less-requires
+    greater-requires
+    returns
+    returns_2
+    returns_3
+    returns_4
+    returns_5
+    returns_6
+    returns_7
+    returns_8
+    returns_9
+    returns_10
+    returns_11
+    returns_12
+    returns_13
+    returns_14
+    returns_15
+    returns_16
     returns_17)

@@ -21,10 +21,25 @@ found c =
     let a = c.before.before.before.args in
     subst (Fetches a.store.now a.number) (sym c.part_of.ensures) (fetches a.store.now a.number (λ i. (c.before.before.shared-slice-known.given i).fits))
 
+part_of_requires : tie.Need-part-of-requires
+part_of_requires c κs = search rules
+
 returns : tie.Need-returns
 returns c =
     let a = c.before.before.before.before.before.args in
     byte_free a.store.now a.notice.now a.number c.before.before.before.before.before.requires.0.right (λ e. c.if1.true (refusal_is c.before.before ∙ e))
+
+sub-verdict : tie.Need-overflow-sub-verdict
+sub-verdict c = let f = found c.before.before in omega (arith, f.0)
+
+part-verdict-start : tie.Need-slice-bounds-verdict-start
+part-verdict-start c = let f = found c.before.before in omega (arith, f.0, f.1)
+
+part-verdict-end : tie.Need-slice-bounds-verdict-end
+part-verdict-end c = let f = found c.before.before in omega (arith, f.0, f.1)
+
+verdict-requires : tie.Need-verdict-requires
+verdict-requires c κs = search rules
 
 returns_2 : tie.Need-returns-2
 returns_2 c =
@@ -36,8 +51,12 @@ returns_2 c =
 
 pub byte_of_spec : {M : Type 1} → statement M
 byte_of_spec =
-    tie.close (tie.spec (λ c κs. search rules) returns
-    (λ c. let f = found c.before.before in omega (arith, f.0))
-    (λ c. let f = found c.before.before in omega (arith, f.0, f.1))
-    (λ c. let f = found c.before.before in omega (arith, f.0, f.1)) (λ c κs. search rules)
+    tie.close
+    (tie.spec
+    part_of_requires
+    returns
+    sub-verdict
+    part-verdict-start
+    part-verdict-end
+    verdict-requires
     returns_2)

@@ -13,6 +13,15 @@ use Rattle.many.proofs.held.judge_held.Tie as tie
 well : (c : tie.After-enum-told) → noticeCheck c.before.before.before.before.before.before.before.args.notice.now ≡ WellFormed
 well c = sym c.before.before.index.ensures.0 ∙ c.enum_told.given.1
 
+index-requires : tie.Need-index-requires
+index-requires c κs = search rules
+
+enum_told : tie.Need-enum-told
+enum_told c = search rules
+
+answer_requires : tie.Need-answer-requires
+answer_requires c κs = search rules
+
 returns : tie.Need-returns
 returns c =
     let a = c.before.before.before.before.before.before.before.before.before.args in
@@ -24,6 +33,18 @@ deliver_held_requires c κs =
     let i = c.before.before.before.before.before.index in
     let w = well c.before.before.before in
     (c.before.before.before.before.before.before.before.before.before.before.requires, w, subst (λ (t : List ℕ). Indexed a.notice.now t) (sym i.ensures.1) (stood_indexed a.notice.now w _ refl), c.before.before.if1.false)
+
+answer-requires-2 : tie.Need-answer-requires-2
+answer-requires-2 c κs = search rules
+
+enum-known-layout : tie.Need-enum-known-layout
+enum-known-layout c = search rules
+
+answer-requires-3 : tie.Need-answer-requires-3
+answer-requires-3 c κs = search rules
+
+same_length : tie.Need-same-length
+same_length c = search rules
 
 returns_2 : tie.Need-returns-2
 returns_2 c =
@@ -38,6 +59,16 @@ returns_3 c =
 
 pub judge_held_spec : {M : Type 1} → statement M
 judge_held_spec =
-    tie.close (tie.spec (λ c κs. search rules) (λ c. search rules) (λ c κs. search rules) returns
-    deliver_held_requires (λ c κs. search rules) (λ c. search rules) (λ c κs. search rules)
-    (λ c. search rules) returns_2 returns_3)
+    tie.close
+    (tie.spec
+    index-requires
+    enum_told
+    answer_requires
+    returns
+    deliver_held_requires
+    answer-requires-2
+    enum-known-layout
+    answer-requires-3
+    same_length
+    returns_2
+    returns_3)

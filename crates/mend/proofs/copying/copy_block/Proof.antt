@@ -7,6 +7,51 @@ use borrow.Author.Rules.{rules}
 use Rattle.mend.proofs.copying.copy_block.Statement.{statement}
 use Rattle.mend.proofs.copying.copy_block.Tie as tie
 
+read_u64_requires : tie.Need-read-u64-requires
+read_u64_requires c κs = search rules
+
+add-read-u64 : tie.Need-overflow-add-read-u64
+add-read-u64 c = search rules
+
+read_u64_requires_2 : tie.Need-read-u64-requires-2
+read_u64_requires_2 c κs = search rules
+
+add-read-u64-2 : tie.Need-overflow-add-read-u64-2
+add-read-u64-2 c = search rules
+
+read-u64-requires-3 : tie.Need-read-u64-requires-3
+read-u64-requires-3 c κs = search rules
+
+add-read-u64-3 : tie.Need-overflow-add-read-u64-3
+add-read-u64-3 c = search rules
+
+read_u64_requires_4 : tie.Need-read-u64-requires-4
+read_u64_requires_4 c κs = search rules
+
+write_u64_requires : tie.Need-write-u64-requires
+write_u64_requires c κs = search rules
+
+add-write-u64 : tie.Need-overflow-add-write-u64
+add-write-u64 c = search rules
+
+write_u64_requires_2 : tie.Need-write-u64-requires-2
+write_u64_requires_2 c κs = search rules
+
+add-write-u64-2 : tie.Need-overflow-add-write-u64-2
+add-write-u64-2 c = search rules
+
+write-u64-requires-3 : tie.Need-write-u64-requires-3
+write-u64-requires-3 c κs = search rules
+
+add-write-u64-3 : tie.Need-overflow-add-write-u64-3
+add-write-u64-3 c = search rules
+
+write-u64-requires-4 : tie.Need-write-u64-requires-4
+write-u64-requires-4 c κs = search rules
+
+same_length : tie.Need-same-length
+same_length c = search rules
+
 returns : tie.Need-returns
 returns c =
     let a = c.before.before.before.before.before.before.before.before.before.before.before.before.before.before.before.before.before.before.before.before.before.before.args in
@@ -25,7 +70,21 @@ returns c =
 
 pub copy_block_spec : {M : Type 1} → statement M
 copy_block_spec =
-    tie.close (tie.spec (λ c κs. search rules) (λ c. search rules) (λ c κs. search rules)
-    (λ c. search rules) (λ c κs. search rules) (λ c. search rules) (λ c κs. search rules)
-    (λ c κs. search rules) (λ c. search rules) (λ c κs. search rules) (λ c. search rules)
-    (λ c κs. search rules) (λ c. search rules) (λ c κs. search rules) (λ c. search rules) returns)
+    tie.close
+    (tie.spec
+    read_u64_requires
+    add-read-u64
+    read_u64_requires_2
+    add-read-u64-2
+    read-u64-requires-3
+    add-read-u64-3
+    read_u64_requires_4
+    write_u64_requires
+    add-write-u64
+    write_u64_requires_2
+    add-write-u64-2
+    write-u64-requires-3
+    add-write-u64-3
+    write-u64-requires-4
+    same_length
+    returns)

@@ -14,6 +14,12 @@ invariant_loop buffer₀ at s last i₀ buffer i = (i ≤ last + 31) × (length 
 abbrev decreases_loop : tie.decreases_loop
 decreases_loop buffer₀ at s last i₀ buffer i = last - i
 
+sub-last : tie.Need-overflow-sub-last invariant_loop decreases_loop
+sub-last c = c.before.before.requires.0
+
+loop_holds : tie.Need-loop-init invariant_loop decreases_loop
+loop_holds c = (omega arith, refl, refl)
+
 add_copy_block : tie.Need-overflow-add-copy-block invariant_loop decreases_loop
 add_copy_block c = omega (arith, c.before.loop-test.true, c.before.before.before.before.before.requires.1)
 
@@ -22,6 +28,9 @@ copy_block_requires c κs = (omega (arith, c.before.loop-test.true, c.before.bef
 
 add_i : tie.Need-overflow-add-i invariant_loop decreases_loop
 add_i c = omega (arith, c.before.before.before.before.loop-test.true, c.before.before.before.before.before.before.before.before.requires.1)
+
+loop_less : tie.Need-loop-smaller invariant_loop decreases_loop
+loop_less c = omega (arith, c.before.before.before.before.loop-test.true)
 
 loop_again : tie.Need-loop-preserved invariant_loop decreases_loop
 loop_again c =
@@ -48,7 +57,18 @@ returns c =
 
 pub copy_long_spec : {M : Type 1} → statement M
 copy_long_spec =
-    tie.close (tie.spec invariant_loop decreases_loop (λ c. c.before.before.requires.0)
-    (λ c. (omega arith, refl, refl)) add_copy_block copy_block_requires add_i
-    (λ c. omega (arith, c.before.before.before.before.loop-test.true)) loop_again
-    add_copy_block_2 copy_block_requires_2 same_length returns)
+    tie.close
+    (tie.spec
+    invariant_loop
+    decreases_loop
+    sub-last
+    loop_holds
+    add_copy_block
+    copy_block_requires
+    add_i
+    loop_less
+    loop_again
+    add_copy_block_2
+    copy_block_requires_2
+    same_length
+    returns)

@@ -18,6 +18,12 @@ name_size_requires c κs = let l = right_lies c.before.args.bytes.now c.before.a
 add_value : tie.Need-overflow-add-value
 add_value c = let l = right_lies c.before.before.args.bytes.now c.before.before.args.at c.before.before.requires in omega (arith, l.room, l.within)
 
+sub_result : tie.Need-overflow-sub-result
+sub_result c = search rules
+
+part-result-start : tie.Need-slice-bounds-result-start
+part-result-start c = search rules
+
 part_result_end : tie.Need-slice-bounds-result-end
 part_result_end c = let l = right_lies c.before.before.args.bytes.now c.before.before.args.at c.before.before.requires in omega (arith, l.room, l.within)
 
@@ -30,5 +36,12 @@ returns c =
 
 pub name_at_spec : {M : Type 1} → statement M
 name_at_spec =
-    tie.close (tie.spec add_name name_size_requires add_value (λ c. search rules)
-    (λ c. search rules) part_result_end returns)
+    tie.close
+    (tie.spec
+    add_name
+    name_size_requires
+    add_value
+    sub_result
+    part-result-start
+    part_result_end
+    returns)

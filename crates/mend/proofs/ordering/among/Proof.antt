@@ -6,6 +6,9 @@ use borrow.Author.Rules.{rules}
 use Rattle.mend.proofs.ordering.among.Statement.{statement}
 use Rattle.mend.proofs.ordering.among.Tie as tie
 
+repeated-requires : tie.Need-repeated-requires
+repeated-requires c κs = search rules
+
 returns : tie.Need-returns
 returns c =
     let a = c.before.before.before.args in
@@ -22,4 +25,4 @@ returns_3 c =
     is_kept a.bytes.now a.order.now a.n c.before.before.before.before.requires.1 (name_at a.bytes.now a.at) a.place c.before.before.before.before.requires.2 (sym c.before.before.repeated.ensures ∙ c.before.if1.false) c.if2.false
 
 pub among_spec : {M : Type 1} → statement M
-among_spec = tie.close (tie.spec (λ c κs. search rules) returns returns_2 returns_3)
+among_spec = tie.close (tie.spec repeated-requires returns returns_2 returns_3)

@@ -12,6 +12,15 @@ use Rattle.mend.proofs.ordering.comes_last.Tie as tie
 returns : tie.Need-returns
 returns c = let a = c.before.before.args in none_before a.bytes.now a.order.now a.n c.before.before.requires.1 (name_at a.bytes.now a.at) c.if1.true
 
+sub-name-before : tie.Need-overflow-sub-name-before
+sub-name-before c = search rules
+
+mul_name_before : tie.Need-overflow-mul-name-before
+mul_name_before c = search rules
+
+element_copy_out_name_before : tie.Need-element-copy-out-name-before
+element_copy_out_name_before c = search rules
+
 cast_name_before : tie.Need-overflow-cast-name-before
 cast_name_before c =
     let a = c.before.before.before.args in
@@ -30,5 +39,12 @@ returns_2 c =
 
 pub comes_last_spec : {M : Type 1} → statement M
 comes_last_spec =
-    tie.close (tie.spec returns (λ c. search rules) (λ c. search rules) (λ c. search rules)
-    cast_name_before name_before_requires returns_2)
+    tie.close
+    (tie.spec
+    returns
+    sub-name-before
+    mul_name_before
+    element_copy_out_name_before
+    cast_name_before
+    name_before_requires
+    returns_2)

@@ -20,6 +20,27 @@ decreases_loop order₀ n place i₀ order i = i
 loop_holds : tie.Need-loop-init invariant_loop decreases_loop
 loop_holds c = let z : c.args.n - c.args.n ≡ 0 = omega arith in (omega arith, omega arith, refl, rw z)
 
+sub-i : tie.Need-overflow-sub-i invariant_loop decreases_loop
+sub-i c = search rules
+
+mul-order : tie.Need-overflow-mul-order invariant_loop decreases_loop
+mul-order c = search rules
+
+element-copy-out-order : tie.Need-element-copy-out-order invariant_loop decreases_loop
+element-copy-out-order c = search rules
+
+add-order : tie.Need-overflow-add-order invariant_loop decreases_loop
+add-order c = search rules
+
+mul-order-2 : tie.Need-overflow-mul-order-2 invariant_loop decreases_loop
+mul-order-2 c = search rules
+
+element-write-order : tie.Need-element-write-order invariant_loop decreases_loop
+element-write-order c = search rules
+
+loop_less : tie.Need-loop-smaller invariant_loop decreases_loop
+loop_less c = search rules
+
 loop_again : tie.Need-loop-preserved invariant_loop decreases_loop
 loop_again c =
     let a = c.before.before.before.args in
@@ -40,6 +61,17 @@ returns c =
 
 pub make_place_spec : {M : Type 1} → statement M
 make_place_spec =
-    tie.close (tie.spec invariant_loop decreases_loop loop_holds (λ c. search rules) (λ c. search rules)
-    (λ c. search rules) (λ c. search rules) (λ c. search rules) (λ c. search rules)
-    (λ c. search rules) loop_again returns)
+    tie.close
+    (tie.spec
+    invariant_loop
+    decreases_loop
+    loop_holds
+    sub-i
+    mul-order
+    element-copy-out-order
+    add-order
+    mul-order-2
+    element-write-order
+    loop_less
+    loop_again
+    returns)

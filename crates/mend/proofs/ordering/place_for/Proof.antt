@@ -24,6 +24,9 @@ loop_holds c =
     let a = c.before.args in
     (omega arith, place_within a.bytes.now a.order.now a.n c.before.requires.1 (name_at a.bytes.now a.at), omega arith)
 
+sub-middle : tie.Need-overflow-sub-middle invariant_loop decreases_loop
+sub-middle c = omega (arith, c.loop-test.true)
+
 add_middle : tie.Need-overflow-add-middle invariant_loop decreases_loop
 add_middle c = omega (arith, c.loop-test.true, c.before.loop.invariant, c.before.before.before.requires.1.few)
 
@@ -43,6 +46,12 @@ there c =
 cast_name_before : tie.Need-overflow-cast-name-before invariant_loop decreases_loop
 cast_name_before c = let l = right_lies c.before.before.before.before.args.bytes.now _ (there c.before) in omega (arith, l.within)
 
+name_before_requires : tie.Need-name-before-requires invariant_loop decreases_loop
+name_before_requires c κs = (c.before.before.before.before.requires.0, there c.before)
+
+loop_less : tie.Need-loop-smaller invariant_loop decreases_loop
+loop_less c = omega (arith, c.before.before.before.loop-test.true)
+
 loop_again : tie.Need-loop-preserved invariant_loop decreases_loop
 loop_again c =
     let a = c.before.before.before.before.before.before.args in
@@ -53,6 +62,9 @@ loop_again c =
 add_low : tie.Need-overflow-add-low invariant_loop decreases_loop
 add_low c = omega (arith, c.before.before.before.loop-test.true, c.before.before.before.before.loop.invariant, c.before.before.before.before.before.before.requires.1.few)
 
+loop_less_2 : tie.Need-loop-smaller-2 invariant_loop decreases_loop
+loop_less_2 c = omega (arith, c.before.before.before.loop-test.true)
+
 loop_again_2 : tie.Need-loop-preserved-2 invariant_loop decreases_loop
 loop_again_2 c =
     let a = c.before.before.before.before.before.before.args in
@@ -60,11 +72,25 @@ loop_again_2 c =
     let n = after a.bytes.now a.order.now a.n c.before.before.before.before.before.before.requires.1 (name_at a.bytes.now a.at) (l.low + (l.high - l.low) / 2) (omega (arith, c.before.before.before.loop-test.true, l.invariant)) (sym c.before.name-before.ensures ∙ c.if1.false) in
     (omega arith, l.invariant.1, l.invariant.2)
 
+returns : tie.Need-returns invariant_loop decreases_loop
+returns c = omega (arith, c.loop-test.false, c.before.loop.invariant)
+
 pub place_for_spec : {M : Type 1} → statement M
 place_for_spec =
-    tie.close (tie.spec invariant_loop decreases_loop loop_holds (λ c. omega (arith, c.loop-test.true))
-    add_middle mul_name_before element_copy_out_name_before cast_name_before
-    (λ c κs. (c.before.before.before.before.requires.0, there c.before))
-    (λ c. omega (arith, c.before.before.before.loop-test.true)) loop_again add_low
-    (λ c. omega (arith, c.before.before.before.loop-test.true)) loop_again_2
-    (λ c. omega (arith, c.loop-test.false, c.before.loop.invariant)))
+    tie.close
+    (tie.spec
+    invariant_loop
+    decreases_loop
+    loop_holds
+    sub-middle
+    add_middle
+    mul_name_before
+    element_copy_out_name_before
+    cast_name_before
+    name_before_requires
+    loop_less
+    loop_again
+    add_low
+    loop_less_2
+    loop_again_2
+    returns)

@@ -10,6 +10,18 @@ use borrow.Author.Rules.{rules}
 use Rattle.mend.proofs.ordering.put_in.Statement.{statement}
 use Rattle.mend.proofs.ordering.put_in.Tie as tie
 
+make-place-requires : tie.Need-make-place-requires
+make-place-requires c κs = search rules
+
+cast_order : tie.Need-overflow-cast-order
+cast_order c = search rules
+
+mul-order : tie.Need-overflow-mul-order
+mul-order c = search rules
+
+element-write-order : tie.Need-element-write-order
+element-write-order c = search rules
+
 returns : tie.Need-returns
 returns c =
     let a = c.before.before.args in
@@ -19,6 +31,4 @@ returns c =
     )
 
 pub put_in_spec : {M : Type 1} → statement M
-put_in_spec =
-    tie.close (tie.spec (λ c κs. search rules) (λ c. search rules) (λ c. search rules)
-    (λ c. search rules) returns)
+put_in_spec = tie.close (tie.spec make-place-requires cast_order mul-order element-write-order returns)

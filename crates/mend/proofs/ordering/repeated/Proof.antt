@@ -22,11 +22,20 @@ returns c =
     let a = c.before.before.args in
     sym (first_new a.bytes.now a.order.now a.n c.before.before.requires.1 (name_at a.bytes.now a.at) a.place c.before.before.requires.2 (omega (arith, c.if1.true)))
 
+sub-same-name : tie.Need-overflow-sub-same-name
+sub-same-name c = search rules
+
+mul-same-name : tie.Need-overflow-mul-same-name
+mul-same-name c = omega (arith, within c.before.before, c.before.before.requires.1.few)
+
 element_copy_out_same_name : tie.Need-element-copy-out-same-name
 element_copy_out_same_name c = omega (arith, within c.before.before, c.if1.false, c.before.before.requires.1.few, c.before.before.requires.1.long)
 
 cast_same_name : tie.Need-overflow-cast-same-name
 cast_same_name c = let l = right_lies c.before.before.before.args.bytes.now _ (there c.before) in omega (arith, l.within)
+
+same-name-requires : tie.Need-same-name-requires
+same-name-requires c κs = (there c.before, c.before.before.before.requires.0)
 
 returns_2 : tie.Need-returns-2
 returns_2 c =
@@ -35,7 +44,12 @@ returns_2 c =
 
 pub repeated_spec : {M : Type 1} → statement M
 repeated_spec =
-    tie.close (tie.spec returns (λ c. search rules)
-    (λ c. omega (arith, within c.before.before, c.before.before.requires.1.few))
-    element_copy_out_same_name cast_same_name
-    (λ c κs. (there c.before, c.before.before.before.requires.0)) returns_2)
+    tie.close
+    (tie.spec
+    returns
+    sub-same-name
+    mul-same-name
+    element_copy_out_same_name
+    cast_same_name
+    same-name-requires
+    returns_2)

@@ -24,14 +24,32 @@ loop_holds c = let a = c.before.before.args in place_starts a.bytes.now a.order.
 lying : (c : tie.In-loop invariant_loop decreases_loop) → Lies c.before.before.before.before.args.bytes.now (get_or c.before.before.before.before.args.order.now c.before.loop.i 0)
 lying c = let a = c.before.before.before.before.args in right_lies a.bytes.now (get_or a.order.now c.before.loop.i 0) (right_at_lem a.bytes.now a.order.now a.n c.before.before.before.before.requires.0 c.before.loop.i c.loop-test.true)
 
+mul_at : tie.Need-overflow-mul-at invariant_loop decreases_loop
+mul_at c = omega (arith, c.loop-test.true, c.before.before.before.before.requires.0.few)
+
 element_copy_out_at : tie.Need-element-copy-out-at invariant_loop decreases_loop
 element_copy_out_at c = omega (arith, c.loop-test.true, c.before.before.before.before.requires.0.few, c.before.before.before.before.requires.0.long)
+
+cast_at : tie.Need-overflow-cast-at invariant_loop decreases_loop
+cast_at c = let l = lying c.before in omega (arith, l.room, l.within)
+
+sub-copy : tie.Need-overflow-sub-copy invariant_loop decreases_loop
+sub-copy c = c.before.before.before.before.loop.invariant.within
+
+part-copy-start : tie.Need-slice-bounds-copy-start invariant_loop decreases_loop
+part-copy-start c = c.before.before.before.before.loop.invariant.within
+
+part-copy-end : tie.Need-slice-bounds-copy-end invariant_loop decreases_loop
+part-copy-end c = c.before.before.before.before.loop.invariant.inside
 
 copy_requires : tie.Need-copy-requires invariant_loop decreases_loop
 copy_requires c κs =
     let a = c.before.before.before.before.before.before.before.before.args in
     let i = c.before.before.before.before.before.loop in
     part_fits a.bytes.now a.order.now a.n a.notice.now i.notice i.to i.from i.end i.i i.invariant c.before.before.before.before.before.before.before.before.requires.1
+
+sub-to : tie.Need-overflow-sub-to invariant_loop decreases_loop
+sub-to c = c.before.before.before.before.before.before.before.before.loop.invariant.within
 
 add_to : tie.Need-overflow-add-to invariant_loop decreases_loop
 add_to c =
@@ -53,11 +71,20 @@ met c =
     (λ w. along w.1 w.2 w.3 w.0.left i.invariant)
     c.if1.branch
 
+add_end : tie.Need-overflow-add-end invariant_loop decreases_loop
+add_end c = let l = lying c.before.before in omega (arith, l.room, l.within)
+
+field_size_requires : tie.Need-field-size-requires invariant_loop decreases_loop
+field_size_requires c κs = let l = lying c.before.before in omega (arith, l.room, l.within)
+
 add_end_2 : tie.Need-overflow-add-end-2 invariant_loop decreases_loop
 add_end_2 c = let l = lying c.before.before.before in omega (arith, l.room, l.within, c.field_size.ensures)
 
 add_i : tie.Need-overflow-add-i invariant_loop decreases_loop
 add_i c = omega (arith, c.before.before.before.loop-test.true, c.before.before.before.before.before.before.before.requires.0.few)
+
+loop_less : tie.Need-loop-smaller invariant_loop decreases_loop
+loop_less c = omega (arith, c.before.before.before.loop-test.true)
 
 loop_again : tie.Need-loop-preserved invariant_loop decreases_loop
 loop_again c =
@@ -65,6 +92,15 @@ loop_again c =
     let i = c.before.before.before.before.loop in
     let j = c.before.if1 in
     grown a.bytes.now a.order.now a.n a.notice.now j.notice j.to j.from (get_or a.order.now i.i 0) i.i (met c.before) c.before.before.before.before.before.before.before.requires.0 c.before.before.before.loop-test.true refl (λ k. (c.before.before.before.before.before.shared-slice-known.given k).fits) _ (omega (arith, c.field_size.ensures))
+
+sub-copy-2 : tie.Need-overflow-sub-copy-2 invariant_loop decreases_loop
+sub-copy-2 c = c.before.before.loop.invariant.within
+
+part-copy-start-2 : tie.Need-slice-bounds-copy-start-2 invariant_loop decreases_loop
+part-copy-start-2 c = c.before.before.loop.invariant.within
+
+part-copy-end-2 : tie.Need-slice-bounds-copy-end-2 invariant_loop decreases_loop
+part-copy-end-2 c = c.before.before.loop.invariant.inside
 
 copy_requires_2 : tie.Need-copy-requires-2 invariant_loop decreases_loop
 copy_requires_2 c κs =
@@ -83,15 +119,29 @@ returns c =
 
 pub put_fields_spec : {M : Type 1} → statement M
 put_fields_spec =
-    tie.close (tie.spec invariant_loop decreases_loop loop_holds
-    (λ c. omega (arith, c.loop-test.true, c.before.before.before.before.requires.0.few))
-    element_copy_out_at (λ c. let l = lying c.before in omega (arith, l.room, l.within))
-    (λ c. c.before.before.before.before.loop.invariant.within)
-    (λ c. c.before.before.before.before.loop.invariant.within)
-    (λ c. c.before.before.before.before.loop.invariant.inside) copy_requires
-    (λ c. c.before.before.before.before.before.before.before.before.loop.invariant.within)
-    add_to (λ c. let l = lying c.before.before in omega (arith, l.room, l.within))
-    (λ c κs. let l = lying c.before.before in omega (arith, l.room, l.within)) add_end_2 add_i
-    (λ c. omega (arith, c.before.before.before.loop-test.true)) loop_again
-    (λ c. c.before.before.loop.invariant.within) (λ c. c.before.before.loop.invariant.within)
-    (λ c. c.before.before.loop.invariant.inside) copy_requires_2 same_length returns)
+    tie.close
+    (tie.spec
+    invariant_loop
+    decreases_loop
+    loop_holds
+    mul_at
+    element_copy_out_at
+    cast_at
+    sub-copy
+    part-copy-start
+    part-copy-end
+    copy_requires
+    sub-to
+    add_to
+    add_end
+    field_size_requires
+    add_end_2
+    add_i
+    loop_less
+    loop_again
+    sub-copy-2
+    part-copy-start-2
+    part-copy-end-2
+    copy_requires_2
+    same_length
+    returns)

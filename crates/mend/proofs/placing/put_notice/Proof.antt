@@ -19,17 +19,26 @@ use Rattle.mend.proofs.placing.put_notice.Tie as tie
 sub_write_u32 : tie.Need-overflow-sub-write-u32
 sub_write_u32 c = let a = c.before.before.before.args in omega (arith, c.before.before.before.requires.1, length_render (fields_in a.bytes.now a.order.now a.n))
 
+cast_write_u32 : tie.Need-overflow-cast-write-u32
+cast_write_u32 c = search rules
+
 write_u32_requires : tie.Need-write-u32-requires
 write_u32_requires c κs = let a = c.before.before.before.args in omega (arith, c.before.before.before.requires.1, c.before.before.before.requires.2, length_render (fields_in a.bytes.now a.order.now a.n))
 
 write_u16_requires : tie.Need-write-u16-requires
 write_u16_requires c κs = let a = c.before.before.before.before.before.before.before.args in omega (arith, c.before.before.before.before.before.before.before.requires.1, c.before.before.before.before.before.before.before.requires.2, length_render (fields_in a.bytes.now a.order.now a.n), c.before.before.before.write-u32.auto.0)
 
+cast-write-u16 : tie.Need-overflow-cast-write-u16
+cast-write-u16 c = search rules
+
 write_u16_requires_2 : tie.Need-write-u16-requires-2
 write_u16_requires_2 c κs = let a = c.before.before.before.before.before.before.before.before.before.before.before.args in omega (arith, c.before.before.before.before.before.before.before.before.before.before.before.requires.1, c.before.before.before.before.before.before.before.before.before.before.before.requires.2, length_render (fields_in a.bytes.now a.order.now a.n), c.before.before.before.before.before.before.before.write-u32.auto.0, c.before.before.before.write-u16.auto.0)
 
 put_fields_requires : tie.Need-put-fields-requires
 put_fields_requires c κs = let a = c.before.before.before.before.before.before.before.before.before.before.before.before.before.before.before.args in (c.before.before.before.before.before.before.before.before.before.before.before.before.before.before.before.requires.0, omega (arith, c.before.before.before.before.before.before.before.before.before.before.before.before.before.before.before.requires.1, c.before.before.before.before.before.before.before.before.before.before.before.before.before.before.before.requires.2, length_render (fields_in a.bytes.now a.order.now a.n), c.before.before.before.before.before.before.before.before.before.before.before.write-u32.auto.0, c.before.before.before.before.before.before.before.write-u16.auto.0, c.before.before.before.write-u162.auto.0))
+
+same_length : tie.Need-same-length
+same_length c = search rules
 
 returns : tie.Need-returns
 returns c =
@@ -49,5 +58,14 @@ returns c =
 
 pub put_notice_spec : {M : Type 1} → statement M
 put_notice_spec =
-    tie.close (tie.spec sub_write_u32 (λ c. search rules) write_u32_requires write_u16_requires
-    (λ c. search rules) write_u16_requires_2 put_fields_requires (λ c. search rules) returns)
+    tie.close
+    (tie.spec
+    sub_write_u32
+    cast_write_u32
+    write_u32_requires
+    write_u16_requires
+    cast-write-u16
+    write_u16_requires_2
+    put_fields_requires
+    same_length
+    returns)

@@ -4,6 +4,9 @@ use Rattle.mend.proofs.Admitted.{not_admitted, put_requires, admitted}
 use Rattle.mend.proofs.walking.admit.Statement.{statement}
 use Rattle.mend.proofs.walking.admit.Tie as tie
 
+judge_requires : tie.Need-judge-requires
+judge_requires c κs = let p = c.before.before.requires in (p.0, p.2, p.4)
+
 returns : tie.Need-returns
 returns c =
     let a = c.before.before.before.before.before.args in
@@ -21,6 +24,4 @@ returns_2 c =
     admitted a.bytes.now a.order.now a.n a.at c.before.before.before.before.before.before.before.requires.4 c.before.before.before.before.judge.result c.before.before.before.before.judge.ensures c.before.before.if1.false c.before.before.before.before.before.before.before.requires.3 c.put_in.new.0 c.put_in.ensures
 
 pub admit_spec : {M : Type 1} → statement M
-admit_spec =
-    tie.close (tie.spec (λ c κs. let p = c.before.before.requires in (p.0, p.2, p.4)) returns
-    put_in_requires returns_2)
+admit_spec = tie.close (tie.spec judge_requires returns put_in_requires returns_2)

@@ -21,6 +21,9 @@ returns c =
     let a = c.before.before.args in
     record { code_is = is_cut a.bytes.now (fields_in a.bytes.now a.order.now a.n) a.at (omega (arith, c.if1.true, c.before.before.requires.1)); place_is = λ e. false_true e }
 
+right-requires : tie.Need-right-requires
+right-requires c κs = search rules
+
 returns_2 : tie.Need-returns-2
 returns_2 c =
     let a = c.before.before.before.before.args in
@@ -28,6 +31,9 @@ returns_2 c =
       code_is = is_bad a.bytes.now (fields_in a.bytes.now a.order.now a.n) a.at (omega (arith, c.before.before.if1.false, c.before.before.before.before.requires.1)) (sym c.before.right.ensures ∙ not-true _ c.if2.true);
       place_is = λ e. false_true e;
     }
+
+comes-last-requires : tie.Need-comes-last-requires
+comes-last-requires c κs = (right_there (c), c.before.before.before.before.requires.2)
 
 returns_3 : tie.Need-returns-3
 returns_3 c =
@@ -56,6 +62,13 @@ returns_4 c =
 
 pub judge_spec : {M : Type 1} → statement M
 judge_spec =
-    tie.close (tie.spec returns (λ c κs. search rules) returns_2
-    (λ c κs. (right_there (c), c.before.before.before.before.requires.2)) returns_3
-    place_for_requires among_requires returns_4)
+    tie.close
+    (tie.spec
+    returns
+    right-requires
+    returns_2
+    comes-last-requires
+    returns_3
+    place_for_requires
+    among_requires
+    returns_4)

@@ -15,6 +15,9 @@ decreases_loop bytes list₀ codes at₀ count₀ list at count = length bytes -
 loop_holds : tie.Need-loop-init invariant_loop decreases_loop
 loop_holds c = let a = c.before.before.before.args in list_starts a.bytes.now a.list.now a.codes.now c.before.before.before.requires.1
 
+mul-put-entry : tie.Need-overflow-mul-put-entry invariant_loop decreases_loop
+mul-put-entry c = let i = c.before.before.loop in omega (arith, i.invariant.from, i.invariant.below)
+
 cast_put_entry : tie.Need-overflow-cast-put-entry invariant_loop decreases_loop
 cast_put_entry c = omega (arith, c.before.loop-test.true, c.before.before.before.before.before.before.requires.0.1)
 
@@ -45,6 +48,9 @@ loop_again c =
     let i = c.before.before.before.before.before.before.before.loop in
     lists_on a.bytes.now a.list.now i.list a.codes.now i.at i.count i.invariant c.before.before.before.before.before.before.loop-test.true c.before.before.before.put-entry.new.0 c.next.result c.next.ensures.0 c.next.ensures.1 c.before.before.before.put-entry.ensures
 
+same_length : tie.Need-same-length invariant_loop decreases_loop
+same_length c = c.before.loop.invariant.same_long
+
 returns : tie.Need-returns invariant_loop decreases_loop
 returns c =
     let a = c.before.before.before.before.before.args in
@@ -53,7 +59,18 @@ returns c =
 
 pub list_fields_spec : {M : Type 1} → statement M
 list_fields_spec =
-    tie.close (tie.spec invariant_loop decreases_loop loop_holds
-    (λ c. let i = c.before.before.loop in omega (arith, i.invariant.from, i.invariant.below))
-    cast_put_entry shared_slice_read_put_entry put_entry_requires next_requires add_count loop_less
-    loop_again (λ c. c.before.loop.invariant.same_long) returns)
+    tie.close
+    (tie.spec
+    invariant_loop
+    decreases_loop
+    loop_holds
+    mul-put-entry
+    cast_put_entry
+    shared_slice_read_put_entry
+    put_entry_requires
+    next_requires
+    add_count
+    loop_less
+    loop_again
+    same_length
+    returns)

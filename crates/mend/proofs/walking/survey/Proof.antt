@@ -21,6 +21,12 @@ test c = both c.before.before.loop.at (length c.before.before.before.before.befo
 loop_holds : tie.Need-loop-init invariant_loop decreases_loop
 loop_holds c = let p = c.before.before.requires in count_starts c.before.before.args.bytes.now c.before.before.args.order.now c.before.before.args.codes.now p.0.0 p.1 p.2
 
+goes-on-requires : tie.Need-goes-on-requires invariant_loop decreases_loop
+goes-on-requires c κs = c.before.before.before.requires.0
+
+next_requires : tie.Need-next-requires invariant_loop decreases_loop
+next_requires c κs = ((test (c)).0, c.before.before.before.before.before.requires.0.1)
+
 admit_requires : tie.Need-admit-requires invariant_loop decreases_loop
 admit_requires c κs = let t = test c.before.before in (t.0, c.before.before.before.before.before.before.before.requires.0, c.before.next.ensures.0, t.1, c.before.before.before.before.loop.invariant.walked.in_order)
 
@@ -29,8 +35,17 @@ slice_write_codes c =
     let i = c.before.before.before.before.before.loop in
     note_room c.before.before.before.before.before.before.before.before.args.bytes.now i.order c.before.before.before.before.before.before.before.before.args.codes.now i.codes i.auto i.at i.size i.count i.invariant (test c.before.before.before).0
 
+gain-requires : tie.Need-gain-requires invariant_loop decreases_loop
+gain-requires c κs = tt
+
 add_kept : tie.Need-overflow-add-kept invariant_loop decreases_loop
 add_kept c = omega (arith, (test c.before.before.before.before).1, c.gain.ensures, less (stays c.before.admit.result) 1)
+
+sub-gain : tie.Need-overflow-sub-gain invariant_loop decreases_loop
+sub-gain c = omega (arith, c.before.before.before.next.ensures)
+
+gain-requires-2 : tie.Need-gain-requires-2 invariant_loop decreases_loop
+gain-requires-2 c κs = tt
 
 add_size : tie.Need-overflow-add-size invariant_loop decreases_loop
 add_size c =
@@ -49,6 +64,9 @@ loop_again c =
     counts_on c.before.before.before.before.before.before.before.before.before.before.args.bytes.now i.order c.before.before.before.before.before.before.before.before.before.before.args.codes.now i.codes i.auto i.at i.size i.count i.invariant (test c.before.before.before.before.before).0 c.before.before.admit.new.1.0 c.before.before.admit.result c.before.gain.result c.before.before.before.before.next.result c.gain2.result
     c.before.before.admit.ensures c.before.gain.ensures c.before.before.before.before.next.ensures.0 c.before.before.before.before.next.ensures.1 c.gain2.ensures
 
+same_length : tie.Need-same-length invariant_loop decreases_loop
+same_length c = c.before.before.loop.invariant.same_long
+
 returns : tie.Need-returns invariant_loop decreases_loop
 returns c =
     let i = c.before.before.loop in
@@ -57,8 +75,22 @@ returns c =
 
 pub survey_spec : {M : Type 1} → statement M
 survey_spec =
-    tie.close (tie.spec invariant_loop decreases_loop loop_holds (λ c κs. c.before.before.before.requires.0)
-    (λ c κs. ((test (c)).0, c.before.before.before.before.before.requires.0.1)) admit_requires
-    slice_write_codes (λ c κs. tt) add_kept
-    (λ c. omega (arith, c.before.before.before.next.ensures)) (λ c κs. tt) add_size add_count
-    loop_less loop_again (λ c. c.before.before.loop.invariant.same_long) returns)
+    tie.close
+    (tie.spec
+    invariant_loop
+    decreases_loop
+    loop_holds
+    goes-on-requires
+    next_requires
+    admit_requires
+    slice_write_codes
+    gain-requires
+    add_kept
+    sub-gain
+    gain-requires-2
+    add_size
+    add_count
+    loop_less
+    loop_again
+    same_length
+    returns)

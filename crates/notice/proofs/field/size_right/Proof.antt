@@ -1,4 +1,3 @@
--- `size_right` meets its contract: by cases of the kind: above 3 only 4 and 5 are kinds, 1 has 4 bytes, and of 0, 2 and 3 only 0 is none. Assumes nothing.
 use Rattle.std.proofs.Common.{◌≡◌, ℕ, ◌+◌, ◌<◌, ◌≤◌, Bool, true, false, cond, not, ◌&&◌, ◌||◌, eqb, leb, refl, arith, eq-eqb, ne_eqb, eqb-true, leb-false, leb-true}
 use borrow.Author.Tests.{eqb-false}
 use Rattle.notice.specs.Field.{size_right}
@@ -29,10 +28,14 @@ early k size h f = rw (ne_eqb k 1 f) (go (eqb k 0) refl)
     go true e = let z : k ≡ 0 = eqb-true k 0 e in rw z
     go false e = let z : k ≡ 0 → ⊥ = eqb-false k 0 e in rw (either k 2 3 (omega arith) h (omega arith))
 
+returns : tie.Need-returns
+returns c = late c.before.args.kind c.before.args.size c.if1.true
+
+returns_2 : tie.Need-returns-2
+returns_2 c = rw c.if2.true
+
 returns_3 : tie.Need-returns-3
 returns_3 c = early c.before.before.args.kind c.before.before.args.size c.before.if1.false c.if2.false
 
 pub size_right_spec : {M : Type 1} → statement M
-size_right_spec =
-    tie.close (tie.spec (λ c. late c.before.args.kind c.before.args.size c.if1.true)
-    (λ c. rw c.if2.true) returns_3)
+size_right_spec = tie.close (tie.spec returns returns_2 returns_3)

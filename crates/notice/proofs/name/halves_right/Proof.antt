@@ -1,10 +1,33 @@
--- `halves_right` meets its contract: the word has the first four bytes and the last four, which of a name of 4 to 8 bytes leave none out; two u32 halves fit in 64 bits. Assumes nothing.
-use Rattle.std.proofs.Common.{ℕ, ◌+◌, ◌*◌, ◌∙◌, ap₂, arith, rules}
+use Rattle.std.proofs.Common.{◌≡◌, ℕ, ◌+◌, ◌*◌, ◌∙◌, ap₂, arith, rules}
 use Rattle.word.specs.Word.{word_bytes}
 use Rattle.notice.specs.Field.{printable}
 use Rattle.notice.proofs.Names.{whole_word, by_halves}
 use Rattle.notice.proofs.name.halves_right.Statement.{statement}
 use Rattle.notice.proofs.name.halves_right.Tie as tie
+
+read_u32_requires : tie.Need-read-u32-requires
+read_u32_requires c κs = search rules
+
+cast-low : tie.Need-overflow-cast-low
+cast-low c = search rules
+
+sub_read_u32 : tie.Need-overflow-sub-read-u32
+sub_read_u32 c = search rules
+
+read_u32_requires_2 : tie.Need-read-u32-requires-2
+read_u32_requires_2 c κs = search rules
+
+cast-high : tie.Need-overflow-cast-high
+cast-high c = search rules
+
+mul-word-right : tie.Need-overflow-mul-word-right
+mul-word-right c = search rules
+
+add-word-right : tie.Need-overflow-add-word-right
+add-word-right c = search rules
+
+word-right-requires : tie.Need-word-right-requires
+word-right-requires c κs = search rules
 
 returns : tie.Need-returns
 returns c =
@@ -17,6 +40,14 @@ returns c =
 
 pub halves_right_spec : {M : Type 1} → statement M
 halves_right_spec =
-    tie.close (tie.spec (λ c κs. search rules) (λ c. search rules) (λ c. search rules)
-    (λ c κs. search rules) (λ c. search rules) (λ c. search rules) (λ c. search rules)
-    (λ c κs. search rules) returns)
+    tie.close
+    (tie.spec
+    read_u32_requires
+    cast-low
+    sub_read_u32
+    read_u32_requires_2
+    cast-high
+    mul-word-right
+    add-word-right
+    word-right-requires
+    returns)

@@ -1,9 +1,19 @@
--- `word_right` meets its contract: all three tests find no high bit exactly if the bytes above the m lowest are in 32..126; where no byte has its high bit, sum and difference carry nothing.
--- Assumes nothing.
-use Rattle.std.proofs.Common.{ℕ, ◌+◌, ◌%◌, ◌^◌, sym, ap, ◌∙◌, rules}
+use Rattle.std.proofs.Common.{◌≡◌, ℕ, ◌+◌, ◌*◌, ◌%◌, ◌^◌, sym, ap, ◌∙◌, rules}
 use Rattle.notice.proofs.Words.{by_tests}
 use Rattle.notice.proofs.name.word_right.Statement.{statement}
 use Rattle.notice.proofs.name.word_right.Tie as tie
+
+mul-mask : tie.Need-overflow-mul-mask
+mul-mask c = search rules
+
+shl-mask : tie.Need-overflow-shl-mask
+shl-mask c = search rules
+
+wrapping-add-u64-requires : tie.Need-wrapping-add-u64-requires
+wrapping-add-u64-requires c κs = search rules
+
+wrapping-sub-u64-requires : tie.Need-wrapping-sub-u64-requires
+wrapping-sub-u64-requires c κs = search rules
 
 returns : tie.Need-returns
 returns c y e f =
@@ -14,5 +24,5 @@ returns c y e f =
 
 pub word_right_spec : {M : Type 1} → statement M
 word_right_spec =
-    tie.close (tie.spec (λ c. search rules) (λ c. search rules) (λ c κs. search rules)
-    (λ c κs. search rules) returns)
+    tie.close
+    (tie.spec mul-mask shl-mask wrapping-add-u64-requires wrapping-sub-u64-requires returns)

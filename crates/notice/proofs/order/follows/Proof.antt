@@ -1,5 +1,3 @@
--- `follows` meets its contract: different keys order the names, a key of 0 is no right field, and equal keys above 0 mean that there is a last field, with whose name `before` compares.
--- Assumes nothing.
 use Rattle.std.proofs.Common.{◌≡◌, ℕ, ◌+◌, ◌-◌, ◌<◌, true, take, drop, sym, ap, ◌∙◌, ap₂, arith, rules}
 use Rattle.octets.specs.Octets.{before_of}
 use Rattle.octets.proofs.Theorems.{not_folded}
@@ -85,15 +83,30 @@ add_t_end c =
     let l = lying c.before.before in
     omega arith
 
+sub-before : tie.Need-overflow-sub-before
+sub-before c = search rules
+
+part-before-start : tie.Need-slice-bounds-before-start
+part-before-start c = search rules
+
 part_before_end : tie.Need-slice-bounds-before-end
 part_before_end c =
     let l = lying_last c.before.before in
     omega arith
 
+sub-before-2 : tie.Need-overflow-sub-before-2
+sub-before-2 c = search rules
+
+part-before-start-2 : tie.Need-slice-bounds-before-start-2
+part-before-start-2 c = search rules
+
 part_before_end_2 : tie.Need-slice-bounds-before-end-2
 part_before_end_2 c =
     let l = lying c.before.before.before in
     omega arith
+
+before_requires : tie.Need-before-requires
+before_requires c κs = search rules
 
 returns_4 : tie.Need-returns-4
 returns_4 c =
@@ -109,6 +122,22 @@ returns_4 c =
 
 pub follows_spec : {M : Type 1} → statement M
 follows_spec =
-    tie.close (tie.spec returns returns_2 returns_3 add_s name_size_requires add_s_end add_t
-    name_size_requires_2 add_t_end (λ c. search rules) (λ c. search rules) part_before_end
-    (λ c. search rules) (λ c. search rules) part_before_end_2 (λ c κs. search rules) returns_4)
+    tie.close
+    (tie.spec
+    returns
+    returns_2
+    returns_3
+    add_s
+    name_size_requires
+    add_s_end
+    add_t
+    name_size_requires_2
+    add_t_end
+    sub-before
+    part-before-start
+    part_before_end
+    sub-before-2
+    part-before-start-2
+    part_before_end_2
+    before_requires
+    returns_4)

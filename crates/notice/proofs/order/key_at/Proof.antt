@@ -1,8 +1,7 @@
--- `key_at` meets its contract: by cases: the field does not lie within the notice, its value has a wrong size, or it is right exactly if its name is, which `key_of` decides. Assumes nothing.
 use Rattle.std.proofs.Common.{◌≡◌, ℕ, ◌+◌, ◌-◌, true, take, drop, sym, ap, ◌∙◌, ap₂, arith, rules}
 use Rattle.notice.specs.Field.{size_right}
 use Rattle.notice.specs.Layout.{kind_at, value_size_at, lies_at}
-use Rattle.notice.specs.Key.{right_key}
+use Rattle.notice.specs.Key.{right_key_lem}
 use Rattle.notice.proofs.Places.{Lies, lies_true, lies_not, wrong_size, by_name}
 use Rattle.notice.proofs.Keys.{no_key_here, key_named}
 use Rattle.notice.proofs.order.key_at.Statement.{statement}
@@ -19,6 +18,33 @@ size_is c =
     let a = c.before.before.before.before.before.before.before.args in
     c.size_right.ensures ∙ ap₂ size_right c.before.read-u16.ensures (ap₂ (λ (n m : ℕ). n - (3 + m)) c.before.before.field_size.ensures.0 c.before.before.before.name_size.ensures.0)
 
+lies-requires : tie.Need-lies-requires
+lies-requires c κs = search rules
+
+name_size_requires : tie.Need-name-size-requires
+name_size_requires c κs = let l = lying c in omega arith
+
+field_size_requires : tie.Need-field-size-requires
+field_size_requires c κs = let l = lying c.before in omega arith
+
+add_size : tie.Need-overflow-add-size
+add_size c = search rules
+
+sub-size : tie.Need-overflow-sub-size
+sub-size c = let l = lying c.before.before in omega arith
+
+add_read_u16 : tie.Need-overflow-add-read-u16
+add_read_u16 c = search rules
+
+read_u16_requires : tie.Need-read-u16-requires
+read_u16_requires c κs = let l = lying c.before.before in omega arith
+
+size-right-requires : tie.Need-size-right-requires
+size-right-requires c κs = search rules
+
+add-key-of : tie.Need-overflow-add-key-of
+add-key-of c = search rules
+
 key_of_requires : tie.Need-key-of-requires
 key_of_requires c κs = let l = lying c.before.before.before.before.before in (omega arith, omega arith)
 
@@ -27,7 +53,7 @@ returns c =
     let d = c.before.before in
     let a = d.before.before.before.before.before.before.before.args in
     let s = a.notice.now in
-    c.key_of.ensures ∙ (ap (λ (n : ℕ). right_key (take n (drop (a.at + 5) s))) d.before.before.before.name_size.ensures.0
+    c.key_of.ensures ∙ (ap (λ (n : ℕ). right_key_lem (take n (drop (a.at + 5) s))) d.before.before.before.name_size.ensures.0
     ∙ key_named s a.at (by_name s a.at (lies_here d.before.before.before.before) (sym (size_is d) ∙ c.before.if2.true)))
 
 returns_2 : tie.Need-returns-2
@@ -43,8 +69,18 @@ returns_3 c =
 
 pub key_at_spec : {M : Type 1} → statement M
 key_at_spec =
-    tie.close (tie.spec (λ c κs. search rules) (λ c κs. let l = lying c in omega arith)
-    (λ c κs. let l = lying c.before in omega arith) (λ c. search rules)
-    (λ c. let l = lying c.before.before in omega arith) (λ c. search rules)
-    (λ c κs. let l = lying c.before.before in omega arith) (λ c κs. search rules)
-    (λ c. search rules) key_of_requires returns returns_2 returns_3)
+    tie.close
+    (tie.spec
+    lies-requires
+    name_size_requires
+    field_size_requires
+    add_size
+    sub-size
+    add_read_u16
+    read_u16_requires
+    size-right-requires
+    add-key-of
+    key_of_requires
+    returns
+    returns_2
+    returns_3)

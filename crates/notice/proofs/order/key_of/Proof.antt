@@ -1,9 +1,23 @@
--- `key_of` meets its contract: by cases of the length: a name of 0 or more than 64 bytes is wrong and has key 0; the others are what `short_key` and `long_key` promise. Assumes nothing.
-use Rattle.std.proofs.Common.{◌≡◌, length, take, drop, arith, length-drop, length-take-le, rules}
+use Rattle.std.proofs.Common.{◌≡◌, length, take, drop, refl, arith, length-drop, length-take-le, rules}
 use Rattle.notice.proofs.Names.{long_wrong}
 use Rattle.notice.proofs.Keys.{wrong_key}
 use Rattle.notice.proofs.order.key_of.Statement.{statement}
 use Rattle.notice.proofs.order.key_of.Tie as tie
+
+returns : tie.Need-returns
+returns c = rw c.if1.true
+
+short-key-requires : tie.Need-short-key-requires
+short-key-requires c κs = search rules
+
+returns_2 : tie.Need-returns-2
+returns_2 c = search rules
+
+long-key-requires : tie.Need-long-key-requires
+long-key-requires c κs = search rules
+
+returns_3 : tie.Need-returns-3
+returns_3 c = search rules
 
 returns_4 : tie.Need-returns-4
 returns_4 c =
@@ -14,5 +28,4 @@ returns_4 c =
 
 pub key_of_spec : {M : Type 1} → statement M
 key_of_spec =
-    tie.close (tie.spec (λ c. rw c.if1.true) (λ c κs. search rules) (λ c. search rules)
-    (λ c κs. search rules) (λ c. search rules) returns_4)
+    tie.close (tie.spec returns short-key-requires returns_2 long-key-requires returns_3 returns_4)

@@ -1,4 +1,3 @@
--- `long_key` meets its contract: a name of 8 to 64 bytes is right exactly if its bytes are in 32..126, and its key is the first eight bytes from its start on. Assumes nothing.
 use Rattle.std.proofs.Common.{◌≡◌, ℕ, ◌+◌, ◌-◌, List, length, take, drop, sym, ap, ◌∙◌, arith, length-drop, length-take-le, rules}
 use Rattle.notice.specs.Field.{printable}
 use Rattle.notice.proofs.Names.{by_bytes}
@@ -20,6 +19,24 @@ judged c =
     let z : a.at + a.n - a.at ≡ a.n = omega arith in
     c.words_right.ensures ∙ ap (λ (k : ℕ). printable (take k (drop a.at a.notice.now))) z
 
+add_end : tie.Need-overflow-add-end
+add_end c = search rules
+
+sub-words-right : tie.Need-overflow-sub-words-right
+sub-words-right c = search rules
+
+part-words-right-start : tie.Need-slice-bounds-words-right-start
+part-words-right-start c = search rules
+
+part-words-right-end : tie.Need-slice-bounds-words-right-end
+part-words-right-end c = search rules
+
+words-right-requires : tie.Need-words-right-requires
+words-right-requires c κs = search rules
+
+eight-requires : tie.Need-eight-requires
+eight-requires c κs = search rules
+
 returns : tie.Need-returns
 returns c =
     let d = c.before.before in
@@ -35,5 +52,13 @@ returns_2 c =
 
 pub long_key_spec : {M : Type 1} → statement M
 long_key_spec =
-    tie.close (tie.spec (λ c. search rules) (λ c. search rules) (λ c. search rules)
-    (λ c. search rules) (λ c κs. search rules) (λ c κs. search rules) returns returns_2)
+    tie.close
+    (tie.spec
+    add_end
+    sub-words-right
+    part-words-right-start
+    part-words-right-end
+    words-right-requires
+    eight-requires
+    returns
+    returns_2)

@@ -1,5 +1,5 @@
--- `short_key` meets its contract: the shift by 8 - n bytes drops the bytes before the name, so it leaves the name's key, whose n high bytes are the name's own. Assumes nothing.
-use Rattle.std.proofs.Common.{◌≡◌, ℕ, ◌-◌, ◌*◌, ◌%◌, ◌^◌, List, length, take, drop, sym, ap, ◌∙◌, arith, length-drop, length-take-le, rules}
+use Rattle.std.proofs.Common.{◌≡◌, ℕ, ◌+◌, ◌-◌, ◌*◌, ◌%◌, ◌^◌, ◌≤◌, List, length, take, drop, sym, ap, ◌∙◌, arith, length-drop, length-take-le, rules}
+use Rattle.word.specs.Word.{Bytes}
 use Rattle.notice.specs.Field.{printable}
 use Rattle.notice.specs.Key.{key_of}
 use Rattle.notice.proofs.Names.{by_bytes}
@@ -28,6 +28,27 @@ judged c =
     short_word a.n (name c) _ c.word-right.result (bytes_take a.n (drop a.at a.notice.now) (bytes_drop a.at a.notice.now (λ i. (c.before.before.shared-slice-known.given i).fits)))
     (name_length c) c.before.before.before.requires.2 (key_is c) c.word-right.ensures
 
+sub-m : tie.Need-overflow-sub-m
+sub-m c = search rules
+
+add_eight : tie.Need-overflow-add-eight
+add_eight c = search rules
+
+sub-eight : tie.Need-overflow-sub-eight
+sub-eight c = search rules
+
+eight-requires : tie.Need-eight-requires
+eight-requires c κs = search rules
+
+mul-key : tie.Need-overflow-mul-key
+mul-key c = search rules
+
+shl-key : tie.Need-overflow-shl-key
+shl-key c = search rules
+
+word-right-requires : tie.Need-word-right-requires
+word-right-requires c κs = search rules
+
 returns : tie.Need-returns
 returns c =
     let d = c.before in
@@ -42,6 +63,14 @@ returns_2 c =
 
 pub short_key_spec : {M : Type 1} → statement M
 short_key_spec =
-    tie.close (tie.spec (λ c. search rules) (λ c. search rules) (λ c. search rules)
-    (λ c κs. search rules) (λ c. search rules) (λ c. search rules) (λ c κs. search rules) returns
+    tie.close
+    (tie.spec
+    sub-m
+    add_eight
+    sub-eight
+    eight-requires
+    mul-key
+    shl-key
+    word-right-requires
+    returns
     returns_2)

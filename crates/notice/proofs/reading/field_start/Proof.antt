@@ -1,4 +1,3 @@
--- `field_start` meets its contract: the loop keeps that the starts from index i on are those of a walk from the current offset, where a field within the notice starts. Assumes nothing.
 use Rattle.std.proofs.Common.{◌≡◌, ◌-◌, ◌<◌, ◌≤◌, length, ◌∙◌, arith, rules}
 use Rattle.notice.specs.Layout.{starts_of}
 use Rattle.notice.proofs.Readings.{After, after_none, after_within, after_is, after_more}
@@ -10,6 +9,9 @@ invariant_loop notice k at₀ i₀ at i = (i ≤ k) × ((h : k < length (starts_
 
 abbrev decreases_loop : tie.decreases_loop
 decreases_loop notice k at₀ i₀ at i = k - i
+
+loop_holds : tie.Need-loop-init invariant_loop decreases_loop
+loop_holds c = (omega arith, λ h. after_none c.before.args.notice.now c.before.args.k h)
 
 add_at : tie.Need-overflow-add-at invariant_loop decreases_loop
 add_at c =
@@ -29,6 +31,12 @@ add_at_2 c =
     let l = after_within a.notice.now a.k c.before.before.before.before.requires c.before.before.loop.i c.before.before.loop.at c.before.before.loop.invariant.0 (c.before.before.loop.invariant.1 c.before.before.before.before.requires) in
     omega (arith, l.within)
 
+add_i : tie.Need-overflow-add-i invariant_loop decreases_loop
+add_i c = search rules
+
+loop_less : tie.Need-loop-smaller invariant_loop decreases_loop
+loop_less c = search rules
+
 loop_again : tie.Need-loop-preserved invariant_loop decreases_loop
 loop_again c =
     let a = c.before.before.before.before.args in
@@ -44,6 +52,15 @@ returns c =
 
 pub field_start_spec : {M : Type 1} → statement M
 field_start_spec =
-    tie.close (tie.spec invariant_loop decreases_loop
-    (λ c. (omega arith, λ h. after_none c.before.args.notice.now c.before.args.k h))
-    add_at field_size_requires add_at_2 (λ c. search rules) (λ c. search rules) loop_again returns)
+    tie.close
+    (tie.spec
+    invariant_loop
+    decreases_loop
+    loop_holds
+    add_at
+    field_size_requires
+    add_at_2
+    add_i
+    loop_less
+    loop_again
+    returns)

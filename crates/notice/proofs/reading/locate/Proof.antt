@@ -1,7 +1,6 @@
--- `locate` meets its contract: by cases: a fault is 11, an index not below the count 17; else a field within the notice starts where `field_start` promises, and its offsets bound its parts.
--- Assumes nothing.
-use Rattle.std.proofs.Common.{◌≡◌, ℕ, ◌+◌, ◌<◌, sym, ap, ◌∙◌, arith, rules}
+use Rattle.std.proofs.Common.{◌≡◌, ℕ, ◌+◌, ◌-◌, ◌<◌, sym, ap, ◌∙◌, arith, rules}
 use Rattle.word.specs.Word.{Bytes}
+use Rattle.notice.specs.declared.Layout.{Layout}
 use Rattle.notice.specs.declared.Layout.TheVariants.{WellFormed}
 use Rattle.notice.specs.Layout.{count_of, check_of}
 use Rattle.notice.specs.Read.{locate_at}
@@ -28,9 +27,27 @@ lying c =
     let h = has-start s (bytes c.before.before.before.before.before.before) k (well c.before.before.before) (below c.before) in
     lies_true s c.field-start.result (rw c.field-start.ensures (start_lies s k h))
 
+check-requires : tie.Need-check-requires
+check-requires c κs = search rules
+
+enum-known-layout : tie.Need-enum-known-layout
+enum-known-layout c = search rules
+
+nowhere-requires : tie.Need-nowhere-requires
+nowhere-requires c κs = search rules
+
+enum_told : tie.Need-enum-told
+enum_told c = search rules
+
 read_u16_requires : tie.Need-read-u16-requires
 read_u16_requires c κs =
     (well_header c.before.before.before.before.args.notice.now (bytes c.before.before.before) (well c)).long
+
+cast-if1 : tie.Need-overflow-cast-if1
+cast-if1 c = search rules
+
+nowhere-requires-2 : tie.Need-nowhere-requires-2
+nowhere-requires-2 c κs = search rules
 
 returns : tie.Need-returns
 returns c =
@@ -40,6 +57,30 @@ returns c =
 field_start_requires : tie.Need-field-start-requires
 field_start_requires c κs =
     has-start c.before.before.before.before.before.before.args.notice.now (bytes c.before.before.before.before.before) c.before.before.before.before.before.before.args.k (well c.before.before) (below c)
+
+add_name : tie.Need-overflow-add-name
+add_name c = let l = lying c in omega (arith, l.room, l.within)
+
+add_read_u16 : tie.Need-overflow-add-read-u16
+add_read_u16 c = let l = lying c in omega (arith, l.room, l.within)
+
+read_u16_requires_2 : tie.Need-read-u16-requires-2
+read_u16_requires_2 c κs = let l = lying c in omega (arith, l.room, l.within)
+
+name_size_requires : tie.Need-name-size-requires
+name_size_requires c κs = let l = lying c.before in omega (arith, l.room, l.within)
+
+add-t12 : tie.Need-overflow-add-t12
+add-t12 c = let l = lying c.before.before in omega (arith, l.room, l.within)
+
+add-t13 : tie.Need-overflow-add-t13
+add-t13 c = let l = lying c.before.before in omega (arith, l.room, l.within)
+
+field_size_requires : tie.Need-field-size-requires
+field_size_requires c κs = let l = lying c.before.before in omega (arith, l.room, l.within)
+
+add-t15 : tie.Need-overflow-add-t15
+add-t15 c = let l = lying c.before.before.before in omega (arith, l.room, l.within)
 
 returns_2 : tie.Need-returns-2
 returns_2 c =
@@ -58,14 +99,24 @@ returns_3 c =
 
 pub locate_spec : {M : Type 1} → statement M
 locate_spec =
-    tie.close (tie.spec (λ c κs. search rules) (λ c. search rules) (λ c κs. search rules)
-    (λ c. search rules) read_u16_requires (λ c. search rules) (λ c κs. search rules) returns
-    field_start_requires (λ c. let l = lying c in omega (arith, l.room, l.within))
-    (λ c. let l = lying c in omega (arith, l.room, l.within))
-    (λ c κs. let l = lying c in omega (arith, l.room, l.within))
-    (λ c κs. let l = lying c.before in omega (arith, l.room, l.within))
-    (λ c. let l = lying c.before.before in omega (arith, l.room, l.within))
-    (λ c. let l = lying c.before.before in omega (arith, l.room, l.within))
-    (λ c κs. let l = lying c.before.before in omega (arith, l.room, l.within))
-    (λ c. let l = lying c.before.before.before in omega (arith, l.room, l.within)) returns_2
+    tie.close
+    (tie.spec
+    check-requires
+    enum-known-layout
+    nowhere-requires
+    enum_told
+    read_u16_requires
+    cast-if1
+    nowhere-requires-2
+    returns
+    field_start_requires
+    add_name
+    add_read_u16
+    read_u16_requires_2
+    name_size_requires
+    add-t12
+    add-t13
+    field_size_requires
+    add-t15
+    returns_2
     returns_3)

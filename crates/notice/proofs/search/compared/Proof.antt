@@ -1,4 +1,3 @@
--- `compared` meets its contract: by three cases: `same` finds the names equal, `before` finds the field's name first, or the one sought is first, since one of the three always holds. Assumes nothing.
 use Rattle.std.proofs.Common.{◌≡◌, ℕ, ◌+◌, ◌-◌, false, take, drop, sym, ap, ◌∙◌, ap₂, arith, rules}
 use Rattle.octets.specs.Octets.{folded, same_of, before_of}
 use Rattle.octets.proofs.Theorems.{same, not_folded}
@@ -28,10 +27,46 @@ same_is c = c.same.ensures ∙ ap₂ same_of (own c.before.before) (not_folded c
 before_is : (c : tie.After-before2) → c.before2.result ≡ before_of (name_at c.before.before.before.before.before.before.before.before.args.notice.now c.before.before.before.before.before.before.before.before.args.at) c.before.before.before.before.before.before.before.before.args.name.now
 before_is c = c.before2.ensures ∙ ap₂ before_of (own c.before.before.before.before.before) (not_folded c.before.before.before.before.before.before.before.before.args.name.now)
 
+add_start : tie.Need-overflow-add-start
+add_start c = let l = lying c in omega arith
+
+name_size_requires : tie.Need-name-size-requires
+name_size_requires c κs = let l = lying c in omega arith
+
+add_end : tie.Need-overflow-add-end
+add_end c = let l = lying c.before in omega arith
+
+sub_same : tie.Need-overflow-sub-same
+sub_same c = search rules
+
+part-same-start : tie.Need-slice-bounds-same-start
+part-same-start c = search rules
+
+part-same-end : tie.Need-slice-bounds-same-end
+part-same-end c = let l = lying c.before in omega arith
+
+same-requires : tie.Need-same-requires
+same-requires c κs = search rules
+
 returns : tie.Need-returns
 returns c =
     let a = c.before.before.before.before.before.before.args in
     (same (name_at a.notice.now a.at) a.name.now).0 (sym (same_is c.before) ∙ c.if1.true)
+
+sub-before : tie.Need-overflow-sub-before
+sub-before c = search rules
+
+part-before-start : tie.Need-slice-bounds-before-start
+part-before-start c = search rules
+
+part_before_end : tie.Need-slice-bounds-before-end
+part_before_end c = let l = lying c.before.before.before.before in omega arith
+
+before_requires : tie.Need-before-requires
+before_requires c κs = search rules
+
+returns_2 : tie.Need-returns-2
+returns_2 c = sym (before_is c.before) ∙ c.if2.true
 
 returns_3 : tie.Need-returns-3
 returns_3 c =
@@ -40,9 +75,19 @@ returns_3 c =
 
 pub compared_spec : {M : Type 1} → statement M
 compared_spec =
-    tie.close (tie.spec (λ c. let l = lying c in omega arith)
-    (λ c κs. let l = lying c in omega arith) (λ c. let l = lying c.before in omega arith)
-    (λ c. search rules) (λ c. search rules) (λ c. let l = lying c.before in omega arith)
-    (λ c κs. search rules) returns (λ c. search rules) (λ c. search rules)
-    (λ c. let l = lying c.before.before.before.before in omega arith) (λ c κs. search rules)
-    (λ c. sym (before_is c.before) ∙ c.if2.true) returns_3)
+    tie.close
+    (tie.spec
+    add_start
+    name_size_requires
+    add_end
+    sub_same
+    part-same-start
+    part-same-end
+    same-requires
+    returns
+    sub-before
+    part-before-start
+    part_before_end
+    before_requires
+    returns_2
+    returns_3)

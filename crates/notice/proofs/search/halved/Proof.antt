@@ -1,4 +1,3 @@
--- `halved` meets its contract: the loop keeps that the names before low are below the one sought and those from high on above it; names rise, so the middle one settles one side. Assumes nothing.
 use Rattle.std.proofs.Common.{◌≡◌, ◌+◌, ◌-◌, ◌/◌, ◌≤◌, true, get_or, arith, drop-cons, rules}
 use Rattle.word.specs.Word.{Bytes}
 use Rattle.notice.specs.declared.search.Standing.{Standing}
@@ -45,10 +44,25 @@ returns c =
     let r = c.before.read-u16.ensures in
     rw r (stops_empty a.notice.now a.name.now (bytes c.before.before.before) c.before.before.before.before.requires.0 c.if1.true)
 
+shared-slice-read-first : tie.Need-shared-slice-read-first invariant_loop decreases_loop
+shared-slice-read-first c = search rules
+
+cast-high : tie.Need-overflow-cast-high invariant_loop decreases_loop
+cast-high c = search rules
+
 loop_holds : tie.Need-loop-init invariant_loop decreases_loop
 loop_holds c =
     let a = c.before.before.before.before.before.args in
     rw c.before.before.read-u16.ensures (between_all a.notice.now a.name.now (bytes c.before.before.before.before) c.before.before.before.before.before.requires.0)
+
+add-mid : tie.Need-overflow-add-mid invariant_loop decreases_loop
+add-mid c = let f = few c.before.before.before.before in omega arith
+
+mul_at : tie.Need-overflow-mul-at invariant_loop decreases_loop
+mul_at c = let f = few c.before.before.before.before in omega arith
+
+element_copy_out_at : tie.Need-element-copy-out-at invariant_loop decreases_loop
+element_copy_out_at c = let f = few c.before.before.before.before in omega arith
 
 cast_at : tie.Need-overflow-cast-at invariant_loop decreases_loop
 cast_at c =
@@ -60,8 +74,14 @@ cast_at c =
 stands_to_requires : tie.Need-stands-to-requires invariant_loop decreases_loop
 stands_to_requires c κs = (right c.before, drop-cons c.before.before.before.before.before.before.before.before.args.name.now 0 0 (omega arith))
 
+enum_told : tie.Need-enum-told invariant_loop decreases_loop
+enum_told c = search rules
+
 add_low : tie.Need-overflow-add-low invariant_loop decreases_loop
 add_low c = let f = few c.before.before.before.before.before.before.before.before in omega arith
+
+loop_less : tie.Need-loop-smaller invariant_loop decreases_loop
+loop_less c = omega arith
 
 loop_again : tie.Need-loop-preserved invariant_loop decreases_loop
 loop_again c =
@@ -69,6 +89,9 @@ loop_again c =
     let a = o.before.args in
     let i = c.before.before.before.before.before.loop in
     from-mid a.notice.now a.name.now (bytes o) o.before.requires.0 i.low i.high i.invariant ((i.low + i.high) / 2) (omega arith) (omega arith) a.starts.now o.before.requires.1 (told c.before.before Below c.enum_told.given.1)
+
+enum-told-2 : tie.Need-enum-told-2 invariant_loop decreases_loop
+enum-told-2 c = search rules
 
 cast_t20 : tie.Need-overflow-cast-t20 invariant_loop decreases_loop
 cast_t20 c = let f = few c.before.before.before.before.before.before.before.before in omega arith
@@ -84,12 +107,24 @@ returns_2 c =
     rw c.before.before.before.before.before.before.before.before.read-u16.ensures
     (stops-mid a.notice.now a.name.now (bytes o) o.before.requires.0 i.low i.high i.invariant ((i.low + i.high) / 2) (omega arith) (omega arith) a.starts.now o.before.requires.1 (told c.before.before Same c.enum-told2.given.1))
 
+enum-told-3 : tie.Need-enum-told-3 invariant_loop decreases_loop
+enum-told-3 c = search rules
+
+loop_less_2 : tie.Need-loop-smaller-2 invariant_loop decreases_loop
+loop_less_2 c = omega arith
+
 loop_again_2 : tie.Need-loop-preserved-2 invariant_loop decreases_loop
 loop_again_2 c =
     let o = c.before.before.before.before.before.before.before.before.before.before in
     let a = o.before.args in
     let i = c.before.before.before.before.before.loop in
     to-mid a.notice.now a.name.now (bytes o) o.before.requires.0 i.low i.high i.invariant ((i.low + i.high) / 2) (omega arith) (omega arith) a.starts.now o.before.requires.1 (told c.before.before Above c.enum-told3.given.1)
+
+cast-t22 : tie.Need-overflow-cast-t22 invariant_loop decreases_loop
+cast-t22 c = let f = few c.before.before.before.before in omega arith
+
+sub-t23 : tie.Need-overflow-sub-t23 invariant_loop decreases_loop
+sub-t23 c = let r = c.before.before.before.before.read-u16.ensures in omega arith
 
 returns_3 : tie.Need-returns-3 invariant_loop decreases_loop
 returns_3 c =
@@ -101,12 +136,31 @@ returns_3 c =
 
 pub halved_spec : {M : Type 1} → statement M
 halved_spec =
-    tie.close (tie.spec invariant_loop decreases_loop read_u16_requires returns (λ c. search rules)
-    (λ c. search rules) loop_holds
-    (λ c. let f = few c.before.before.before.before in omega arith)
-    (λ c. let f = few c.before.before.before.before in omega arith)
-    (λ c. let f = few c.before.before.before.before in omega arith) cast_at stands_to_requires
-    (λ c. search rules) add_low (λ c. omega arith) loop_again (λ c. search rules) cast_t20 sub_t21
-    returns_2 (λ c. search rules) (λ c. omega arith) loop_again_2
-    (λ c. let f = few c.before.before.before.before in omega arith)
-    (λ c. let r = c.before.before.before.before.read-u16.ensures in omega arith) returns_3)
+    tie.close
+    (tie.spec
+    invariant_loop
+    decreases_loop
+    read_u16_requires
+    returns
+    shared-slice-read-first
+    cast-high
+    loop_holds
+    add-mid
+    mul_at
+    element_copy_out_at
+    cast_at
+    stands_to_requires
+    enum_told
+    add_low
+    loop_less
+    loop_again
+    enum-told-2
+    cast_t20
+    sub_t21
+    returns_2
+    enum-told-3
+    loop_less_2
+    loop_again_2
+    cast-t22
+    sub-t23
+    returns_3)

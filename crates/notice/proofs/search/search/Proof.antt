@@ -1,4 +1,3 @@
--- `search` meets its contract: the loop keeps that the names of all fields passed are below the one sought, and that the fields left are well-formed, so the next one is right. Assumes nothing.
 use Rattle.std.proofs.Common.{◌≡◌, true, arith, drop-cons, rules}
 use Rattle.word.specs.Word.{Bytes}
 use Rattle.notice.specs.declared.search.Standing.{Standing}
@@ -39,6 +38,9 @@ returns c =
     let r = c.before.read-u16.ensures in
     rw r (stops_empty a.notice.now a.name.now (bytes c.before.before.before) c.before.before.before.before.requires c.if1.true)
 
+shared-slice-read-first : tie.Need-shared-slice-read-first invariant_loop decreases_loop
+shared-slice-read-first c = search rules
+
 loop_holds : tie.Need-loop-init invariant_loop decreases_loop
 loop_holds c =
     let a = c.before.before.before.before.before.args in
@@ -47,17 +49,41 @@ loop_holds c =
 stands_to_requires : tie.Need-stands-to-requires invariant_loop decreases_loop
 stands_to_requires c κs = (right c, drop-cons c.before.before.before.before.before.before.before.args.name.now 0 0 (omega arith))
 
+enum_told : tie.Need-enum-told invariant_loop decreases_loop
+enum_told c = search rules
+
+enum-told-2 : tie.Need-enum-told-2 invariant_loop decreases_loop
+enum-told-2 c = search rules
+
 returns_2 : tie.Need-returns-2 invariant_loop decreases_loop
 returns_2 c =
     let a = c.before.before.before.before.before.before.before.before.before.before.args in
     let i = c.before.before.before.before.loop in
     stops_same a.notice.now a.name.now (bytes c.before.before.before.before.before.before.before.before.before) i.left i.at i.invariant (omega arith) (told c.before.before Same c.enum-told2.given.1)
 
+enum-told-3 : tie.Need-enum-told-3 invariant_loop decreases_loop
+enum-told-3 c = search rules
+
 returns_3 : tie.Need-returns-3 invariant_loop decreases_loop
 returns_3 c =
     let a = c.before.before.before.before.before.before.before.before.before.before.args in
     let i = c.before.before.before.before.loop in
     stops_above a.notice.now a.name.now (bytes c.before.before.before.before.before.before.before.before.before) i.left i.at i.invariant (omega arith) (told c.before.before Above c.enum-told3.given.1)
+
+add_at : tie.Need-overflow-add-at invariant_loop decreases_loop
+add_at c = let l = lying c.before.before.before in omega arith
+
+field_size_requires : tie.Need-field-size-requires invariant_loop decreases_loop
+field_size_requires c κs = let l = lying c.before.before.before in omega arith
+
+add_at_2 : tie.Need-overflow-add-at-2 invariant_loop decreases_loop
+add_at_2 c = let l = lying c.before.before.before.before in omega arith
+
+sub_left : tie.Need-overflow-sub-left invariant_loop decreases_loop
+sub_left c = search rules
+
+loop_less : tie.Need-loop-smaller invariant_loop decreases_loop
+loop_less c = search rules
 
 loop_again : tie.Need-loop-preserved invariant_loop decreases_loop
 loop_again c =
@@ -73,9 +99,24 @@ returns_4 c =
 
 pub search_spec : {M : Type 1} → statement M
 search_spec =
-    tie.close (tie.spec invariant_loop decreases_loop read_u16_requires returns (λ c. search rules) loop_holds
-    stands_to_requires (λ c. search rules) (λ c. search rules) returns_2 (λ c. search rules)
-    returns_3 (λ c. let l = lying c.before.before.before in omega arith)
-    (λ c κs. let l = lying c.before.before.before in omega arith)
-    (λ c. let l = lying c.before.before.before.before in omega arith) (λ c. search rules)
-    (λ c. search rules) loop_again returns_4)
+    tie.close
+    (tie.spec
+    invariant_loop
+    decreases_loop
+    read_u16_requires
+    returns
+    shared-slice-read-first
+    loop_holds
+    stands_to_requires
+    enum_told
+    enum-told-2
+    returns_2
+    enum-told-3
+    returns_3
+    add_at
+    field_size_requires
+    add_at_2
+    sub_left
+    loop_less
+    loop_again
+    returns_4)

@@ -1,4 +1,3 @@
--- `sought` meets its contract: the count less the fields left is how many names are below: this is the index of a field that is found, and one more is looked at if any is left. Assumes nothing.
 use Rattle.std.proofs.Common.{◌≡◌, ℕ, ◌+◌, ◌-◌, ap, ◌∙◌, ⊎_elim, arith, rules}
 use Rattle.word.specs.Word.{Bytes}
 use Rattle.notice.specs.Layout.{fields_of}
@@ -21,8 +20,20 @@ index_is c =
     (λ w. w.1 ∙ no_index a.notice.now a.name.now (bytes c.before.before.before.before.before) c.before.before.before.before.before.before.requires r.result r.ensures w.0.left)
     c.if1.branch
 
+search_requires : tie.Need-search-requires
+search_requires c κs = search rules
+
 read_u16_requires : tie.Need-read-u16-requires
 read_u16_requires c κs = (well_header c.before.before.before.args.notice.now (bytes c.before.before) c.before.before.before.requires).long
+
+sub-below : tie.Need-overflow-sub-below
+sub-below c = search rules
+
+cast-below : tie.Need-overflow-cast-below
+cast-below c = search rules
+
+add-looked : tie.Need-overflow-add-looked
+add-looked c = search rules
 
 returns : tie.Need-returns
 returns c =
@@ -39,6 +50,4 @@ returns_2 c =
     same_sought (index_is c.before.before) (ap (λ (k : ℕ). k - r.result.left) n ∙ none_left a.notice.now a.name.now (bytes c.before.before.before.before.before.before.before) c.before.before.before.before.before.before.before.before.requires r.result r.ensures (omega arith))
 
 pub sought_spec : {M : Type 1} → statement M
-sought_spec =
-    tie.close (tie.spec (λ c κs. search rules) read_u16_requires (λ c. search rules)
-    (λ c. search rules) (λ c. search rules) returns returns_2)
+sought_spec = tie.close (tie.spec search_requires read_u16_requires sub-below cast-below add-looked returns returns_2)

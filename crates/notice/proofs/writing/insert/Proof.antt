@@ -1,5 +1,3 @@
--- `insert` meets its contract: the bytes after the place moved up, then the field, the length word and the count stored, are the bytes of all fields with the new one; an accepted field
--- fits. Assumes nothing.
 use Rattle.std.proofs.Common.{◌≡◌, ℕ, ◌+◌, ◌-◌, List, length, take, drop, ap, ◌∙◌, ap₂, arith, rules}
 use lib.Seq.{sets}
 use Rattle.word.specs.Word.{word_bytes, Bytes}
@@ -34,11 +32,35 @@ count_is c =
     let z : c.before.before.before.before.before.before.before.before.before.args.len - 0 ≡ c.before.before.before.before.before.before.before.before.before.args.len = omega arith in
     c.read-u16.ensures ∙ ap (λ (n : ℕ). count_of (take n c.before.before.before.before.before.before.before.before.before.args.buffer.now)) z
 
+add_size : tie.Need-overflow-add-size
+add_size c = search rules
+
+add_size_2 : tie.Need-overflow-add-size-2
+add_size_2 c = let k = numbers c.before.before in omega (arith, k.name_fits, k.value_fits)
+
+sub-place-for : tie.Need-overflow-sub-place-for
+sub-place-for c = search rules
+
+part-place-for-start : tie.Need-slice-bounds-place-for-start
+part-place-for-start c = search rules
+
+part-place-for-end : tie.Need-slice-bounds-place-for-end
+part-place-for-end c = search rules
+
 place_for_requires : tie.Need-place-for-requires
 place_for_requires c κs =
     let k = numbers c.before.before.before.before in
     let z : c.before.before.before.before.before.args.len - 0 ≡ c.before.before.before.before.before.args.len = omega arith in
     rw z (omega (arith, k.header, k.short, length_is c.before.before.before.before))
+
+sub-read-u16 : tie.Need-overflow-sub-read-u16
+sub-read-u16 c = search rules
+
+part-read-u16-start : tie.Need-slice-bounds-read-u16-start
+part-read-u16-start c = search rules
+
+part-read-u16-end : tie.Need-slice-bounds-read-u16-end
+part-read-u16-end c = search rules
 
 read_u16_requires : tie.Need-read-u16-requires
 read_u16_requires c κs =
@@ -58,6 +80,9 @@ add_write_u32 : tie.Need-overflow-add-write-u32
 add_write_u32 c =
     let k = numbers c.before.before.before.before.before.before.before.before.before.before.before.before.before.before.before.before.before in omega (arith, k.short)
 
+sub_write_u32 : tie.Need-overflow-sub-write-u32
+sub_write_u32 c = search rules
+
 cast_write_u32 : tie.Need-overflow-cast-write-u32
 cast_write_u32 c =
     let k = numbers c.before.before.before.before.before.before.before.before.before.before.before.before.before.before.before.before.before in omega (arith, k.short)
@@ -73,6 +98,9 @@ add_write_u16 c =
 write_u16_requires : tie.Need-write-u16-requires
 write_u16_requires c κs =
     let k = numbers c.before.before.before.before.before.before.before.before.before.before.before.before.before.before.before.before.before.before.before.before.before in omega (arith, k.header, k.fits, c.before.before.before.before.before.before.before.before.before.before.before.move_up.auto.0, c.before.before.before.before.before.before.before.put-field.auto.0, c.before.before.before.write-u32.auto.0)
+
+same_length : tie.Need-same-length
+same_length c = search rules
 
 returns : tie.Need-returns
 returns c =
@@ -90,9 +118,25 @@ returns c =
 
 pub insert_spec : {M : Type 1} → statement M
 insert_spec =
-    tie.close (tie.spec (λ c. search rules)
-    (λ c. let k = numbers c.before.before in omega (arith, k.name_fits, k.value_fits))
-    (λ c. search rules) (λ c. search rules) (λ c. search rules) place_for_requires
-    (λ c. search rules) (λ c. search rules) (λ c. search rules) read_u16_requires move_up_requires
-    put_field_requires add_write_u32 (λ c. search rules) cast_write_u32 write_u32_requires
-    add_write_u16 write_u16_requires (λ c. search rules) returns)
+    tie.close
+    (tie.spec
+    add_size
+    add_size_2
+    sub-place-for
+    part-place-for-start
+    part-place-for-end
+    place_for_requires
+    sub-read-u16
+    part-read-u16-start
+    part-read-u16-end
+    read_u16_requires
+    move_up_requires
+    put_field_requires
+    add_write_u32
+    sub_write_u32
+    cast_write_u32
+    write_u32_requires
+    add_write_u16
+    write_u16_requires
+    same_length
+    returns)

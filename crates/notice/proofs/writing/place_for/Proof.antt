@@ -1,4 +1,3 @@
--- `place_for` meets its contract: the loop keeps that the place among the fields left, from the current offset on, is the place among all. Assumes nothing.
 use Rattle.std.proofs.Common.{◌≡◌, ℕ, ◌+◌, ◌-◌, ◌≤◌, true, false, length, take, drop, sym, ap, ◌∙◌, ap₂, arith, rules}
 use Rattle.octets.specs.Octets.{before_of}
 use Rattle.octets.proofs.Theorems.{not_folded}
@@ -18,20 +17,41 @@ decreases_loop notice name left₀ at₀ left at = left
 lying : (c : tie.Then1 invariant_loop decreases_loop) → Lies c.before.before.before.before.before.before.before.args.notice.now c.before.before.before.loop.at
 lying c = lies_true c.before.before.before.before.before.before.before.args.notice.now c.before.before.before.loop.at (sym c.before.lies.ensures ∙ c.if1.true)
 
+read_u16_requires : tie.Need-read-u16-requires invariant_loop decreases_loop
+read_u16_requires c κs = search rules
+
 loop_holds : tie.Need-loop-init invariant_loop decreases_loop
 loop_holds c =
     let s = c.before.before.before.args.notice.now in
     (omega arith, ap (λ (n : ℕ). place_in s c.before.before.before.args.name.now (starts_from n s 8)) c.read-u16.ensures ∙ sym (ap (place_in s c.before.before.before.args.name.now) (from_header s c.before.before.before.requires.0 c.before.before.before.requires.1)))
+
+lies-requires : tie.Need-lies-requires invariant_loop decreases_loop
+lies-requires c κs = search rules
+
+add_start : tie.Need-overflow-add-start invariant_loop decreases_loop
+add_start c = search rules
 
 name_size_requires : tie.Need-name-size-requires invariant_loop decreases_loop
 name_size_requires c κs =
     let l = lying c in
     omega arith
 
+add_value : tie.Need-overflow-add-value invariant_loop decreases_loop
+add_value c = search rules
+
+sub-before : tie.Need-overflow-sub-before invariant_loop decreases_loop
+sub-before c = search rules
+
+part-before-start : tie.Need-slice-bounds-before-start invariant_loop decreases_loop
+part-before-start c = search rules
+
 part_before_end : tie.Need-slice-bounds-before-end invariant_loop decreases_loop
 part_before_end c =
     let l = lying c.before in
     omega arith
+
+before_requires : tie.Need-before-requires invariant_loop decreases_loop
+before_requires c κs = search rules
 
 returns : tie.Need-returns invariant_loop decreases_loop
 returns c =
@@ -44,10 +64,22 @@ returns c =
     let first : before_of name (name_at s i.at) ≡ true = ap (λ (k : ℕ). before_of name (take k (drop (i.at + 5) s))) (sym n) ∙ (ap₂ before_of (sym (not_folded name)) (sym (not_folded own)) ∙ (sym c.before.before2.ensures ∙ c.if2.true)) in
     here s name i.at i.left (omega arith) e first ∙ i.invariant.1
 
+add_at : tie.Need-overflow-add-at invariant_loop decreases_loop
+add_at c = search rules
+
 field_size_requires : tie.Need-field-size-requires invariant_loop decreases_loop
 field_size_requires c κs =
     let l = lying c.before.before.before.before in
     omega arith
+
+add_at_2 : tie.Need-overflow-add-at-2 invariant_loop decreases_loop
+add_at_2 c = search rules
+
+sub_left : tie.Need-overflow-sub-left invariant_loop decreases_loop
+sub_left c = search rules
+
+loop_less : tie.Need-loop-smaller invariant_loop decreases_loop
+loop_less c = search rules
 
 loop_again : tie.Need-loop-preserved invariant_loop decreases_loop
 loop_again c =
@@ -73,8 +105,26 @@ returns_3 c =
 
 pub place_for_spec : {M : Type 1} → statement M
 place_for_spec =
-    tie.close (tie.spec invariant_loop decreases_loop (λ c κs. search rules) loop_holds (λ c κs. search rules)
-    (λ c. search rules) name_size_requires (λ c. search rules) (λ c. search rules)
-    (λ c. search rules) part_before_end (λ c κs. search rules) returns (λ c. search rules)
-    field_size_requires (λ c. search rules) (λ c. search rules) (λ c. search rules) loop_again
-    returns_2 returns_3)
+    tie.close
+    (tie.spec
+    invariant_loop
+    decreases_loop
+    read_u16_requires
+    loop_holds
+    lies-requires
+    add_start
+    name_size_requires
+    add_value
+    sub-before
+    part-before-start
+    part_before_end
+    before_requires
+    returns
+    add_at
+    field_size_requires
+    add_at_2
+    sub_left
+    loop_less
+    loop_again
+    returns_2
+    returns_3)

@@ -1,4 +1,3 @@
--- `refusal` meets its contract: by the refusals in their order, where `lookup` finds a field exactly if one has the name; parts that pass are small, so the new size is in range. Assumes nothing.
 use Rattle.std.proofs.Common.{◌≡◌, ℕ, ◌+◌, true, length, sym, ap, ◌∙◌, arith, rules}
 use Rattle.word.specs.Word.{Bytes}
 use Rattle.notice.specs.Field.{name_right, size_right}
@@ -27,6 +26,24 @@ sized c =
     let u = c.if2.true in
     cc
 
+name-right-requires : tie.Need-name-right-requires
+name-right-requires c κs = search rules
+
+size-right-requires : tie.Need-size-right-requires
+size-right-requires c κs = search rules
+
+lookup-requires : tie.Need-lookup-requires
+lookup-requires c κs = search rules
+
+enum_told : tie.Need-enum-told
+enum_told c = search rules
+
+enum-told-2 : tie.Need-enum-told-2
+enum-told-2 c = search rules
+
+add_size : tie.Need-overflow-add-size
+add_size c = search rules
+
 add_size_2 : tie.Need-overflow-add-size-2
 add_size_2 c =
     let a = c.before.before.before.before.before.before.before.before.before.before.args in
@@ -43,6 +60,9 @@ add_size_3 c =
 
 read_u16_requires : tie.Need-read-u16-requires
 read_u16_requires c κs = (well_header c.before.before.before.before.before.before.before.before.before.before.args.notice.now (bytes c.before.before.before.before.before.before.before.before.before) c.before.before.before.before.before.before.before.before.before.before.requires).long
+
+has_room_requires : tie.Need-has-room-requires
+has_room_requires c κs = search rules
 
 returns : tie.Need-returns
 returns c =
@@ -80,6 +100,20 @@ returns_5 c =
 
 pub refusal_spec : {M : Type 1} → statement M
 refusal_spec =
-    tie.close (tie.spec (λ c κs. search rules) (λ c κs. search rules) (λ c κs. search rules)
-    (λ c. search rules) (λ c. search rules) (λ c. search rules) add_size_2 add_size_3
-    read_u16_requires (λ c κs. search rules) returns returns_2 returns_3 returns_4 returns_5)
+    tie.close
+    (tie.spec
+    name-right-requires
+    size-right-requires
+    lookup-requires
+    enum_told
+    enum-told-2
+    add_size
+    add_size_2
+    add_size_3
+    read_u16_requires
+    has_room_requires
+    returns
+    returns_2
+    returns_3
+    returns_4
+    returns_5)

@@ -1,4 +1,3 @@
--- `agreed` meets its contract: the loop keeps that the literal begins s at the offset exactly if its bytes from j on do at the offset plus j; only then j reaches its length. Assumes nothing.
 use Prim.Native.Nat.{◌+◌, ◌-◌, ◌≤◌}
 use mathlib.Core.Path.{◌≡◌, sym, ◌∙◌}
 use native.Mathlib.Omega.{arith}
@@ -9,6 +8,9 @@ use Rattle.octets.proofs.Places.{begins_from, begins_more, begins_stop, begins_e
 use borrow.Author.Rules.{rules}
 use Rattle.octets.proofs.searching.agreed.Statement.{statement}
 use Rattle.octets.proofs.searching.agreed.Tie as tie
+use Rattle.octets.proofs.searching.agreed.Reads as reads
+use Rattle.octets.proofs.searching.agreed.Lts as lts
+use Rattle.octets.proofs.fold.Reads as fold-reads
 
 abbrev invariant_loop : tie.invariant_loop
 invariant_loop s s-mark at p p-mark j₀ j =
@@ -25,6 +27,21 @@ loop_holds c =
       begins_more (fold a.s-mark) (fold a.p-mark) a.s.now a.p.now a.at 0 (omega arith) (omega arith) c.before.before.requires.2,
     )
 
+add-fold : tie.Need-overflow-add-fold invariant_loop decreases_loop
+add-fold c = search rules
+
+shared-slice-read-fold : tie.Need-shared-slice-read-fold invariant_loop decreases_loop
+shared-slice-read-fold c = search rules
+
+fold-requires : tie.Need-fold-requires invariant_loop decreases_loop
+fold-requires c κs = search rules
+
+shared-slice-read-fold-2 : tie.Need-shared-slice-read-fold-2 invariant_loop decreases_loop
+shared-slice-read-fold-2 c = search rules
+
+fold-requires-2 : tie.Need-fold-requires-2 invariant_loop decreases_loop
+fold-requires-2 c κs = search rules
+
 returns : tie.Need-returns invariant_loop decreases_loop
 returns c =
     let b = c.before in
@@ -34,6 +51,12 @@ returns c =
     ∙ sym (begins_stop (fold a.s-mark) (fold a.p-mark) a.s.now a.p.now (a.at + l.j) l.j (omega arith) (omega arith)
     (λ e. c.if1.true (b.before.before.fold.ensures ∙ e ∙ sym b.fold2.ensures)))
     ∙ l.invariant.2
+
+add-j : tie.Need-overflow-add-j invariant_loop decreases_loop
+add-j c = search rules
+
+loop_less : tie.Need-loop-smaller invariant_loop decreases_loop
+loop_less c = search rules
 
 loop_again : tie.Need-loop-preserved invariant_loop decreases_loop
 loop_again c =
@@ -57,6 +80,18 @@ returns_2 c =
 
 pub agreed_spec : {M : Type 1} → statement M
 agreed_spec =
-    tie.close (tie.spec invariant_loop decreases_loop loop_holds (λ c. search rules) (λ c. search rules)
-    (λ c κs. search rules) (λ c. search rules) (λ c κs. search rules) returns (λ c. search rules)
-    (λ c. search rules) loop_again returns_2)
+    tie.close
+    (tie.spec
+    invariant_loop
+    decreases_loop
+    loop_holds
+    add-fold
+    shared-slice-read-fold
+    fold-requires
+    shared-slice-read-fold-2
+    fold-requires-2
+    returns
+    add-j
+    loop_less
+    loop_again
+    returns_2)

@@ -1,4 +1,3 @@
--- `set_borders` meets its contract: the loop keeps that the first i borders are stored, and that k is the longest start that ends at i and that byte i may still continue. Assumes nothing.
 use Prim.Native.Nat.{◌+◌, ◌-◌, ◌*◌, ◌≤◌, ◌<◌}
 use mathlib.Core.Path.{◌≡◌, refl, sym, ◌∙◌}
 use native.Mathlib.Omega.{arith}
@@ -9,6 +8,9 @@ use Rattle.octets.proofs.Borders.{begun, later, widens, border_at, border_more, 
 use borrow.Author.Rules.{rules}
 use Rattle.octets.proofs.searching.set_borders.Statement.{statement}
 use Rattle.octets.proofs.searching.set_borders.Tie as tie
+use Rattle.octets.proofs.searching.set_borders.Reads as reads
+use Rattle.octets.proofs.searching.set_borders.Lts as lts
+use Rattle.octets.proofs.fold.Reads as fold-reads
 
 abbrev invariant_loop : tie.invariant_loop
 invariant_loop p p-mark out₀ k₀ i₀ out k i =
@@ -16,6 +18,9 @@ invariant_loop p p-mark out₀ k₀ i₀ out k i =
 
 abbrev decreases_loop : tie.decreases_loop
 decreases_loop p p-mark out₀ k₀ i₀ out k i = 2 * (length p - i) + k
+
+slice_write_out : tie.Need-slice-write-out invariant_loop decreases_loop
+slice_write_out c = search rules
 
 loop_holds : tie.Need-loop-init invariant_loop decreases_loop
 loop_holds c =
@@ -27,12 +32,39 @@ loop_holds c =
       begun t t 2 1,
     )
 
+shared-slice-read-fold : tie.Need-shared-slice-read-fold invariant_loop decreases_loop
+shared-slice-read-fold c = search rules
+
+fold-requires : tie.Need-fold-requires invariant_loop decreases_loop
+fold-requires c κs = search rules
+
+shared-slice-read-fold-2 : tie.Need-shared-slice-read-fold-2 invariant_loop decreases_loop
+shared-slice-read-fold-2 c = search rules
+
+fold-requires-2 : tie.Need-fold-requires-2 invariant_loop decreases_loop
+fold-requires-2 c κs = search rules
+
+add-k : tie.Need-overflow-add-k invariant_loop decreases_loop
+add-k c = search rules
+
+cast-out : tie.Need-overflow-cast-out invariant_loop decreases_loop
+cast-out c = search rules
+
+mul-out : tie.Need-overflow-mul-out invariant_loop decreases_loop
+mul-out c = search rules
+
 slice_write_out_2 : tie.Need-slice-write-out-2 invariant_loop decreases_loop
 slice_write_out_2 c =
     let l = c.before.before.before.before.before.before.loop in
     let a = c.before.before.before.before.before.before.before.before.before.args in
     let h : l.i < length l.out = omega (arith, length-set a.out.now 0 0) in
     h
+
+add_i : tie.Need-overflow-add-i invariant_loop decreases_loop
+add_i c = search rules
+
+loop_less : tie.Need-loop-smaller invariant_loop decreases_loop
+loop_less c = omega arith
 
 loop_again : tie.Need-loop-preserved invariant_loop decreases_loop
 loop_again c =
@@ -49,12 +81,21 @@ loop_again c =
       later 1 t t l.i (l.k + 1) n,
     )
 
+mul-out-2 : tie.Need-overflow-mul-out-2 invariant_loop decreases_loop
+mul-out-2 c = search rules
+
 slice_write_out_3 : tie.Need-slice-write-out-3 invariant_loop decreases_loop
 slice_write_out_3 c =
     let l = c.before.before.before.before.before.before.before.loop in
     let a = c.before.before.before.before.before.before.before.before.before.before.args in
     let h : l.i < length l.out = omega (arith, length-set a.out.now 0 0) in
     h
+
+add_i_2 : tie.Need-overflow-add-i-2 invariant_loop decreases_loop
+add_i_2 c = search rules
+
+loop_less_2 : tie.Need-loop-smaller-2 invariant_loop decreases_loop
+loop_less_2 c = omega arith
 
 loop_again_2 : tie.Need-loop-preserved-2 invariant_loop decreases_loop
 loop_again_2 c =
@@ -71,12 +112,21 @@ loop_again_2 c =
       later 1 t t l.i l.k n,
     )
 
+sub-k : tie.Need-overflow-sub-k invariant_loop decreases_loop
+sub-k c = search rules
+
+mul-k : tie.Need-overflow-mul-k invariant_loop decreases_loop
+mul-k c = search rules
+
 slice_read_k : tie.Need-slice-read-k invariant_loop decreases_loop
 slice_read_k c =
     let l = c.before.before.before.before.before.before.before.before.loop in
     let a = c.before.before.before.before.before.before.before.before.before.before.before.args in
     let h : l.k - 1 < length l.out = omega (arith, length-set a.out.now 0 0, l.invariant.3.fits) in
     h
+
+cast-k : tie.Need-overflow-cast-k invariant_loop decreases_loop
+cast-k c = widens (c.slice-known2.given _)
 
 loop_less_3 : tie.Need-loop-smaller-3 invariant_loop decreases_loop
 loop_less_3 c =
@@ -111,9 +161,33 @@ returns c =
 
 pub set_borders_spec : {M : Type 1} → statement M
 set_borders_spec =
-    tie.close (tie.spec invariant_loop decreases_loop (λ c. search rules) loop_holds (λ c. search rules)
-    (λ c κs. search rules) (λ c. search rules) (λ c κs. search rules) (λ c. search rules)
-    (λ c. search rules) (λ c. search rules) slice_write_out_2 (λ c. search rules) (λ c. omega arith)
-    loop_again (λ c. search rules) slice_write_out_3 (λ c. search rules) (λ c. omega arith)
-    loop_again_2 (λ c. search rules) (λ c. search rules) slice_read_k
-    (λ c. widens (c.slice-known2.given _)) loop_less_3 loop_again_3 same_length returns)
+    tie.close
+    (tie.spec
+    invariant_loop
+    decreases_loop
+    slice_write_out
+    loop_holds
+    shared-slice-read-fold
+    fold-requires
+    shared-slice-read-fold-2
+    fold-requires-2
+    add-k
+    cast-out
+    mul-out
+    slice_write_out_2
+    add_i
+    loop_less
+    loop_again
+    mul-out-2
+    slice_write_out_3
+    add_i_2
+    loop_less_2
+    loop_again_2
+    sub-k
+    mul-k
+    slice_read_k
+    cast-k
+    loop_less_3
+    loop_again_3
+    same_length
+    returns)

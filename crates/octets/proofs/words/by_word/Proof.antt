@@ -6,6 +6,12 @@ use borrow.Author.Rules.{rules}
 use Rattle.octets.proofs.words.by_word.Statement.{statement}
 use Rattle.octets.proofs.words.by_word.Tie as tie
 
+eight-requires : tie.Need-eight-requires
+eight-requires c κs = search rules
+
+eight-requires-2 : tie.Need-eight-requires-2
+eight-requires-2 c κs = search rules
+
 returns : tie.Need-returns
 returns c =
     let a = c.before.before.before.before.args in
@@ -14,4 +20,4 @@ returns c =
     ∙ words_order a.s.now a.t.now (λ i. (c.before.before.before.shared-slice-known.given i).fits) (λ i. (c.before.before.shared-slice-known2.given i).fits) a.at p.0 p.1 p.2 p.3
 
 pub by_word_spec : {M : Type 1} → statement M
-by_word_spec = tie.close (tie.spec (λ c κs. search rules) (λ c κs. search rules) returns)
+by_word_spec = tie.close (tie.spec eight-requires eight-requires-2 returns)

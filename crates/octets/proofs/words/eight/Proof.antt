@@ -1,4 +1,3 @@
--- `eight` meets its contract: the loop keeps that v and the 8 - i bytes left make the number of all eight, and that v is below 256^i, so one byte more fits in 64 bits. Assumes nothing.
 use mathlib.Core.Path.{◌≡◌, sym, ap, ◌∙◌}
 use Prim.Native.Nat.{ℕ, ◌+◌, ◌-◌, ◌*◌, ◌^◌, ◌≤◌, ◌<◌}
 use native.Mathlib.Nat.{pow-suc}
@@ -32,11 +31,26 @@ mul_v c =
     let m : l.v < 256 ^ 7 = fits7 l.i l.invariant.1 (omega arith) in
     omega arith
 
+add_v : tie.Need-overflow-add-v invariant_loop decreases_loop
+add_v c = search rules
+
+shared-slice-read-v : tie.Need-shared-slice-read-v invariant_loop decreases_loop
+shared-slice-read-v c = search rules
+
+cast-v : tie.Need-overflow-cast-v invariant_loop decreases_loop
+cast-v c = omega (arith, byte c)
+
 add_v_2 : tie.Need-overflow-add-v-2 invariant_loop decreases_loop
 add_v_2 c =
     let l = c.before.before.loop in
     let m : l.v < 256 ^ 7 = fits7 l.i l.invariant.1 (omega arith) in
     omega (arith, byte c)
+
+add_i : tie.Need-overflow-add-i invariant_loop decreases_loop
+add_i c = search rules
+
+loop_less : tie.Need-loop-smaller invariant_loop decreases_loop
+loop_less c = search rules
 
 loop_again : tie.Need-loop-preserved invariant_loop decreases_loop
 loop_again c =
@@ -54,5 +68,17 @@ returns c =
 
 pub eight_spec : {M : Type 1} → statement M
 eight_spec =
-    tie.close (tie.spec invariant_loop decreases_loop loop_holds mul_v (λ c. search rules) (λ c. search rules)
-    (λ c. omega (arith, byte c)) add_v_2 (λ c. search rules) (λ c. search rules) loop_again returns)
+    tie.close
+    (tie.spec
+    invariant_loop
+    decreases_loop
+    loop_holds
+    mul_v
+    add_v
+    shared-slice-read-v
+    cast-v
+    add_v_2
+    add_i
+    loop_less
+    loop_again
+    returns)

@@ -16,12 +16,33 @@ invariant_loop s t t-mark i₀ i = (i ≤ length s) × (same_from (fold true) (f
 abbrev decreases_loop : tie.decreases_loop
 decreases_loop s t t-mark i₀ i = length s - i
 
+loop_holds : tie.Need-loop-init invariant_loop decreases_loop
+loop_holds c = (omega arith, refl)
+
+shared-slice-read-fold : tie.Need-shared-slice-read-fold invariant_loop decreases_loop
+shared-slice-read-fold c = search rules
+
+fold-requires : tie.Need-fold-requires invariant_loop decreases_loop
+fold-requires c κs = search rules
+
+shared-slice-read-fold-2 : tie.Need-shared-slice-read-fold-2 invariant_loop decreases_loop
+shared-slice-read-fold-2 c = omega arith
+
+fold-requires-2 : tie.Need-fold-requires-2 invariant_loop decreases_loop
+fold-requires-2 c κs = search rules
+
 returns : tie.Need-returns invariant_loop decreases_loop
 returns c =
     let a = c.before.before.before.before.before.before.before.before.before.args in
     let l = c.before.before.before.before.before.before.loop in
     same_stop (fold true) (fold a.t-mark) a.s.now a.t.now l.i (omega arith) (omega arith)
     (λ e. c.if1.true (c.before.before.before.fold.ensures ∙ e ∙ sym c.before.fold2.ensures)) ∙ l.invariant.1
+
+add_i : tie.Need-overflow-add-i invariant_loop decreases_loop
+add_i c = omega arith
+
+loop_less : tie.Need-loop-smaller invariant_loop decreases_loop
+loop_less c = omega arith
 
 loop_again : tie.Need-loop-preserved invariant_loop decreases_loop
 loop_again c =
@@ -40,6 +61,17 @@ returns_2 c =
 
 pub folded_bytes_spec : {M : Type 1} → statement M
 folded_bytes_spec =
-    tie.close (tie.spec invariant_loop decreases_loop (λ c. (omega arith, refl)) (λ c. search rules)
-    (λ c κs. search rules) (λ c. omega arith) (λ c κs. search rules) returns (λ c. omega arith)
-    (λ c. omega arith) loop_again returns_2)
+    tie.close
+    (tie.spec
+    invariant_loop
+    decreases_loop
+    loop_holds
+    shared-slice-read-fold
+    fold-requires
+    shared-slice-read-fold-2
+    fold-requires-2
+    returns
+    add_i
+    loop_less
+    loop_again
+    returns_2)

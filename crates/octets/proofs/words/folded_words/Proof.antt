@@ -16,15 +16,39 @@ invariant_loop s t t-mark last i₀ i = (i ≤ last + 7) × (take i (folded true
 abbrev decreases_loop : tie.decreases_loop
 decreases_loop s t t-mark last i₀ i = last - i
 
+sub-last : tie.Need-overflow-sub-last invariant_loop decreases_loop
+sub-last c = omega arith
+
+word-under-requires : tie.Need-word-under-requires invariant_loop decreases_loop
+word-under-requires c κs = omega arith
+
+word-under-requires-2 : tie.Need-word-under-requires-2 invariant_loop decreases_loop
+word-under-requires-2 c κs = omega arith
+
 returns : tie.Need-returns invariant_loop decreases_loop
 returns c =
     let a = c.before.before.before.before.before.args in
     other_word (folded true a.s.now) (folded a.t-mark a.t.now) 8 (length a.s.now - 8) (λ e. c.if1.true (c.before.before.word-under.ensures ∙ (e ∙ sym c.before.word-under2.ensures)))
 
+loop_holds : tie.Need-loop-init invariant_loop decreases_loop
+loop_holds c = (omega arith, refl)
+
+word-under-requires-3 : tie.Need-word-under-requires-3 invariant_loop decreases_loop
+word-under-requires-3 c κs = omega arith
+
+word-under-requires-4 : tie.Need-word-under-requires-4 invariant_loop decreases_loop
+word-under-requires-4 c κs = omega arith
+
 returns_2 : tie.Need-returns-2 invariant_loop decreases_loop
 returns_2 c =
     let a = c.before.before.before.before.before.before.before.before.before.before.args in
     other_word (folded true a.s.now) (folded a.t-mark a.t.now) 8 c.before.before.before.before.loop.i (λ e. c.if2.true (c.before.before.word-under3.ensures ∙ (e ∙ sym c.before.word-under4.ensures)))
+
+add_i : tie.Need-overflow-add-i invariant_loop decreases_loop
+add_i c = omega arith
+
+loop_less : tie.Need-loop-smaller invariant_loop decreases_loop
+loop_less c = omega arith
 
 loop_again : tie.Need-loop-preserved invariant_loop decreases_loop
 loop_again c =
@@ -49,6 +73,19 @@ returns_3 c =
 
 pub folded_words_spec : {M : Type 1} → statement M
 folded_words_spec =
-    tie.close (tie.spec invariant_loop decreases_loop (λ c. omega arith) (λ c κs. omega arith)
-    (λ c κs. omega arith) returns (λ c. (omega arith, refl)) (λ c κs. omega arith)
-    (λ c κs. omega arith) returns_2 (λ c. omega arith) (λ c. omega arith) loop_again returns_3)
+    tie.close
+    (tie.spec
+    invariant_loop
+    decreases_loop
+    sub-last
+    word-under-requires
+    word-under-requires-2
+    returns
+    loop_holds
+    word-under-requires-3
+    word-under-requires-4
+    returns_2
+    add_i
+    loop_less
+    loop_again
+    returns_3)

@@ -13,10 +13,25 @@ invariant_loop s t i₀ i = (i ≤ length s) × (take i s ≡ take i t)
 abbrev decreases_loop : tie.decreases_loop
 decreases_loop s t i₀ i = length s - i
 
+loop_holds : tie.Need-loop-init invariant_loop decreases_loop
+loop_holds c = (omega arith, refl)
+
+shared_slice_read_if1 : tie.Need-shared-slice-read-if1 invariant_loop decreases_loop
+shared_slice_read_if1 c = omega arith
+
+shared-slice-read-if1-2 : tie.Need-shared-slice-read-if1-2 invariant_loop decreases_loop
+shared-slice-read-if1-2 c = omega arith
+
 returns : tie.Need-returns invariant_loop decreases_loop
 returns c =
     let a = c.before.before.before.before.before.args in
     other_byte a.s.now a.t.now c.before.before.before.before.loop.i c.if1.true
+
+add_i : tie.Need-overflow-add-i invariant_loop decreases_loop
+add_i c = omega arith
+
+loop_less : tie.Need-loop-smaller invariant_loop decreases_loop
+loop_less c = omega arith
 
 loop_again : tie.Need-loop-preserved invariant_loop decreases_loop
 loop_again c =
@@ -31,5 +46,15 @@ returns_2 c =
 
 pub same_bytes_spec : {M : Type 1} → statement M
 same_bytes_spec =
-    tie.close (tie.spec invariant_loop decreases_loop (λ c. (omega arith, refl)) (λ c. omega arith)
-    (λ c. omega arith) returns (λ c. omega arith) (λ c. omega arith) loop_again returns_2)
+    tie.close
+    (tie.spec
+    invariant_loop
+    decreases_loop
+    loop_holds
+    shared_slice_read_if1
+    shared-slice-read-if1-2
+    returns
+    add_i
+    loop_less
+    loop_again
+    returns_2)

@@ -1,9 +1,14 @@
--- `word_under` meets its contract: under the mark, the word of the bytes turned to lower case is the word of the string so turned; without it the word read is the string's own. Assumes nothing.
 use mathlib.Core.Path.{◌∙◌}
 use Rattle.octets.proofs.Folds.{under_mark, under_none}
 use borrow.Author.Rules.{rules}
 use Rattle.octets.proofs.words.word_under.Statement.{statement}
 use Rattle.octets.proofs.words.word_under.Tie as tie
+
+read_u64_requires : tie.Need-read-u64-requires
+read_u64_requires c κs = search rules
+
+lower-word-requires : tie.Need-lower-word-requires
+lower-word-requires c κs = search rules
 
 returns : tie.Need-returns
 returns c =
@@ -17,5 +22,4 @@ returns_2 c =
     under_none a.mark a.s.now a.at _ c.before.read_u64.ensures c.if1.false
 
 pub word_under_spec : {M : Type 1} → statement M
-word_under_spec =
-    tie.close (tie.spec (λ c κs. search rules) (λ c κs. search rules) returns returns_2)
+word_under_spec = tie.close (tie.spec read_u64_requires lower-word-requires returns returns_2)

@@ -6,5 +6,8 @@ use Rattle.opcode.proofs.groups.change_of.Tie as tie
 
 pub change_of_spec : {M : Type 1} → statement M
 change_of_spec =
-    tie.close (tie.spec (λ c. rw c.match.keys1) (λ c. rw c.match.keys2)
+    tie.close
+    (tie.spec
+    (λ c. rw c.match.keys1)
+    (λ c. rw c.match.keys2)
     (λ c. sym (other_change c.before.args.number c.match.rest)))

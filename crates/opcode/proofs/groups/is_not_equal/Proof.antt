@@ -1,4 +1,4 @@
--- `is_not_equal` meets its contract: 33 is the number of `!=`; no other number in the list of operators is, by a test of each, and every number past the list is unknown. Assumes nothing.
+-- `opcode::groups::is_not_equal` meets its contract. Assumes nothing.
 use Rattle.opcode.proofs.Grouped.{not_equal}
 use Rattle.opcode.proofs.groups.is_not_equal.Statement.{statement}
 use Rattle.opcode.proofs.groups.is_not_equal.Tie as tie

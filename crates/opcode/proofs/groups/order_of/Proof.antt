@@ -6,5 +6,9 @@ use Rattle.opcode.proofs.groups.order_of.Tie as tie
 
 pub order_of_spec : {M : Type 1} → statement M
 order_of_spec =
-    tie.close (tie.spec (λ c. rw c.match.keys1) (λ c. rw c.match.keys2)
-    (λ c. rw c.match.keys3) (λ c. sym (other_order c.before.args.number c.match.rest)))
+    tie.close
+    (tie.spec
+    (λ c. rw c.match.keys1)
+    (λ c. rw c.match.keys2)
+    (λ c. rw c.match.keys3)
+    (λ c. sym (other_order c.before.args.number c.match.rest)))

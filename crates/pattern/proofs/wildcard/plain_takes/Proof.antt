@@ -1,10 +1,21 @@
--- `plain_takes` meets its contract: by cases: the folded byte is the one given, it is another, or the text ends before it. Assumes nothing.
 use Rattle.pattern.proofs.Items.{plain_past, plain_hit, plain_miss}
 use native.Mathlib.Omega.{arith}
 use mathlib.Core.Path.{sym, ◌∙◌}
 use borrow.Author.Rules.{rules}
 use Rattle.pattern.proofs.wildcard.plain_takes.Statement.{statement}
 use Rattle.pattern.proofs.wildcard.plain_takes.Tie as tie
+use Rattle.pattern.proofs.wildcard.plain_takes.Reads as reads
+use Rattle.pattern.proofs.wildcard.plain_takes.Lts as lts
+use Rattle.octets.proofs.fold.Reads as fold-reads
+
+shared-slice-read-fold : tie.Need-shared-slice-read-fold
+shared-slice-read-fold c = search rules
+
+fold-requires : tie.Need-fold-requires
+fold-requires c κs = search rules
+
+add_result : tie.Need-overflow-add-result
+add_result c = search rules
 
 returns : tie.Need-returns
 returns c =
@@ -21,5 +32,5 @@ returns_3 c = let a = c.before.before.args in plain_past a.mark a.p.now a.i a.c 
 
 pub plain_takes_spec : {M : Type 1} → statement M
 plain_takes_spec =
-    tie.close (tie.spec (λ c. search rules) (λ c κs. search rules) (λ c. search rules) returns
-    returns_2 returns_3)
+    tie.close
+    (tie.spec shared-slice-read-fold fold-requires add_result returns returns_2 returns_3)

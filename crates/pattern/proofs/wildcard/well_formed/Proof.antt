@@ -1,6 +1,5 @@
--- `well_formed` meets its contract: the loop keeps that the rest from index i is a pattern exactly if the text is, and each item ends behind its start. Assumes nothing.
 use Rattle.pattern.proofs.Items.{item_ends, item_bad, ends_well}
-use Rattle.pattern.specs.Computed.{well_formed}
+use Rattle.pattern.specs.Wildcard.{well_formed}
 use lib.ListN.{length, drop}
 use Prim.Native.Nat.{◌-◌}
 use borrow.Author.Rules.{rules}
@@ -8,12 +7,21 @@ use native.Mathlib.Omega.{arith}
 use mathlib.Core.Path.{◌≡◌, refl, ◌∙◌}
 use Rattle.pattern.proofs.wildcard.well_formed.Statement.{statement}
 use Rattle.pattern.proofs.wildcard.well_formed.Tie as tie
+use Rattle.pattern.proofs.wildcard.well_formed.Reads as reads
+use Rattle.pattern.proofs.wildcard.well_formed.Lts as lts
+use Rattle.pattern.proofs.wildcard.item_end.Reads as item-end-reads
 
 abbrev invariant_loop : tie.invariant_loop
 invariant_loop p i₀ i = well_formed (drop i p) ≡ well_formed p
 
 abbrev decreases_loop : tie.decreases_loop
 decreases_loop p i₀ i = length p - i
+
+loop_holds : tie.Need-loop-init invariant_loop decreases_loop
+loop_holds c = refl
+
+item-end-requires : tie.Need-item-end-requires invariant_loop decreases_loop
+item-end-requires c κs = search rules
 
 returns : tie.Need-returns invariant_loop decreases_loop
 returns c =
@@ -43,5 +51,5 @@ returns_2 c =
 
 pub well_formed_spec : {M : Type 1} → statement M
 well_formed_spec =
-    tie.close (tie.spec invariant_loop decreases_loop (λ c. refl) (λ c κs. search rules) returns loop_less
-    loop_again returns_2)
+    tie.close
+    (tie.spec invariant_loop decreases_loop loop_holds item-end-requires returns loop_less loop_again returns_2)

@@ -1,4 +1,3 @@
--- `past_prefixes` meets its contract: the loop keeps that every token from i up to n is a prefix operator; these lie inside the marks, at most 4096, so n + 1 fits. Assumes nothing.
 use mathlib.Core.Path.{sym, ◌∙◌}
 use native.Mathlib.Omega.{arith}
 use Prim.Native.Nat.{◌-◌}
@@ -14,6 +13,15 @@ invariant_loop marks i n₀ n = Passed marks i n
 abbrev decreases_loop : tie.decreases_loop
 decreases_loop marks i n₀ n = length marks - n
 
+loop_holds : tie.Need-loop-init invariant_loop decreases_loop
+loop_holds c = none_passed _ _
+
+kind_requires : tie.Need-kind-requires invariant_loop decreases_loop
+kind_requires c κs = search rules
+
+is-prefix-requires : tie.Need-is-prefix-requires invariant_loop decreases_loop
+is-prefix-requires c κs = search rules
+
 add_n : tie.Need-overflow-add-n invariant_loop decreases_loop
 add_n c = omega (arith, prefix_within c.before.before.before.before.before.args.marks.now c.before.before.before.loop.n (sym (c.before.is-prefix.ensures ∙ rw c.before.before.kind.ensures) ∙ c.if1.true), c.before.before.before.before.before.requires)
 
@@ -28,5 +36,14 @@ returns c = record { upto = c.before.before.before.loop.invariant.upto; each = c
 
 pub past_prefixes_spec : {M : Type 1} → statement M
 past_prefixes_spec =
-    tie.close (tie.spec invariant_loop decreases_loop (λ c. none_passed _ _) (λ c κs. search rules)
-    (λ c κs. search rules) add_n loop_less loop_again returns)
+    tie.close
+    (tie.spec
+    invariant_loop
+    decreases_loop
+    loop_holds
+    kind_requires
+    is-prefix-requires
+    add_n
+    loop_less
+    loop_again
+    returns)

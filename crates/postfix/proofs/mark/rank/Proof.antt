@@ -1,4 +1,3 @@
--- `rank` meets its contract: each listed mark has the definition's level; every other has 11, below 44 by a test of each number, from 44 on by the definition's bounds. Assumes nothing.
 use mathlib.Core.Path.{refl}
 use native.Mathlib.Omega.{arith}
 use Rattle.grammar.specs.Grammar.{rank}
@@ -86,8 +85,31 @@ returns_20 : tie.Need-returns-20
 unfolding rank
 returns_20 c = rw c.match.keys20 (refl, omega arith)
 
+returns-21 : tie.Need-returns-21
+returns-21 c = others c.before.args.m c.match.rest
+
 pub rank_spec : {M : Type 1} → statement M
 rank_spec =
-    tie.close (tie.spec returns returns_2 returns_3 returns_4 returns_5 returns_6 returns_7
-    returns_8 returns_9 returns_10 returns_11 returns_12 returns_13 returns_14 returns_15 returns_16
-    returns_17 returns_18 returns_19 returns_20 (λ c. others c.before.args.m c.match.rest))
+    tie.close
+    (tie.spec
+    returns
+    returns_2
+    returns_3
+    returns_4
+    returns_5
+    returns_6
+    returns_7
+    returns_8
+    returns_9
+    returns_10
+    returns_11
+    returns_12
+    returns_13
+    returns_14
+    returns_15
+    returns_16
+    returns_17
+    returns_18
+    returns_19
+    returns_20
+    returns-21)

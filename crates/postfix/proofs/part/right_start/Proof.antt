@@ -1,9 +1,20 @@
--- `right_start` meets its contract: by whether the operator skips: one past the end of the left side's codes, or that end. Assumes nothing.
 use mathlib.Core.Path.{sym, ◌∙◌}
 use native.Mathlib.Omega.{arith}
 use borrow.Author.Rules.{rules}
 use Rattle.postfix.proofs.part.right_start.Statement.{statement}
 use Rattle.postfix.proofs.part.right_start.Tie as tie
+
+is-skipping-requires : tie.Need-is-skipping-requires
+is-skipping-requires c κs = search rules
+
+end_requires : tie.Need-end-requires
+end_requires c κs = search rules
+
+add_result : tie.Need-overflow-add-result
+add_result c = search rules
+
+end-requires-2 : tie.Need-end-requires-2
+end-requires-2 c κs = search rules
 
 returns : tie.Need-returns
 returns c = rw (sym c.before.before.is-skipping.ensures ∙ c.before.if1.true, c.end.ensures.0)
@@ -13,5 +24,5 @@ returns_2 c = rw (sym c.before.before.is-skipping.ensures ∙ c.before.if1.false
 
 pub right_start_spec : {M : Type 1} → statement M
 right_start_spec =
-    tie.close (tie.spec (λ c κs. search rules) (λ c κs. search rules) (λ c. search rules)
-    (λ c κs. search rules) returns returns_2)
+    tie.close
+    (tie.spec is-skipping-requires end_requires add_result end-requires-2 returns returns_2)

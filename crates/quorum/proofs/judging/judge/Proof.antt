@@ -21,6 +21,9 @@ returns c = turn_none c.before.before.before.args.v.now (values_of c.before.befo
 shared_slice_read_n : tie.Need-shared-slice-read-n
 shared_slice_read_n c = let h = holding c.before.before.before.before.args.buffer.now c.before.before.before.before.requires in omega (arith, h.head.long)
 
+cast-n : tie.Need-overflow-cast-n
+cast-n c = omega (arith, c.shared-slice-known3.given 7)
+
 has_requires : tie.Need-has-requires
 has_requires c κs = let s = c.before.before.before.before.args.buffer.now in (holding_sized s (holding s c.before.before.before.before.requires), omega arith)
 
@@ -39,6 +42,5 @@ returns_4 c =
 
 pub judge_spec : {M : Type 1} → statement M
 judge_spec =
-    tie.close (tie.spec returns shared_slice_read_n
-    (λ c. omega (arith, c.shared-slice-known3.given 7)) has_requires returns_2 returns_3
-    returns_4)
+    tie.close
+    (tie.spec returns shared_slice_read_n cast-n has_requires returns_2 returns_3 returns_4)

@@ -11,6 +11,18 @@ use Rattle.interpreter.proofs.Answers.{indexed, notice_refused, neither_refused}
 use Rattle.quorum.proofs.judging.run_by.Statement.{statement}
 use Rattle.quorum.proofs.judging.run_by.Tie as tie
 
+sub-index : tie.Need-overflow-sub-index
+sub-index c = search rules
+
+part-index-start : tie.Need-slice-bounds-index-start
+part-index-start c = search rules
+
+part-index-end : tie.Need-slice-bounds-index-end
+part-index-end c = search rules
+
+index-requires : tie.Need-index-requires
+index-requires c κs = search rules
+
 -- the part that is lent is the whole notice, and what the check tells of it
 whole : (s : tie.Start) → take (length s.args.notice.now - 0) s.args.notice.now ≡ s.args.notice.now
 whole s = take_all (length s.args.notice.now - 0) s.args.notice.now (omega arith)
@@ -18,12 +30,18 @@ whole s = take_all (length s.args.notice.now - 0) s.args.notice.now (omega arith
 layout_is : (c : tie.After-index) {l : Layout} → c.index.result ≡ l → check_of c.before.before.before.before.before.args.notice.now ≡ l
 layout_is c e = sym (ap check_of (whole (search))) ∙ sym c.index.ensures.0 ∙ e
 
+enum_told : tie.Need-enum-told
+enum_told c = search rules
+
 run_whole_requires : tie.Need-run-whole-requires
 run_whole_requires c κs =
     let s : tie.Start = search in
     let i : tie.After-index = search in
     let well = layout_is i c.before.enum_told.given.1 in
     (s.pre.0, well, indexed _ _ _ (whole s) well i.index.ensures.1 s.pre.1)
+
+enum-known-layout : tie.Need-enum-known-layout
+enum-known-layout c = search rules
 
 returns : tie.Need-returns
 returns c =
@@ -39,6 +57,14 @@ returns_2 c =
 
 pub run_by_spec : {M : Type 1} → statement M
 run_by_spec =
-    tie.close (tie.spec (λ c. search rules) (λ c. search rules) (λ c. search rules)
-    (λ c κs. search rules) (λ c. search rules) run_whole_requires (λ c. search rules) returns
+    tie.close
+    (tie.spec
+    sub-index
+    part-index-start
+    part-index-end
+    index-requires
+    enum_told
+    run_whole_requires
+    enum-known-layout
+    returns
     returns_2)

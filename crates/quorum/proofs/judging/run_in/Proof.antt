@@ -40,5 +40,11 @@ returns c =
 
 pub run_in_spec : {M : Type 1} → statement M
 run_in_spec =
-    tie.close (tie.spec size_of_requires sub_run_by part_run_by_start part_run_by_end
-    run_by_requires returns)
+    tie.close
+    (tie.spec
+    size_of_requires
+    sub_run_by
+    part_run_by_start
+    part_run_by_end
+    run_by_requires
+    returns)

@@ -17,12 +17,18 @@ returns c =
     let a = s.args in
     run_refused (kept a.buffer.now) a.notice.now a.ran s.requires.1 c.if1.true
 
+is-true-requires : tie.Need-is-true-requires
+is-true-requires c κs = search rules
+
 staff_requires : tie.Need-staff-requires
 staff_requires c κs =
     let s = c.before.before.before.before.before.before in
     let a = s.args in
     let w = ran_well (table_of a.buffer.now) a.notice.now (sym (ap (λ (x : Ran). x.number) s.requires.1) ∙ c.before.before.if1.false) in
     (w, s.requires.2 w)
+
+judge_requires : tie.Need-judge-requires
+judge_requires c κs = c.before.before.before.before.before.before.before.requires.0
 
 returns_2 : tie.Need-returns-2
 returns_2 c =
@@ -40,5 +46,5 @@ returns_3 c =
 
 pub turn_of_spec : {M : Type 1} → statement M
 turn_of_spec =
-    tie.close (tie.spec returns (λ c κs. search rules) staff_requires
-    (λ c κs. c.before.before.before.before.before.before.before.requires.0) returns_2 returns_3)
+    tie.close
+    (tie.spec returns is-true-requires staff_requires judge_requires returns_2 returns_3)

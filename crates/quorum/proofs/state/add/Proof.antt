@@ -7,8 +7,35 @@ use borrow.Author.Rules.{rules}
 use Rattle.quorum.proofs.state.add.Statement.{statement}
 use Rattle.quorum.proofs.state.add.Tie as tie
 
+slice-read-n : tie.Need-slice-read-n
+slice-read-n c = search rules
+
+cast_at : tie.Need-overflow-cast-at
+cast_at c = search rules
+
+mul_at : tie.Need-overflow-mul-at
+mul_at c = search rules
+
+add_at : tie.Need-overflow-add-at
+add_at c = search rules
+
+add_buffer : tie.Need-overflow-add-buffer
+add_buffer c = search rules
+
+slice_write_buffer : tie.Need-slice-write-buffer
+slice_write_buffer c = search rules
+
+cast-buffer : tie.Need-overflow-cast-buffer
+cast-buffer c = search rules
+
 slice_write_buffer_2 : tie.Need-slice-write-buffer-2
 slice_write_buffer_2 c = let s = c.before.before.before.args.buffer.now in simp length-set (omega (arith, c.before.before.before.requires))
+
+add_copy_to : tie.Need-overflow-add-copy-to
+add_copy_to c = search rules
+
+copy_to_requires : tie.Need-copy-to-requires
+copy_to_requires c κs = simp length-set (omega (arith, c.before.before.before.before.requires))
 
 same_length : tie.Need-same-length
 same_length c =
@@ -25,8 +52,17 @@ returns c =
 
 pub add_spec : {M : Type 1} → statement M
 add_spec =
-    tie.close (tie.spec (λ c. search rules) (λ c. search rules) (λ c. search rules)
-    (λ c. search rules) (λ c. search rules) (λ c. search rules) (λ c. search rules)
-    slice_write_buffer_2 (λ c. search rules)
-    (λ c κs. simp length-set (omega (arith, c.before.before.before.before.requires))) same_length
+    tie.close
+    (tie.spec
+    slice-read-n
+    cast_at
+    mul_at
+    add_at
+    add_buffer
+    slice_write_buffer
+    cast-buffer
+    slice_write_buffer_2
+    add_copy_to
+    copy_to_requires
+    same_length
     returns)

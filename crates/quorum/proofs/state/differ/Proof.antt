@@ -20,11 +20,20 @@ loop_holds c =
     let e : c.before.args.n - 0 ≡ c.before.args.n = omega arith in
     (omega arith, rw e)
 
+add-loop : tie.Need-overflow-add-loop invariant_loop decreases_loop
+add-loop c = omega (arith, c.loop.invariant.0, c.before.before.requires.few)
+
+add-has : tie.Need-overflow-add-has invariant_loop decreases_loop
+add-has c = search rules
+
 value_requires : tie.Need-value-requires invariant_loop decreases_loop
 value_requires c κs =
     let s = c.before.before.before in
     let z = size_at_lem s.args.buffer.now s.requires c.before.loop.i (omega arith) in
     (s.requires.long, omega (arith, s.requires.few), z.1)
+
+has_requires : tie.Need-has-requires invariant_loop decreases_loop
+has_requires c κs = (c.before.before.before.before.requires, omega arith)
 
 -- what `has` told: whether the value in place i is among those after it
 later : (c : tie.After-has invariant_loop decreases_loop) → let a = c.before.before.before.before.before.args in let i = c.before.before.before.loop.i in
@@ -39,6 +48,12 @@ returns c =
     let a = c.before.before.before.before.before.before.args in
     twice a.buffer.now a.n c.before.before.before.before.loop.i (omega arith) c.before.has.result (later c.before) c.if1.true ∙ c.before.before.before.before.loop.invariant.1
 
+add_i : tie.Need-overflow-add-i invariant_loop decreases_loop
+add_i c = search rules
+
+loop_less : tie.Need-loop-smaller invariant_loop decreases_loop
+loop_less c = search rules
+
 loop_again : tie.Need-loop-preserved invariant_loop decreases_loop
 loop_again c =
     let a = c.before.before.before.before.before.before.args in
@@ -49,7 +64,17 @@ returns_2 c = differ_end c.before.before.before.args.buffer.now c.before.before.
 
 pub differ_spec : {M : Type 1} → statement M
 differ_spec =
-    tie.close (tie.spec invariant_loop decreases_loop loop_holds
-    (λ c. omega (arith, c.loop.invariant.0, c.before.before.requires.few)) (λ c. search rules)
-    value_requires (λ c κs. (c.before.before.before.before.requires, omega arith)) returns
-    (λ c. search rules) (λ c. search rules) loop_again returns_2)
+    tie.close
+    (tie.spec
+    invariant_loop
+    decreases_loop
+    loop_holds
+    add-loop
+    add-has
+    value_requires
+    has_requires
+    returns
+    add_i
+    loop_less
+    loop_again
+    returns_2)

@@ -16,11 +16,17 @@ invariant_loop buffer from n v i₀ i = (from ≤ i) × (i ≤ n) × (has v (val
 abbrev decreases_loop : tie.decreases_loop
 decreases_loop buffer from n v i₀ i = n - i
 
+loop_holds : tie.Need-loop-init invariant_loop decreases_loop
+loop_holds c = (omega arith, omega (arith, c.before.before.requires.1), refl)
+
 value_requires : tie.Need-value-requires invariant_loop decreases_loop
 value_requires c κs =
     let s = c.before.before.before.before in
     let z = size_at_lem s.args.buffer.now s.requires.0 c.before.loop.i (omega arith) in
     (s.requires.0.long, omega (arith, s.requires.0.few), z.1)
+
+same-requires : tie.Need-same-requires invariant_loop decreases_loop
+same-requires c κs = search rules
 
 -- what `same` told of the value in place i
 same_is : (c : tie.After-same invariant_loop decreases_loop) → let a = c.before.before.before.before.before.before.args in
@@ -31,6 +37,12 @@ returns : tie.Need-returns invariant_loop decreases_loop
 returns c =
     let a = c.before.before.before.before.before.before.before.args in
     has-found a.buffer.now a.n c.before.before.before.before.loop.i (omega arith) a.v.now c.before.same.result (same_is c.before) c.if1.true ∙ c.before.before.before.before.loop.invariant.2
+
+add_i : tie.Need-overflow-add-i invariant_loop decreases_loop
+add_i c = search rules
+
+loop_less : tie.Need-loop-smaller invariant_loop decreases_loop
+loop_less c = search rules
 
 loop_again : tie.Need-loop-preserved invariant_loop decreases_loop
 loop_again c =
@@ -44,6 +56,15 @@ returns_2 c =
 
 pub has_spec : {M : Type 1} → statement M
 has_spec =
-    tie.close (tie.spec invariant_loop decreases_loop
-    (λ c. (omega arith, omega (arith, c.before.before.requires.1), refl)) value_requires
-    (λ c κs. search rules) returns (λ c. search rules) (λ c. search rules) loop_again returns_2)
+    tie.close
+    (tie.spec
+    invariant_loop
+    decreases_loop
+    loop_holds
+    value_requires
+    same-requires
+    returns
+    add_i
+    loop_less
+    loop_again
+    returns_2)

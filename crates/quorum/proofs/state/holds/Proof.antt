@@ -9,8 +9,14 @@ use Rattle.table.specs.Check.{check_of as tableCheck}
 use Rattle.quorum.proofs.state.holds.Statement.{statement}
 use Rattle.quorum.proofs.state.holds.Tie as tie
 
+head-right-requires : tie.Need-head-right-requires
+head-right-requires c κs = search rules
+
 shared_slice_read_n : tie.Need-shared-slice-read-n
 shared_slice_read_n c = let h = head_is c.before.before.before.before.args.buffer.now (sym c.before.before.head_right.ensures ∙ c.before.if1.true) in omega (arith, h.long)
+
+cast-n : tie.Need-overflow-cast-n
+cast-n c = omega (arith, c.shared-slice-known2.given 7)
 
 sizes_right_requires : tie.Need-sizes-right-requires
 sizes_right_requires c κs = let h = head_is c.before.before.before.before.args.buffer.now (sym c.before.before.head_right.ensures ∙ c.before.if1.true) in (h.long, h.few)
@@ -29,6 +35,9 @@ part_check_start c = let h = head_is c.before.before.before.before.before.before
 
 part_check_end : tie.Need-slice-bounds-check-end
 part_check_end c = let h = head_is c.before.before.before.before.before.before.before.before.before.args.buffer.now (sym c.before.before.before.before.before.before.before.head_right.ensures ∙ c.before.before.before.before.before.before.if1.true) in omega (arith, h.least, h.fits, c.size_of.ensures)
+
+check-requires : tie.Need-check-requires
+check-requires c κs = search rules
 
 returns : tie.Need-returns
 returns c =
@@ -52,7 +61,19 @@ returns_4 c = no_head c.before.before.before.args.buffer.now (sym c.before.head_
 
 pub holds_spec : {M : Type 1} → statement M
 holds_spec =
-    tie.close (tie.spec (λ c κs. search rules) shared_slice_read_n
-    (λ c. omega (arith, c.shared-slice-known2.given 7)) sizes_right_requires differ_requires
-    size_of_requires sub_check part_check_start part_check_end (λ c κs. search rules) returns
-    returns_2 returns_3 returns_4)
+    tie.close
+    (tie.spec
+    head-right-requires
+    shared_slice_read_n
+    cast-n
+    sizes_right_requires
+    differ_requires
+    size_of_requires
+    sub_check
+    part_check_start
+    part_check_end
+    check-requires
+    returns
+    returns_2
+    returns_3
+    returns_4)

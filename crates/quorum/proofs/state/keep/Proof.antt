@@ -11,6 +11,21 @@ use Rattle.word.specs.Word.{word_bytes}
 use Rattle.quorum.proofs.state.keep.Statement.{statement}
 use Rattle.quorum.proofs.state.keep.Tie as tie
 
+add_write_u32 : tie.Need-overflow-add-write-u32
+add_write_u32 c = search rules
+
+cast_write_u32 : tie.Need-overflow-cast-write-u32
+cast_write_u32 c = search rules
+
+write_u32_requires : tie.Need-write-u32-requires
+write_u32_requires c κs = search rules
+
+write_u16_requires : tie.Need-write-u16-requires
+write_u16_requires c κs = search rules
+
+slice_write_buffer : tie.Need-slice-write-buffer
+slice_write_buffer c = search rules
+
 slice_write_buffer_2 : tie.Need-slice-write-buffer-2
 slice_write_buffer_2 c = let l = length-set c.before.before.write-u16.new.0 6 c.before.before.before.before.before.before.before.before.before.before.args.needed in omega (arith, l, c.before.before.before.before.before.before.before.before.before.before.requires, c.before.before.write-u16.auto.0, c.before.before.before.before.before.before.write-u32.auto.0)
 
@@ -34,6 +49,14 @@ returns c =
 
 pub keep_spec : {M : Type 1} → statement M
 keep_spec =
-    tie.close (tie.spec (λ c. search rules) (λ c. search rules) (λ c κs. search rules)
-    (λ c κs. search rules) (λ c. search rules) slice_write_buffer_2 copy_to_requires same_length
+    tie.close
+    (tie.spec
+    add_write_u32
+    cast_write_u32
+    write_u32_requires
+    write_u16_requires
+    slice_write_buffer
+    slice_write_buffer_2
+    copy_to_requires
+    same_length
     returns)

@@ -19,6 +19,9 @@ loop_holds c =
     let e : c.before.args.n - 0 ≡ c.before.args.n = omega arith in
     (omega arith, rw e)
 
+value-size-requires : tie.Need-value-size-requires invariant_loop decreases_loop
+value-size-requires c κs = search rules
+
 returns : tie.Need-returns invariant_loop decreases_loop
 returns c =
     let a = c.before.before.before.before.before.args in
@@ -31,6 +34,12 @@ returns_2 c =
     let i = c.before.before.before.before.loop.i in
     size_long a.buffer.now a.n i (omega arith) (λ e. c.before.if1.false (c.before.before.value-size.ensures.0 ∙ e)) (omega arith) ∙ c.before.before.before.before.loop.invariant.1
 
+add_i : tie.Need-overflow-add-i invariant_loop decreases_loop
+add_i c = search rules
+
+loop_less : tie.Need-loop-smaller invariant_loop decreases_loop
+loop_less c = search rules
+
 loop_again : tie.Need-loop-preserved invariant_loop decreases_loop
 loop_again c =
     let a = c.before.before.before.before.before.before.args in
@@ -42,5 +51,15 @@ returns_3 c = sizes_end c.before.before.before.args.buffer.now c.before.before.b
 
 pub sizes_right_spec : {M : Type 1} → statement M
 sizes_right_spec =
-    tie.close (tie.spec invariant_loop decreases_loop loop_holds (λ c κs. search rules) returns returns_2
-    (λ c. search rules) (λ c. search rules) loop_again returns_3)
+    tie.close
+    (tie.spec
+    invariant_loop
+    decreases_loop
+    loop_holds
+    value-size-requires
+    returns
+    returns_2
+    add_i
+    loop_less
+    loop_again
+    returns_3)

@@ -8,6 +8,27 @@ use Rattle.quorum.specs.Decision.{value_size}
 use Rattle.quorum.proofs.state.value.Statement.{statement}
 use Rattle.quorum.proofs.state.value.Tie as tie
 
+mul-start : tie.Need-overflow-mul-start
+mul-start c = search rules
+
+add_start : tie.Need-overflow-add-start
+add_start c = search rules
+
+value-size-requires : tie.Need-value-size-requires
+value-size-requires c κs = search rules
+
+add_end : tie.Need-overflow-add-end
+add_end c = search rules
+
+sub_result : tie.Need-overflow-sub-result
+sub_result c = search rules
+
+part-result-start : tie.Need-slice-bounds-result-start
+part-result-start c = search rules
+
+part_result_end : tie.Need-slice-bounds-result-end
+part_result_end c = search rules
+
 returns : tie.Need-returns
 returns c =
     let a = c.before.before.before.args in
@@ -16,5 +37,13 @@ returns c =
 
 pub value_spec : {M : Type 1} → statement M
 value_spec =
-    tie.close (tie.spec (λ c. search rules) (λ c. search rules) (λ c κs. search rules)
-    (λ c. search rules) (λ c. search rules) (λ c. search rules) (λ c. search rules) returns)
+    tie.close
+    (tie.spec
+    mul-start
+    add_start
+    value-size-requires
+    add_end
+    sub_result
+    part-result-start
+    part_result_end
+    returns)

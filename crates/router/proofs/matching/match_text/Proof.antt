@@ -6,6 +6,24 @@ use borrow.Author.Rules.{rules}
 use Rattle.router.proofs.matching.match_text.Statement.{statement}
 use Rattle.router.proofs.matching.match_text.Tie as tie
 
+check-requires : tie.Need-check-requires
+check-requires c κs = search rules
+
+enum_told : tie.Need-enum-told
+enum_told c = search rules
+
+translate-and-run-requires : tie.Need-translate-and-run-requires
+translate-and-run-requires c κs = sym c.before.before.before.check.ensures ∙ c.before.enum_told.given.1
+
+enum-known-layout : tie.Need-enum-known-layout
+enum-known-layout c = search rules
+
+refused-requires : tie.Need-refused-requires
+refused-requires c κs = search rules
+
+same_length : tie.Need-same-length
+same_length c = search rules
+
 returns : tie.Need-returns
 returns c =
     let a = c.before.before.before.before.before.before.before.before.before.before.args in
@@ -22,6 +40,13 @@ returns_2 c =
 
 pub match_text_spec : {M : Type 1} → statement M
 match_text_spec =
-    tie.close (tie.spec (λ c κs. search rules) (λ c. search rules)
-    (λ c κs. sym c.before.before.before.check.ensures ∙ c.before.enum_told.given.1)
-    (λ c. search rules) (λ c κs. search rules) (λ c. search rules) returns returns_2)
+    tie.close
+    (tie.spec
+    check-requires
+    enum_told
+    translate-and-run-requires
+    enum-known-layout
+    refused-requires
+    same_length
+    returns
+    returns_2)

@@ -18,15 +18,48 @@ known c = numbers _ c.before.before.before.requires.right
 end_is : (c : tie.After-read-u32) → 4 + c.read_u32.result ≡ end_of c.before.before.before.before.args.store.now
 end_is c = ap (λ (n : ℕ). 4 + n) c.read_u32.ensures
 
+read_u32_requires : tie.Need-read-u32-requires
+read_u32_requires c κs = let k = known c in omega (arith, k.after, k.fits)
+
+cast-end : tie.Need-overflow-cast-end
+cast-end c = search rules
+
+add_end : tie.Need-overflow-add-end
+add_end c = search rules
+
+read_u16_requires : tie.Need-read-u16-requires
+read_u16_requires c κs = let k = known c.before.before in omega (arith, k.after, k.fits)
+
+add_write_u16 : tie.Need-overflow-add-write-u16
+add_write_u16 c = search rules
+
+cast-write-u16 : tie.Need-overflow-cast-write-u16
+cast-write-u16 c = search rules
+
 write_u16_requires : tie.Need-write-u16-requires
 write_u16_requires c κs = omega (arith, c.before.before.before.before.before.before.before.requires.room, end_is c.before.before.before)
+
+add-write-u16-2 : tie.Need-overflow-add-write-u16-2
+add-write-u16-2 c = search rules
+
+add-write-u16-3 : tie.Need-overflow-add-write-u16-3
+add-write-u16-3 c = search rules
+
+cast_write_u16_2 : tie.Need-overflow-cast-write-u16-2
+cast_write_u16_2 c = search rules
 
 write_u16_requires_2 : tie.Need-write-u16-requires-2
 write_u16_requires_2 c κs = omega (arith, c.before.before.before.before.before.before.before.before.before.before.before.requires.room, end_is c.before.before.before.before.before.before.before, c.before.before.before.write-u16.auto.0)
 
+add_copy_to : tie.Need-overflow-add-copy-to
+add_copy_to c = search rules
+
 copy_to_requires : tie.Need-copy-to-requires
 copy_to_requires c κs =
     omega (arith, c.before.before.before.before.before.before.before.before.before.before.before.before.before.before.before.requires.room, end_is c.before.before.before.before.before.before.before.before.before.before.before, c.before.before.before.before.before.before.before.write-u16.auto.0, c.before.before.before.write-u162.auto.0)
+
+add_write_u32 : tie.Need-overflow-add-write-u32
+add_write_u32 c = search rules
 
 cast_write_u32 : tie.Need-overflow-cast-write-u32
 cast_write_u32 c = let k = known c.before.before.before.before.before.before.before.before.before.before.before.before.before.before.before.before in omega (arith, c.before.before.before.before.before.before.before.before.before.before.before.before.before.before.before.before.before.before.before.requires.room, k.short, end_is c.before.before.before.before.before.before.before.before.before.before.before.before.before.before.before)
@@ -43,6 +76,9 @@ write_u16_requires_3 : tie.Need-write-u16-requires-3
 write_u16_requires_3 c κs =
     let k = known c.before.before.before.before.before.before.before.before.before.before.before.before.before.before.before.before.before.before.before.before in
     omega (arith, k.after, k.fits, c.before.before.before.before.before.before.before.before.before.before.before.before.before.before.before.write-u16.auto.0, c.before.before.before.before.before.before.before.before.before.before.before.write-u162.auto.0, c.before.before.before.before.before.before.before.copy-to.auto.0, c.before.before.before.write-u32.auto.0)
+
+same_length : tie.Need-same-length
+same_length c = search rules
 
 returns : tie.Need-returns
 returns c =
@@ -62,10 +98,25 @@ returns c =
 
 pub append_spec : {M : Type 1} → statement M
 append_spec =
-    tie.close (tie.spec (λ c κs. let k = known c in omega (arith, k.after, k.fits))
-    (λ c. search rules) (λ c. search rules)
-    (λ c κs. let k = known c.before.before in omega (arith, k.after, k.fits))
-    (λ c. search rules) (λ c. search rules) write_u16_requires (λ c. search rules)
-    (λ c. search rules) (λ c. search rules) write_u16_requires_2 (λ c. search rules)
-    copy_to_requires (λ c. search rules) cast_write_u32 write_u32_requires add_write_u16_4
-    write_u16_requires_3 (λ c. search rules) returns)
+    tie.close
+    (tie.spec
+    read_u32_requires
+    cast-end
+    add_end
+    read_u16_requires
+    add_write_u16
+    cast-write-u16
+    write_u16_requires
+    add-write-u16-2
+    add-write-u16-3
+    cast_write_u16_2
+    write_u16_requires_2
+    add_copy_to
+    copy_to_requires
+    add_write_u32
+    cast_write_u32
+    write_u32_requires
+    add_write_u16_4
+    write_u16_requires_3
+    same_length
+    returns)

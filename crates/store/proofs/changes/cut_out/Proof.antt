@@ -24,8 +24,26 @@ end_is c = ap (λ (n : ℕ). 4 + n) c.read_u32.ensures
 size_is : (c : tie.After-read-u162) → 2 + c.read-u162.result ≡ 2 + size_at c.before.before.before.before.before.before.before.args.store.now c.before.before.before.before.before.before.before.args.at
 size_is c = ap (λ (n : ℕ). 2 + n) c.read-u162.ensures
 
+read_u32_requires : tie.Need-read-u32-requires
+read_u32_requires c κs = let k = known c.before in omega (arith, k.after, k.fits)
+
+cast-end : tie.Need-overflow-cast-end
+cast-end c = search rules
+
+add_end : tie.Need-overflow-add-end
+add_end c = search rules
+
+read_u16_requires : tie.Need-read-u16-requires
+read_u16_requires c κs = let k = known c.before.before.before in omega (arith, k.after, k.fits)
+
 read_u16_requires_2 : tie.Need-read-u16-requires-2
 read_u16_requires_2 c κs = let k = known c.before.before.before.before.before in let l = lies c.before.before.before.before.before in omega (arith, l.within, k.fits)
+
+cast-size : tie.Need-overflow-cast-size
+cast-size c = search rules
+
+add_size : tie.Need-overflow-add-size
+add_size c = search rules
 
 add_move_down : tie.Need-overflow-add-move-down
 add_move_down c =
@@ -54,6 +72,9 @@ write_u16_requires : tie.Need-write-u16-requires
 write_u16_requires c κs =
     let k = known c.before.before.before.before.before.before.before.before.before.before.before.before.before.before.before in omega (arith, k.after, k.fits, c.before.before.before.before.before.before.before.move_down.auto.0, c.before.before.before.write-u32.auto.0)
 
+same_length : tie.Need-same-length
+same_length c = search rules
+
 returns : tie.Need-returns
 returns c =
     let a = c.before.before.before.before.before.before.before.before.before.before.before.before.before.before.before.before.before.before.before.args in
@@ -71,9 +92,22 @@ returns c =
 
 pub cut_out_spec : {M : Type 1} → statement M
 cut_out_spec =
-    tie.close (tie.spec (λ c κs. let k = known c.before in omega (arith, k.after, k.fits))
-    (λ c. search rules) (λ c. search rules)
-    (λ c κs. let k = known c.before.before.before in omega (arith, k.after, k.fits))
-    read_u16_requires_2 (λ c. search rules) (λ c. search rules) add_move_down move_down_requires
-    sub_write_u32 sub_write_u32_2 cast_write_u32 write_u32_requires sub_write_u16 write_u16_requires
-    (λ c. search rules) returns)
+    tie.close
+    (tie.spec
+    read_u32_requires
+    cast-end
+    add_end
+    read_u16_requires
+    read_u16_requires_2
+    cast-size
+    add_size
+    add_move_down
+    move_down_requires
+    sub_write_u32
+    sub_write_u32_2
+    cast_write_u32
+    write_u32_requires
+    sub_write_u16
+    write_u16_requires
+    same_length
+    returns)

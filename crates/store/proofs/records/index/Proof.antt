@@ -24,30 +24,75 @@ header c = sym c.before.header-right.ensures ∙ not-false _ c.if1.false
 stood : (c : tie.Else2 invariant_loop decreases_loop) → Stands c.before.before.before.before.loop.starts c.before.before.before.before.before.before.before.before.before.before.args.store.now (4 + c.before.before.before.before.before.before.read_u32.result) c.before.before.before.before.loop.at
 stood c = stands_parts _ _ _ _ (sym c.before.stands.ensures ∙ not-false _ c.if2.false)
 
+header-right-requires : tie.Need-header-right-requires invariant_loop decreases_loop
+header-right-requires c κs = search rules
+
 returns : tie.Need-returns invariant_loop decreases_loop
 returns c =
     (sym (no_header c.before.before.before.args.store.now (sym c.before.header-right.ensures ∙ not-true _ c.if1.true)), λ z. false_true z)
 
+read_u32_requires : tie.Need-read-u32-requires invariant_loop decreases_loop
+read_u32_requires c κs = let h = header_parts _ (header c) in omega (arith, h.long)
+
+cast-end : tie.Need-overflow-cast-end invariant_loop decreases_loop
+cast-end c = search rules
+
+add_end : tie.Need-overflow-add-end invariant_loop decreases_loop
+add_end c = search rules
+
+read_u16_requires : tie.Need-read-u16-requires invariant_loop decreases_loop
+read_u16_requires c κs = let h = header_parts _ (header c.before) in omega (arith, h.long)
+
 loop_holds : tie.Need-loop-init invariant_loop decreases_loop
 loop_holds c =
     walk_starts c.before.before.before.before.before.args.store.now c.before.before.before.before.before.args.starts.now _ _ (header c.before.before) c.before.before.before.before.before.requires (ap (λ (n : ℕ). 4 + n) c.before.read_u32.ensures) c.read-u16.ensures
+
+stands-requires : tie.Need-stands-requires invariant_loop decreases_loop
+stands-requires c κs = let w = c.before.before.loop.invariant in (w.fits, w.short)
 
 returns_2 : tie.Need-returns-2 invariant_loop decreases_loop
 returns_2 c =
     let l = c.before.before.before.before.loop in
     (sym (walk_stops _ l.starts _ l.left l.at l.invariant c.before.before.before.loop-test.true (sym c.before.stands.ensures ∙ not-true _ c.if2.true)), λ z. false_true z)
 
+add_read_u16 : tie.Need-overflow-add-read-u16 invariant_loop decreases_loop
+add_read_u16 c = search rules
+
 read_u16_requires_2 : tie.Need-read-u16-requires-2 invariant_loop decreases_loop
 read_u16_requires_2 c κs = let w = stood c in let f = c.before.before.before.before.loop.invariant.fits in omega (arith, w.here, f)
+
+cast-number : tie.Need-overflow-cast-number invariant_loop decreases_loop
+cast-number c = search rules
+
+sub_number : tie.Need-overflow-sub-number invariant_loop decreases_loop
+sub_number c = let w = stood c.before in omega (arith, w.low, c.read-u162.ensures)
 
 cast_starts : tie.Need-overflow-cast-starts invariant_loop decreases_loop
 cast_starts c = let w = stood c.before in let f = c.before.before.before.before.before.loop.invariant in omega (arith, w.here, f.fits, f.small)
 
+mul_starts : tie.Need-overflow-mul-starts invariant_loop decreases_loop
+mul_starts c = let w = stood c.before in omega (arith, w.high, c.read-u162.ensures)
+
+element_write_starts : tie.Need-element-write-starts invariant_loop decreases_loop
+element_write_starts c = let w = stood c.before in omega (arith, w.low, w.high, c.read-u162.ensures)
+
+add_at : tie.Need-overflow-add-at invariant_loop decreases_loop
+add_at c = search rules
+
 read_u16_requires_3 : tie.Need-read-u16-requires-3 invariant_loop decreases_loop
 read_u16_requires_3 c κs = let w = stood c.before in let f = c.before.before.before.before.before.loop.invariant.fits in omega (arith, w.here, f)
 
+cast_at : tie.Need-overflow-cast-at invariant_loop decreases_loop
+cast_at c = search rules
+
 add_at_2 : tie.Need-overflow-add-at-2 invariant_loop decreases_loop
 add_at_2 c = let w = stood c.before.before in let f = c.before.before.before.before.before.before.loop.invariant in omega (arith, w.within, f.fits, f.small, c.read-u163.ensures)
+
+sub_left : tie.Need-overflow-sub-left invariant_loop decreases_loop
+sub_left c = search rules
+
+loop_less : tie.Need-loop-smaller invariant_loop decreases_loop
+loop_less c = search rules
 
 loop_again : tie.Need-loop-preserved invariant_loop decreases_loop
 loop_again c =
@@ -62,14 +107,31 @@ returns_3 c =
 
 pub index_spec : {M : Type 1} → statement M
 index_spec =
-    tie.close (tie.spec invariant_loop decreases_loop (λ c κs. search rules) returns
-    (λ c κs. let h = header_parts _ (header c) in omega (arith, h.long)) (λ c. search rules)
-    (λ c. search rules)
-    (λ c κs. let h = header_parts _ (header c.before) in omega (arith, h.long)) loop_holds
-    (λ c κs. let w = c.before.before.loop.invariant in (w.fits, w.short)) returns_2
-    (λ c. search rules) read_u16_requires_2 (λ c. search rules)
-    (λ c. let w = stood c.before in omega (arith, w.low, c.read-u162.ensures)) cast_starts
-    (λ c. let w = stood c.before in omega (arith, w.high, c.read-u162.ensures))
-    (λ c. let w = stood c.before in omega (arith, w.low, w.high, c.read-u162.ensures))
-    (λ c. search rules) read_u16_requires_3 (λ c. search rules) add_at_2 (λ c. search rules)
-    (λ c. search rules) loop_again returns_3)
+    tie.close
+    (tie.spec
+    invariant_loop
+    decreases_loop
+    header-right-requires
+    returns
+    read_u32_requires
+    cast-end
+    add_end
+    read_u16_requires
+    loop_holds
+    stands-requires
+    returns_2
+    add_read_u16
+    read_u16_requires_2
+    cast-number
+    sub_number
+    cast_starts
+    mul_starts
+    element_write_starts
+    add_at
+    read_u16_requires_3
+    cast_at
+    add_at_2
+    sub_left
+    loop_less
+    loop_again
+    returns_3)

@@ -3,21 +3,187 @@ use Rattle.opcode.proofs.Unknown.{others}
 use Rattle.table.proofs.groups.group_of.Statement.{statement}
 use Rattle.table.proofs.groups.group_of.Tie as tie
 
+returns : tie.Need-returns
+returns c = rw c.match.keys1
+
+returns_2 : tie.Need-returns-2
+returns_2 c = rw c.match.keys2
+
+returns_3 : tie.Need-returns-3
+returns_3 c = rw c.match.keys3
+
+returns_4 : tie.Need-returns-4
+returns_4 c = rw c.match.keys4
+
+returns_5 : tie.Need-returns-5
+returns_5 c = rw c.match.keys5
+
+returns_6 : tie.Need-returns-6
+returns_6 c = rw c.match.keys6
+
+returns_7 : tie.Need-returns-7
+returns_7 c = rw c.match.keys7
+
+returns_8 : tie.Need-returns-8
+returns_8 c = rw c.match.keys8
+
+returns_9 : tie.Need-returns-9
+returns_9 c = rw c.match.keys9
+
+returns_10 : tie.Need-returns-10
+returns_10 c = rw c.match.keys10
+
+returns_11 : tie.Need-returns-11
+returns_11 c = rw c.match.keys11
+
+returns_12 : tie.Need-returns-12
+returns_12 c = rw c.match.keys12
+
+returns_13 : tie.Need-returns-13
+returns_13 c = rw c.match.keys13
+
+returns_14 : tie.Need-returns-14
+returns_14 c = rw c.match.keys14
+
+returns_15 : tie.Need-returns-15
+returns_15 c = rw c.match.keys15
+
+returns_16 : tie.Need-returns-16
+returns_16 c = rw c.match.keys16
+
+returns_17 : tie.Need-returns-17
+returns_17 c = rw c.match.keys17
+
+returns_18 : tie.Need-returns-18
+returns_18 c = rw c.match.keys18
+
+returns_19 : tie.Need-returns-19
+returns_19 c = rw c.match.keys19
+
+returns_20 : tie.Need-returns-20
+returns_20 c = rw c.match.keys20
+
+returns-21 : tie.Need-returns-21
+returns-21 c = rw c.match.keys21
+
+returns-22 : tie.Need-returns-22
+returns-22 c = rw c.match.keys22
+
+returns-23 : tie.Need-returns-23
+returns-23 c = rw c.match.keys23
+
+returns-24 : tie.Need-returns-24
+returns-24 c = rw c.match.keys24
+
+returns-25 : tie.Need-returns-25
+returns-25 c = rw c.match.keys25
+
+returns-26 : tie.Need-returns-26
+returns-26 c = rw c.match.keys26
+
+returns-27 : tie.Need-returns-27
+returns-27 c = rw c.match.keys27
+
+returns-28 : tie.Need-returns-28
+returns-28 c = rw c.match.keys28
+
+returns-29 : tie.Need-returns-29
+returns-29 c = rw c.match.keys29
+
+returns-30 : tie.Need-returns-30
+returns-30 c = rw c.match.keys30
+
+returns-31 : tie.Need-returns-31
+returns-31 c = rw c.match.keys31
+
+returns-32 : tie.Need-returns-32
+returns-32 c = rw c.match.keys32
+
+returns-33 : tie.Need-returns-33
+returns-33 c = rw c.match.keys33
+
+returns-34 : tie.Need-returns-34
+returns-34 c = rw c.match.keys34
+
+returns-35 : tie.Need-returns-35
+returns-35 c = rw c.match.keys35
+
+returns-36 : tie.Need-returns-36
+returns-36 c = rw c.match.keys36
+
+returns-37 : tie.Need-returns-37
+returns-37 c = rw c.match.keys37
+
+returns-38 : tie.Need-returns-38
+returns-38 c = rw c.match.keys38
+
+returns-39 : tie.Need-returns-39
+returns-39 c = rw c.match.keys39
+
+returns-40 : tie.Need-returns-40
+returns-40 c = rw c.match.keys40
+
+returns-41 : tie.Need-returns-41
+returns-41 c = rw c.match.keys41
+
+returns-42 : tie.Need-returns-42
+returns-42 c = rw c.match.keys42
+
+returns-43 : tie.Need-returns-43
+returns-43 c = rw c.match.keys43
+
+returns-44 : tie.Need-returns-44
+returns-44 c = rw c.match.keys44
+
+returns-45 : tie.Need-returns-45
+returns-45 c = rw (others c.before.args.number c.match.rest)
+
 pub group_of_spec : {M : Type 1} → statement M
 group_of_spec =
-    tie.close (tie.spec (λ c. rw c.match.keys1) (λ c. rw c.match.keys2)
-    (λ c. rw c.match.keys3) (λ c. rw c.match.keys4) (λ c. rw c.match.keys5)
-    (λ c. rw c.match.keys6) (λ c. rw c.match.keys7) (λ c. rw c.match.keys8)
-    (λ c. rw c.match.keys9) (λ c. rw c.match.keys10) (λ c. rw c.match.keys11)
-    (λ c. rw c.match.keys12) (λ c. rw c.match.keys13) (λ c. rw c.match.keys14)
-    (λ c. rw c.match.keys15) (λ c. rw c.match.keys16) (λ c. rw c.match.keys17)
-    (λ c. rw c.match.keys18) (λ c. rw c.match.keys19) (λ c. rw c.match.keys20)
-    (λ c. rw c.match.keys21) (λ c. rw c.match.keys22) (λ c. rw c.match.keys23)
-    (λ c. rw c.match.keys24) (λ c. rw c.match.keys25) (λ c. rw c.match.keys26)
-    (λ c. rw c.match.keys27) (λ c. rw c.match.keys28) (λ c. rw c.match.keys29)
-    (λ c. rw c.match.keys30) (λ c. rw c.match.keys31) (λ c. rw c.match.keys32)
-    (λ c. rw c.match.keys33) (λ c. rw c.match.keys34) (λ c. rw c.match.keys35)
-    (λ c. rw c.match.keys36) (λ c. rw c.match.keys37) (λ c. rw c.match.keys38)
-    (λ c. rw c.match.keys39) (λ c. rw c.match.keys40) (λ c. rw c.match.keys41)
-    (λ c. rw c.match.keys42) (λ c. rw c.match.keys43) (λ c. rw c.match.keys44)
-    (λ c. rw (others c.before.args.number c.match.rest)))
+    tie.close
+    (tie.spec
+    returns
+    returns_2
+    returns_3
+    returns_4
+    returns_5
+    returns_6
+    returns_7
+    returns_8
+    returns_9
+    returns_10
+    returns_11
+    returns_12
+    returns_13
+    returns_14
+    returns_15
+    returns_16
+    returns_17
+    returns_18
+    returns_19
+    returns_20
+    returns-21
+    returns-22
+    returns-23
+    returns-24
+    returns-25
+    returns-26
+    returns-27
+    returns-28
+    returns-29
+    returns-30
+    returns-31
+    returns-32
+    returns-33
+    returns-34
+    returns-35
+    returns-36
+    returns-37
+    returns-38
+    returns-39
+    returns-40
+    returns-41
+    returns-42
+    returns-43
+    returns-44
+    returns-45)

@@ -1,7 +1,6 @@
--- `read_in` meets its contract: by cases of the lexer's answer: at most one token for each byte, so both arrays hold the fronts that `marked` takes, or the lexer's refusal. Assumes nothing.
-use Prim.Native.Nat.{◌-◌}
+use Prim.Native.Nat.{ℕ, ◌+◌, ◌-◌, ◌*◌, ◌≤◌, ◌<◌}
 use native.Mathlib.Omega.{arith}
-use mathlib.Core.Path.{refl, ap, ◌∙◌}
+use mathlib.Core.Path.{◌≡◌, refl, sym, ap, ◌∙◌, subst}
 use lib.ListN.{length, length-append, length-map, length-drop}
 use Rattle.lexer.specs.Token.{kind_of, tokens_of, kinds_of, starts_of}
 use borrow.Rule.Slice.PartMut.{post_of}
@@ -12,6 +11,20 @@ use Rattle.translator.proofs.Answering.{lexes, few, kinds_front, starts_front, f
 use borrow.Author.Rules.{rules}
 use Rattle.translator.proofs.read.read_in.Statement.{statement}
 use Rattle.translator.proofs.read.read_in.Tie as tie
+use Rattle.translator.proofs.read.read_in.Reads as reads
+use Rattle.translator.proofs.read.read_in.Lts as lts
+
+lex-requires : tie.Need-lex-requires
+lex-requires c κs = c.before.before.before.before.before.before.before.requires
+
+enum-known-n : tie.Need-enum-known-n
+enum-known-n c = search rules
+
+sub_marked : tie.Need-overflow-sub-marked
+sub_marked c = search rules
+
+part-marked-start : tie.Need-slice-bounds-marked-start
+part-marked-start c = search rules
 
 part_marked_end : tie.Need-slice-bounds-marked-end
 part_marked_end c =
@@ -19,6 +32,12 @@ part_marked_end c =
     let t = lexes a.text.now (λ i. omega (arith, c.before.before.before.before.before.before.before.before.before.before.before.before.before.before.shared-slice-known.given i)) c.before.before.before.before.before.before.before.lex.ensures.0 c.before.n.given.1 in
     let k = kept_by a.marks.now _ 0 (kinds_of (tokens_of a.text.now)) c.before.before.before.before.before.before.before.lex.ensures.1.0 in
     omega (arith, few t a.marks.now c.before.before.before.before.before.before.before.before.before.before.before.before.before.before.before.requires.0, k)
+
+sub-marked-2 : tie.Need-overflow-sub-marked-2
+sub-marked-2 c = search rules
+
+part-marked-start-2 : tie.Need-slice-bounds-marked-start-2
+part-marked-start-2 c = search rules
 
 part_marked_end_2 : tie.Need-slice-bounds-marked-end-2
 part_marked_end_2 c =
@@ -32,6 +51,21 @@ marked_requires c κs =
     let a = c.before.before.before.before.before.before.before.before.before.before.before.before.before.before.before.before.before.before.before.before.args in
     let t = lexes a.text.now (λ i. omega (arith, c.before.before.before.before.before.before.before.before.before.before.before.before.before.before.before.before.before.before.before.shared-slice-known.given i)) c.before.before.before.before.before.before.before.before.before.before.before.before.lex.ensures.0 c.before.before.before.before.before.before.n.given.1 in
     t.text.short
+
+enum-known-number : tie.Need-enum-known-number
+enum-known-number c = search rules
+
+same_length : tie.Need-same-length
+same_length c = search rules
+
+same_length_2 : tie.Need-same-length-2
+same_length_2 c = search rules
+
+same_length_3 : tie.Need-same-length-3
+same_length_3 c = search rules
+
+same_length_4 : tie.Need-same-length-4
+same_length_4 c = search rules
 
 returns : tie.Need-returns
 returns c =
@@ -48,6 +82,12 @@ returns c =
       (omega (arith, length-append front rest, c.before.before.before.before.before.before.marked.auto.1.0, ap length ek, length-map t.placed (λ p. kind_of p.token), t.count, length-drop (n - 0) kinds, c.before.before.before.before.before.before.before.before.before.before.before.before.before.before.before.before.before.before.before.lex.auto.1.0, few t a.marks.now c.before.before.before.before.before.before.before.before.before.before.before.before.before.before.before.before.before.before.before.before.before.before.before.before.before.before.before.requires.0), ap length e.1.1.0 ∙ simp length-sets, ap length e.1.1.1 ∙ simp length-sets),
     )
 
+same_length_5 : tie.Need-same-length-5
+same_length_5 c = search rules
+
+same_length_6 : tie.Need-same-length-6
+same_length_6 c = search rules
+
 returns_2 : tie.Need-returns-2
 returns_2 c =
     let a = c.before.before.before.before.before.before.before.before.before.before.before.before.before.before.before.args in
@@ -55,8 +95,23 @@ returns_2 c =
 
 pub read_in_spec : {M : Type 1} → statement M
 read_in_spec =
-    tie.close (tie.spec (λ c κs. c.before.before.before.before.before.before.before.requires)
-    (λ c. search rules) (λ c. search rules) (λ c. search rules) part_marked_end (λ c. search rules)
-    (λ c. search rules) part_marked_end_2 marked_requires (λ c. search rules) (λ c. search rules)
-    (λ c. search rules) (λ c. search rules) (λ c. search rules) returns (λ c. search rules)
-    (λ c. search rules) returns_2)
+    tie.close
+    (tie.spec
+    lex-requires
+    enum-known-n
+    sub_marked
+    part-marked-start
+    part_marked_end
+    sub-marked-2
+    part-marked-start-2
+    part_marked_end_2
+    marked_requires
+    enum-known-number
+    same_length
+    same_length_2
+    same_length_3
+    same_length_4
+    returns
+    same_length_5
+    same_length_6
+    returns_2)

@@ -4,7 +4,8 @@ use mathlib.Core.List.{List}
 use Prim.Native.Nat.{ℕ, ◌+◌, ◌-◌, ◌≤◌}
 use native.Mathlib.Omega.{arith}
 use lib.ListN.{length, drop, set, length-set}
-use Rattle.notice.specs.Write.{has_name, place_among}
+use Rattle.notice.specs.Write.{has_name}
+use Rattle.notice.specs.Write.{place_among}
 use Rattle.ubf.specs.Span.{name_in, SpanIn, row_in, row_fields, Rising}
 use Rattle.ubf.specs.declared.spans.Span.{Span}
 use Rattle.ubf.proofs.Arranged.{place_within, Sofar, row_lies, rising_rows, repeated_here, sofar_start, sofar_more, arranged, not_arranged}
@@ -63,8 +64,20 @@ loop_holds c =
     let p = c.before.before.before.requires in
     (omega arith, p.2, sofar_start a.text.now a.rows.now a.count p.0 p.1 p.3 a.order.now p.2)
 
+sub-first : tie.Need-overflow-sub-first invariant_loop decreases_loop
+sub-first c = omega (arith, c.before.before.before.before.before.requires.0)
+
+add-first : tie.Need-overflow-add-first invariant_loop decreases_loop
+add-first c = omega (arith, c.before.before.before.before.before.requires.0, c.before.loop.invariant.0)
+
+sub-span-at : tie.Need-overflow-sub-span-at invariant_loop decreases_loop
+sub-span-at c = omega (arith, c.loop-test.true)
+
 span_at_requires : tie.Need-span-at-requires invariant_loop decreases_loop
 span_at_requires c κs = omega (arith, c.before.before.before.before.before.requires.0, c.before.before.before.before.before.requires.1, c.before.loop.invariant.0, c.loop-test.true)
+
+place_for_requires : tie.Need-place-for-requires invariant_loop decreases_loop
+place_for_requires c κs = (lies c.before, rises c.before.before)
 
 repeated_at_requires : tie.Need-repeated-at-requires invariant_loop decreases_loop
 repeated_at_requires c κs = (lies c.before.before.before, rises c.before.before.before.before, c.before.place-for.ensures)
@@ -113,6 +126,9 @@ loop_again c =
     let t = sofar_more a.text.now a.rows.now a.count p.0 p.1 p.3 l.order l.invariant.1 l.left l.invariant.2 (omega (arith, c.before.before.before.before.before.before.before.before.before.before.loop-test.true)) l.invariant.0 at (placed c.before.before.before.before.before.before.before) (sym c.before.before.before.before.if1.false ∙ named c.before.before.before.before.before) in
     (omega (arith, l.invariant.0), simp length-set (omega (arith, c.before.before.move_down.auto.0, l.invariant.1)), subst (λ (o : List ℕ). Sofar a.text.now a.rows.now a.count (set o (at - 1) (l.left - 1)) (l.left - 1)) (sym c.before.before.move_down.ensures) t)
 
+same_length_2 : tie.Need-same-length-2 invariant_loop decreases_loop
+same_length_2 c = c.before.loop.invariant.1 ∙ sym c.before.before.before.before.before.requires.2
+
 returns_2 : tie.Need-returns-2 invariant_loop decreases_loop
 returns_2 c =
     let a = c.before.before.before.before.before.args in
@@ -122,12 +138,27 @@ returns_2 c =
 
 pub arrange_spec : {M : Type 1} → statement M
 arrange_spec =
-    tie.close (tie.spec invariant_loop decreases_loop loop_holds
-    (λ c. omega (arith, c.before.before.before.before.before.requires.0))
-    (λ c. omega (arith, c.before.before.before.before.before.requires.0, c.before.loop.invariant.0))
-    (λ c. omega (arith, c.loop-test.true)) span_at_requires
-    (λ c κs. (lies c.before, rises c.before.before)) repeated_at_requires same_length returns
-    sub_move_down move_down_requires sub_order cast_order sub_order_2 slice_write_order sub_left
-    loop_less loop_again
-    (λ c. c.before.loop.invariant.1 ∙ sym c.before.before.before.before.before.requires.2)
+    tie.close
+    (tie.spec
+    invariant_loop
+    decreases_loop
+    loop_holds
+    sub-first
+    add-first
+    sub-span-at
+    span_at_requires
+    place_for_requires
+    repeated_at_requires
+    same_length
+    returns
+    sub_move_down
+    move_down_requires
+    sub_order
+    cast_order
+    sub_order_2
+    slice_write_order
+    sub_left
+    loop_less
+    loop_again
+    same_length_2
     returns_2)

@@ -21,6 +21,9 @@ invariant_loop text s t i₀ left₀ j₀ other₀ i left j other =
 abbrev decreases_loop : tie.decreases_loop
 decreases_loop text s t i₀ left₀ j₀ other₀ i left j other = left
 
+loop_holds : tie.Need-loop-init invariant_loop decreases_loop
+loop_holds c = (c.before.requires.0.named, c.before.requires.1.named, refl)
+
 -- both have a byte left
 more : (c : tie.In-loop invariant_loop decreases_loop) → (0 < c.before.loop.left) × (0 < c.before.loop.other)
 more c =
@@ -51,6 +54,18 @@ byte_place_requires_2 c κs =
     let l = c.before.before.before.before.loop in
     part_starts c.before.before.before.before.before.before.args.text.now l.j l.other (ltb 0 c.before.before.before.before.before.before.args.t.nameescapes) (more c.before.before.before).1 l.invariant.1
 
+shared_slice_read_if1 : tie.Need-shared-slice-read-if1 invariant_loop decreases_loop
+shared_slice_read_if1 c = (own c.before).inside
+
+shared-slice-read-if1-2 : tie.Need-shared-slice-read-if1-2 invariant_loop decreases_loop
+shared-slice-read-if1-2 c = (others c.before.before).inside
+
+shared_slice_read_result : tie.Need-shared-slice-read-result invariant_loop decreases_loop
+shared_slice_read_result c = (own c.before.before.before.before).inside
+
+shared-slice-read-result-2 : tie.Need-shared-slice-read-result-2 invariant_loop decreases_loop
+shared-slice-read-result-2 c = (others c.before.before.before.before.before).inside
+
 returns : tie.Need-returns invariant_loop decreases_loop
 returns c =
     let a = c.before.before.before.before.before.before.before.before.before.before.before.before.args in
@@ -61,6 +76,21 @@ returns c =
     let s = own c.before.before.before.before.before in
     let t = others c.before.before.before.before.before in
     first_differ (get_or text k 0) (get_or text l 0) (bytes_in text (k + 1) (i.left - 1) (ltb 0 a.s.nameescapes)) (bytes_in text (l + 1) (i.other - 1) (ltb 0 a.t.nameescapes)) c.before.before.if1.true ∙ (ap₂ before_of (sym s.first) (sym t.first) ∙ c.before.before.before.before.before.before.before.before.before.before.loop.invariant.2)
+
+add_i : tie.Need-overflow-add-i invariant_loop decreases_loop
+add_i c = omega (arith, (own c.before.before.before).inside)
+
+sub_left : tie.Need-overflow-sub-left invariant_loop decreases_loop
+sub_left c = omega (arith, (more c.before.before.before.before.before.before.before).0)
+
+add-j : tie.Need-overflow-add-j invariant_loop decreases_loop
+add-j c = omega (arith, (others c.before.before.before).inside)
+
+sub-other : tie.Need-overflow-sub-other invariant_loop decreases_loop
+sub-other c = omega (arith, (more c.before.before.before.before.before.before.before).1)
+
+loop_less : tie.Need-loop-smaller invariant_loop decreases_loop
+loop_less c = omega (arith, (more c.before.before.before.before.before.before.before).0)
 
 loop_again : tie.Need-loop-preserved invariant_loop decreases_loop
 loop_again c =
@@ -81,14 +111,22 @@ returns_2 c =
 
 pub escaped_before_spec : {M : Type 1} → statement M
 escaped_before_spec =
-    tie.close (tie.spec invariant_loop decreases_loop
-    (λ c. (c.before.requires.0.named, c.before.requires.1.named, refl)) byte_place_requires
-    byte_place_requires_2 (λ c. (own c.before).inside) (λ c. (others c.before.before).inside)
-    (λ c. (own c.before.before.before.before).inside)
-    (λ c. (others c.before.before.before.before.before).inside) returns
-    (λ c. omega (arith, (own c.before.before.before).inside))
-    (λ c. omega (arith, (more c.before.before.before.before.before.before.before).0))
-    (λ c. omega (arith, (others c.before.before.before).inside))
-    (λ c. omega (arith, (more c.before.before.before.before.before.before.before).1))
-    (λ c. omega (arith, (more c.before.before.before.before.before.before.before).0))
-    loop_again returns_2)
+    tie.close
+    (tie.spec
+    invariant_loop
+    decreases_loop
+    loop_holds
+    byte_place_requires
+    byte_place_requires_2
+    shared_slice_read_if1
+    shared-slice-read-if1-2
+    shared_slice_read_result
+    shared-slice-read-result-2
+    returns
+    add_i
+    sub_left
+    add-j
+    sub-other
+    loop_less
+    loop_again
+    returns_2)

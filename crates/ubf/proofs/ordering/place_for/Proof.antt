@@ -27,6 +27,15 @@ middle c =
     let l = c.before.loop in
     row_at a.text.now a.rows.now a.order.now a.first c.before.before.before.before.before.before.requires.1 (l.low + (l.high - l.low) / 2) (omega (arith, l.invariant)) (omega (arith, l.invariant, c.loop-test.true))
 
+shared_slice_read_span_at : tie.Need-shared-slice-read-span-at invariant_loop decreases_loop
+shared_slice_read_span_at c = omega (arith, c.before.before.before.before.before.requires.1.order_long)
+
+cast-span-at : tie.Need-overflow-cast-span-at invariant_loop decreases_loop
+cast-span-at c = omega (arith, (front c.before).small)
+
+span_at_requires : tie.Need-span-at-requires invariant_loop decreases_loop
+span_at_requires c κs = (front c.before).near
+
 name_before_requires : tie.Need-name-before-requires invariant_loop decreases_loop
 name_before_requires c κs = (c.before.before.before.before.before.before.requires.0, subst (SpanIn c.before.before.before.before.before.before.args.text.now) (sym c.span-at.ensures) (front c.before.before).lies)
 
@@ -43,8 +52,20 @@ loop_holds c =
     let w = place_within a.text.now a.rows.now a.order.now a.first c.before.before.before.before.requires.1 (name_in a.text.now a.s) in
     (omega arith, omega arith, w, omega arith)
 
+sub-middle : tie.Need-overflow-sub-middle invariant_loop decreases_loop
+sub-middle c = omega (arith, c.before.loop.invariant)
+
+add_middle : tie.Need-overflow-add-middle invariant_loop decreases_loop
+add_middle c = omega (arith, c.before.loop.invariant)
+
 shared_slice_read_span_at_2 : tie.Need-shared-slice-read-span-at-2 invariant_loop decreases_loop
 shared_slice_read_span_at_2 c = omega (arith, c.before.before.before.before.before.before.before.requires.1.order_long, c.before.before.loop.invariant)
+
+cast-span-at-2 : tie.Need-overflow-cast-span-at-2 invariant_loop decreases_loop
+cast-span-at-2 c = omega (arith, (middle c.before).small)
+
+span-at-requires-2 : tie.Need-span-at-requires-2 invariant_loop decreases_loop
+span-at-requires-2 c κs = (middle c.before).near
 
 name_before_requires_2 : tie.Need-name-before-requires-2 invariant_loop decreases_loop
 name_before_requires_2 c κs = (c.before.before.before.before.before.before.before.before.requires.0, subst (SpanIn c.before.before.before.before.before.before.before.before.args.text.now) (sym c.span-at2.ensures) (middle c.before.before).lies)
@@ -76,13 +97,30 @@ loop_again_2 c =
     (sym c.before.name-before2.ensures ∙ c.if3.false) in
     (omega (arith, l.invariant), n, l.invariant.2, l.invariant.3)
 
+returns_2 : tie.Need-returns-2 invariant_loop decreases_loop
+returns_2 c = omega (arith, c.before.loop.invariant, c.loop-test.false)
+
 pub place_for_spec : {M : Type 1} → statement M
 place_for_spec =
-    tie.close (tie.spec invariant_loop decreases_loop
-    (λ c. omega (arith, c.before.before.before.before.before.requires.1.order_long))
-    (λ c. omega (arith, (front c.before).small)) (λ c κs. (front c.before).near)
-    name_before_requires returns loop_holds (λ c. omega (arith, c.before.loop.invariant))
-    (λ c. omega (arith, c.before.loop.invariant)) shared_slice_read_span_at_2
-    (λ c. omega (arith, (middle c.before).small)) (λ c κs. (middle c.before).near)
-    name_before_requires_2 loop_less loop_again add_low loop_less_2 loop_again_2
-    (λ c. omega (arith, c.before.loop.invariant, c.loop-test.false)))
+    tie.close
+    (tie.spec
+    invariant_loop
+    decreases_loop
+    shared_slice_read_span_at
+    cast-span-at
+    span_at_requires
+    name_before_requires
+    returns
+    loop_holds
+    sub-middle
+    add_middle
+    shared_slice_read_span_at_2
+    cast-span-at-2
+    span-at-requires-2
+    name_before_requires_2
+    loop_less
+    loop_again
+    add_low
+    loop_less_2
+    loop_again_2
+    returns_2)

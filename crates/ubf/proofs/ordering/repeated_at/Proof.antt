@@ -25,8 +25,17 @@ returns c =
     let a = c.before.before.before.before.args in
     there a.text.now a.rows.now a.order.now a.first c.before.before.before.before.requires.1 (name_in a.text.now a.s) a.at c.before.before.before.before.requires.2 (omega (arith, c.if1.true))
 
+sub-span-at : tie.Need-overflow-sub-span-at
+sub-span-at c = search rules
+
 shared_slice_read_span_at : tie.Need-shared-slice-read-span-at
 shared_slice_read_span_at c = omega (arith, near c.before, c.before.before.before.before.before.requires.1.order_long)
+
+cast-span-at : tie.Need-overflow-cast-span-at
+cast-span-at c = omega (arith, (last c.before).small)
+
+span_at_requires : tie.Need-span-at-requires
+span_at_requires c κs = (last c.before).near
 
 name_same_requires : tie.Need-name-same-requires
 name_same_requires c κs = (subst (SpanIn c.before.before.before.before.before.before.args.text.now) (sym c.span-at.ensures) (last c.before.before).lies, c.before.before.before.before.before.before.requires.0)
@@ -39,6 +48,12 @@ returns_2 c =
 
 pub repeated_at_spec : {M : Type 1} → statement M
 repeated_at_spec =
-    tie.close (tie.spec returns (λ c. search rules) shared_slice_read_span_at
-    (λ c. omega (arith, (last c.before).small)) (λ c κs. (last c.before).near)
-    name_same_requires returns_2)
+    tie.close
+    (tie.spec
+    returns
+    sub-span-at
+    shared_slice_read_span_at
+    cast-span-at
+    span_at_requires
+    name_same_requires
+    returns_2)

@@ -27,8 +27,14 @@ escaped c = lt-ltb 0 c.before.before.before.before.before.before.before.before.a
 plain : (c : tie.Else3) → ltb 0 c.before.before.before.before.before.before.before.before.args.s.escapes ≡ false
 plain c = le-ltb 0 c.before.before.before.before.before.before.before.before.args.s.escapes (omega (arith, c.if3.false))
 
+cast_write_u32 : tie.Need-overflow-cast-write-u32
+cast_write_u32 c = omega (arith, (int32 c.before.before).1)
+
 write_u32_requires : tie.Need-write-u32-requires
 write_u32_requires c κs = omega (arith, (int32 c.before.before).0.long, c.before.before.before.before.before.before.requires.1)
+
+same_length : tie.Need-same-length
+same_length c = search rules
 
 returns : tie.Need-returns
 returns c = let a = c.before.before.before.before.before.before.before.before.before.args in c.before.before.write-u32.ensures ∙ ap (sets a.buffer.now a.at) (int32 c.before.before.before.before.before).0.bytes
@@ -36,11 +42,17 @@ returns c = let a = c.before.before.before.before.before.before.before.before.be
 write_u64_requires : tie.Need-write-u64-requires
 write_u64_requires c κs = omega (arith, (int64 c.before).long, c.before.before.before.before.before.before.before.requires.1)
 
+same_length_2 : tie.Need-same-length-2
+same_length_2 c = search rules
+
 returns_2 : tie.Need-returns-2
 returns_2 c = let a = c.before.before.before.before.before.before.before.before.before.before.args in c.before.before.write-u64.ensures ∙ ap (sets a.buffer.now a.at) (int64 c.before.before.before.before).bytes
 
 put_unescaped_requires : tie.Need-put-unescaped-requires
 put_unescaped_requires c κs = (rw (escaped c.before) at (textual c.before.before.before).lies, c.before.before.before.before.before.before.before.before.before.requires.1)
+
+same_length_3 : tie.Need-same-length-3
+same_length_3 c = search rules
 
 returns_3 : tie.Need-returns-3
 returns_3 c =
@@ -51,6 +63,9 @@ returns_3 c =
 put_part_requires : tie.Need-put-part-requires
 put_part_requires c κs = (rw (plain c.before) at (textual c.before.before.before).lies, c.before.before.before.before.before.before.before.before.before.requires.1)
 
+same_length_4 : tie.Need-same-length-4
+same_length_4 c = search rules
+
 returns_4 : tie.Need-returns-4
 returns_4 c =
     let a = c.before.before.before.before.before.before.before.before.before.before.before.before.args in
@@ -59,7 +74,18 @@ returns_4 c =
 
 pub put_data_spec : {M : Type 1} → statement M
 put_data_spec =
-    tie.close (tie.spec (λ c. omega (arith, (int32 c.before.before).1)) write_u32_requires
-    (λ c. search rules) returns write_u64_requires (λ c. search rules) returns_2
-    put_unescaped_requires (λ c. search rules) returns_3 put_part_requires (λ c. search rules)
+    tie.close
+    (tie.spec
+    cast_write_u32
+    write_u32_requires
+    same_length
+    returns
+    write_u64_requires
+    same_length_2
+    returns_2
+    put_unescaped_requires
+    same_length_3
+    returns_3
+    put_part_requires
+    same_length_4
     returns_4)

@@ -24,10 +24,31 @@ fits c = rw (plain c) at c.before.before.before.requires.0
 put_unescaped_requires : tie.Need-put-unescaped-requires
 put_unescaped_requires c κs = (rw (escaped c.before) at c.before.before.before.before.requires.0, c.before.before.before.before.requires.1)
 
+same_length : tie.Need-same-length
+same_length c = search rules
+
 returns : tie.Need-returns
 returns c =
     let a = c.before.before.before.before.before.before.before.args in
     c.before.before.put-unescaped.ensures ∙ ap (λ (e : Bool). sets a.buffer.now a.at (bytes_in a.text.now a.from a.n e)) (sym (escaped c.before.before.before.before))
+
+add_end : tie.Need-overflow-add-end
+add_end c = omega (arith, fits c)
+
+sub-copy-to : tie.Need-overflow-sub-copy-to
+sub-copy-to c = search rules
+
+part_copy_to_start : tie.Need-slice-bounds-copy-to-start
+part_copy_to_start c = search rules
+
+part_copy_to_end : tie.Need-slice-bounds-copy-to-end
+part_copy_to_end c = let f = fits c.before in omega arith
+
+copy_to_requires : tie.Need-copy-to-requires
+copy_to_requires c κs = search rules
+
+same_length_2 : tie.Need-same-length-2
+same_length_2 c = search rules
 
 returns_2 : tie.Need-returns-2
 returns_2 c =
@@ -37,7 +58,15 @@ returns_2 c =
 
 pub put_part_spec : {M : Type 1} → statement M
 put_part_spec =
-    tie.close (tie.spec put_unescaped_requires (λ c. search rules) returns
-    (λ c. omega (arith, fits c)) (λ c. search rules) (λ c. search rules)
-    (λ c. let f = fits c.before in omega arith) (λ c κs. search rules) (λ c. search rules)
+    tie.close
+    (tie.spec
+    put_unescaped_requires
+    same_length
+    returns
+    add_end
+    sub-copy-to
+    part_copy_to_start
+    part_copy_to_end
+    copy_to_requires
+    same_length_2
     returns_2)

@@ -13,16 +13,52 @@ use borrow.Author.Rules.{rules}
 use Rattle.ubf.proofs.placing.put_span.Statement.{statement}
 use Rattle.ubf.proofs.placing.put_span.Tie as tie
 
+add_write_u16 : tie.Need-overflow-add-write-u16
+add_write_u16 c = search rules
+
+add-write-u16-2 : tie.Need-overflow-add-write-u16-2
+add-write-u16-2 c = search rules
+
+cast-write-u16 : tie.Need-overflow-cast-write-u16
+cast-write-u16 c = search rules
+
+write_u16_requires : tie.Need-write-u16-requires
+write_u16_requires c κs = search rules
+
+add-write-u16-3 : tie.Need-overflow-add-write-u16-3
+add-write-u16-3 c = search rules
+
 cast_write_u16_2 : tie.Need-overflow-cast-write-u16-2
 cast_write_u16_2 c =
     let a = c.before.before.before.before.before.before.before.before.before.before.args in
     omega (arith, kind_small a.text.now a.s.kind a.s.value a.s.len (ltb 0 a.s.escapes) c.before.before.before.before.before.before.before.before.before.before.requires.0.valued)
+
+write_u16_requires_2 : tie.Need-write-u16-requires-2
+write_u16_requires_2 c κs = search rules
+
+cast-buffer : tie.Need-overflow-cast-buffer
+cast-buffer c = search rules
+
+add_buffer : tie.Need-overflow-add-buffer
+add_buffer c = search rules
+
+slice_write_buffer : tie.Need-slice-write-buffer
+slice_write_buffer c = search rules
+
+add-put-part : tie.Need-overflow-add-put-part
+add-put-part c = search rules
 
 put_part_requires : tie.Need-put-part-requires
 put_part_requires c κs =
     let a = c.before.before.before.before.before.before.before.before.before.before.before.before.before.before.args in
     let l = length-set c.before.before.before.write-u162.new.0 (a.at + 4) a.s.namelen in
     (c.before.before.before.before.before.before.before.before.before.before.before.before.before.before.requires.0.named, omega (arith, l, c.before.before.before.write-u162.auto.0, c.before.before.before.before.before.before.before.before.write-u16.auto.0, c.before.before.before.before.before.before.before.before.before.before.before.before.before.before.requires.3))
+
+add-put-data : tie.Need-overflow-add-put-data
+add-put-data c = search rules
+
+add-put-data-2 : tie.Need-overflow-add-put-data-2
+add-put-data-2 c = search rules
 
 put_data_requires : tie.Need-put-data-requires
 put_data_requires c κs =
@@ -59,8 +95,25 @@ returns c =
 
 pub put_span_spec : {M : Type 1} → statement M
 put_span_spec =
-    tie.close (tie.spec (λ c. search rules) (λ c. search rules) (λ c. search rules)
-    (λ c κs. search rules) (λ c. search rules) cast_write_u16_2 (λ c κs. search rules)
-    (λ c. search rules) (λ c. search rules) (λ c. search rules) (λ c. search rules)
-    put_part_requires (λ c. search rules) (λ c. search rules) put_data_requires add_result
-    add_result_2 add_result_3 same_length returns)
+    tie.close
+    (tie.spec
+    add_write_u16
+    add-write-u16-2
+    cast-write-u16
+    write_u16_requires
+    add-write-u16-3
+    cast_write_u16_2
+    write_u16_requires_2
+    cast-buffer
+    add_buffer
+    slice_write_buffer
+    add-put-part
+    put_part_requires
+    add-put-data
+    add-put-data-2
+    put_data_requires
+    add_result
+    add_result_2
+    add_result_3
+    same_length
+    returns)

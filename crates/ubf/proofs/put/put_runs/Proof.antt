@@ -9,12 +9,32 @@ use Rattle.ubf.proofs.Laws.{rest_escapes, no_escapes, escaped_one, escaped_end, 
 use borrow.Author.Rules.{rules}
 use Rattle.ubf.proofs.put.put_runs.Statement.{statement}
 use Rattle.ubf.proofs.put.put_runs.Tie as tie
+use Rattle.ubf.proofs.put.put_runs.Reads as reads
+use Rattle.ubf.proofs.put.put_runs.Lts as lts
+use Rattle.decimal.proofs.put_bytes.Reads as put-bytes-reads
+use Rattle.ubf.proofs.put.put_escape.Reads as put-escape-reads
+use Rattle.ubf.proofs.words.plain_to.Reads as plain-to-reads
 
 abbrev invariant_loop : tie.invariant_loop
 invariant_loop out₀ at s p₀ i₀ out p i = (i ≤ length s) × (length out ≡ length out₀) × (p + length (escapes 34 (drop i s)) ≡ at + length (escapes 34 s)) × (sets out p (escapes 34 (drop i s)) ≡ sets out₀ at (escapes 34 s))
 
 abbrev decreases_loop : tie.decreases_loop
 decreases_loop out₀ at s p₀ i₀ out p i = length s - i
+
+loop_holds : tie.Need-loop-init invariant_loop decreases_loop
+loop_holds c = (omega arith, refl, refl, refl)
+
+plain-to-requires : tie.Need-plain-to-requires invariant_loop decreases_loop
+plain-to-requires c κs = search rules
+
+sub-put-bytes : tie.Need-overflow-sub-put-bytes invariant_loop decreases_loop
+sub-put-bytes c = c.before.plain-to.ensures.after
+
+part-put-bytes-start : tie.Need-slice-bounds-put-bytes-start invariant_loop decreases_loop
+part-put-bytes-start c = omega (arith, c.before.plain-to.ensures.after, c.before.plain-to.ensures.near)
+
+part-put-bytes-end : tie.Need-slice-bounds-put-bytes-end invariant_loop decreases_loop
+part-put-bytes-end c = omega (arith, c.before.plain-to.ensures.after, c.before.plain-to.ensures.near)
 
 put_bytes_requires : tie.Need-put-bytes-requires invariant_loop decreases_loop
 put_bytes_requires c κs =
@@ -23,6 +43,9 @@ put_bytes_requires c κs =
     let end = c.before.before.plain-to.result in
     let r = c.before.before.plain-to.ensures in
     omega (arith, length_run s l.i end r, rest_run s l.i end r, l.invariant.1, l.invariant.2, c.before.before.before.before.before.before.before.requires)
+
+same_length : tie.Need-same-length invariant_loop decreases_loop
+same_length c = search rules
 
 returns : tie.Need-returns invariant_loop decreases_loop
 returns c =
@@ -70,6 +93,9 @@ loop_again c =
       escaped_one s c.before.before.before.before.before.before.before.before.put-bytes.new.0 c.before.before.before.before.before.before.before.before.put-bytes.result end h q ∙ (escaped_run s l.i end r l.out l.p p ∙ l.invariant.3),
     )
 
+same_length_2 : tie.Need-same-length-2 invariant_loop decreases_loop
+same_length_2 c = search rules
+
 returns_2 : tie.Need-returns-2 invariant_loop decreases_loop
 returns_2 c =
     let l = c.before.loop in
@@ -78,9 +104,22 @@ returns_2 c =
 
 pub put_runs_spec : {M : Type 1} → statement M
 put_runs_spec =
-    tie.close (tie.spec invariant_loop decreases_loop (λ c. (omega arith, refl, refl, refl))
-    (λ c κs. search rules) (λ c. c.before.plain-to.ensures.after)
-    (λ c. omega (arith, c.before.plain-to.ensures.after, c.before.plain-to.ensures.near))
-    (λ c. omega (arith, c.before.plain-to.ensures.after, c.before.plain-to.ensures.near))
-    put_bytes_requires (λ c. search rules) returns shared_slice_read_put_escape put_escape_requires
-    add_i loop_less loop_again (λ c. search rules) returns_2)
+    tie.close
+    (tie.spec
+    invariant_loop
+    decreases_loop
+    loop_holds
+    plain-to-requires
+    sub-put-bytes
+    part-put-bytes-start
+    part-put-bytes-end
+    put_bytes_requires
+    same_length
+    returns
+    shared_slice_read_put_escape
+    put_escape_requires
+    add_i
+    loop_less
+    loop_again
+    same_length_2
+    returns_2)

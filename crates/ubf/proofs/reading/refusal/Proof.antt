@@ -43,6 +43,9 @@ returns_4 c =
 arrange_requires : tie.Need-arrange-requires
 arrange_requires c κs = let p = c.before.before.before.before.before.before.before.before.before.before.requires in (few c.before, p.1, p.2, (few_lie c.before.before.before.before.before.before.before.before.before.before.args.text.now c.before.before.before.before.before.before.before.before.before.before.args.rows.now c.before.before.before.before.before.before.before.before.before.before.args.t c.before.before.before.before.before.before.before.before.before.before.requires.0 p.1 (few c.before)).1)
 
+same_length : tie.Need-same-length
+same_length c = search rules
+
 returns_5 : tie.Need-returns-5
 returns_5 c =
     let p = c.before.before.before.before.before.before.before.before.before.before.before.before.before.before.requires in
@@ -50,12 +53,18 @@ returns_5 c =
     let lie = few_lie c.before.before.before.before.before.before.before.before.before.before.before.before.before.before.args.text.now c.before.before.before.before.before.before.before.before.before.before.before.before.before.before.args.rows.now c.before.before.before.before.before.before.before.before.before.before.before.before.before.before.args.t c.before.before.before.before.before.before.before.before.before.before.before.before.before.before.requires.0 p.1 (few c.before.before.before.before.before) in
     name-again c.before.before.before.before.before.before.before.before.before.before.before.before.before.before.args.text.now c.before.before.before.before.before.before.before.before.before.before.before.before.before.before.args.rows.now c.before.before.before.before.before.before.before.before.before.before.before.before.before.before.args.t c.before.before.before.before.before.before.before.before.before.before.before.before.before.before.requires.0 c.before.before.before.arrange.new.1.1.1.0 c.before.before.before.before.before.before.before.before.before.before.before.before.before.before.args.room (named c.before.before.before.before.before.before.before.before.before) (sized c.before.before.before.before.before.before.before) (sym (ap repeated lie.0) ∙ c.before.before.before.arrange.ensures.again b)
 
+same_length_2 : tie.Need-same-length-2
+same_length_2 c = search rules
+
 returns_6 : tie.Need-returns-6
 returns_6 c =
     let p = c.before.before.before.before.before.before.before.before.before.before.before.before.before.before.before.before.before.requires in
     let b = not-false c.before.before.before.before.before.before.arrange.result c.before.before.before.if5.false in
     let lie = few_lie c.before.before.before.before.before.before.before.before.before.before.before.before.before.before.before.before.before.args.text.now c.before.before.before.before.before.before.before.before.before.before.before.before.before.before.before.before.before.args.rows.now c.before.before.before.before.before.before.before.before.before.before.before.before.before.before.before.before.before.args.t c.before.before.before.before.before.before.before.before.before.before.before.before.before.before.before.before.before.requires.0 p.1 (few c.before.before.before.before.before.before.before.before) in
     too_long c.before.before.before.before.before.before.before.before.before.before.before.before.before.before.before.before.before.args.text.now c.before.before.before.before.before.before.before.before.before.before.before.before.before.before.before.before.before.args.rows.now c.before.before.before.before.before.before.before.before.before.before.before.before.before.before.before.before.before.args.t c.before.before.before.before.before.before.before.before.before.before.before.before.before.before.before.before.before.requires.0 c.before.before.before.before.before.before.arrange.new.1.1.1.0 c.before.before.before.before.before.before.before.before.before.before.before.before.before.before.before.before.before.args.room (named c.before.before.before.before.before.before.before.before.before.before.before.before) (sized c.before.before.before.before.before.before.before.before.before.before) (few c.before.before.before.before.before.before.before.before) c.if6.true (sym (ap repeated lie.0) ∙ c.before.before.before.before.before.before.arrange.ensures.once b)
+
+same_length_3 : tie.Need-same-length-3
+same_length_3 c = search rules
 
 returns_7 : tie.Need-returns-7
 returns_7 c =
@@ -68,5 +77,17 @@ returns_7 c =
 
 pub refusal_spec : {M : Type 1} → statement M
 refusal_spec =
-    tie.close (tie.spec returns returns_2 repeats_requires returns_3 returns_4 arrange_requires
-    (λ c. search rules) returns_5 (λ c. search rules) returns_6 (λ c. search rules) returns_7)
+    tie.close
+    (tie.spec
+    returns
+    returns_2
+    repeats_requires
+    returns_3
+    returns_4
+    arrange_requires
+    same_length
+    returns_5
+    same_length_2
+    returns_6
+    same_length_3
+    returns_7)

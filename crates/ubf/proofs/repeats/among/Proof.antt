@@ -20,8 +20,17 @@ field c = field_comes c.before.before.before.before.before.args.text.now c.befor
 loop_holds : tie.Need-loop-init invariant_loop decreases_loop
 loop_holds c = let a = c.before.args in (c.before.requires.0, follows_none a.text.now a.at (name_in a.text.now a.s))
 
+ends_requires : tie.Need-ends-requires invariant_loop decreases_loop
+ends_requires c κs = c.loop.invariant.0.near
+
 field_at_requires : tie.Need-field-at-requires invariant_loop decreases_loop
 field_at_requires c κs = let l = c.before.before.loop in name_comes c.before.before.before.before.args.text.now l.i l.invariant.0 c.before.ends.result c.before.ends.ensures (not-true c.before.ends.result c.if1.true)
+
+name_same_requires : tie.Need-name-same-requires invariant_loop decreases_loop
+name_same_requires c κs = ((field c).lies, c.before.before.before.before.before.requires.1)
+
+loop_less : tie.Need-loop-smaller invariant_loop decreases_loop
+loop_less c = let f = field c.before in omega (arith, f.later, f.near)
 
 loop_again : tie.Need-loop-preserved invariant_loop decreases_loop
 loop_again c =
@@ -39,6 +48,14 @@ returns c =
 
 pub among_spec : {M : Type 1} → statement M
 among_spec =
-    tie.close (tie.spec invariant_loop decreases_loop loop_holds (λ c κs. c.loop.invariant.0.near) field_at_requires
-    (λ c κs. ((field c).lies, c.before.before.before.before.before.requires.1))
-    (λ c. let f = field c.before in omega (arith, f.later, f.near)) loop_again returns)
+    tie.close
+    (tie.spec
+    invariant_loop
+    decreases_loop
+    loop_holds
+    ends_requires
+    field_at_requires
+    name_same_requires
+    loop_less
+    loop_again
+    returns)

@@ -17,6 +17,9 @@ decreases_loop text i₀ i = length text - i
 field : (c : tie.After-field-at invariant_loop decreases_loop) → FieldFound c.before.before.before.before.before.before.before.args.text.now c.before.before.before.loop.i c.field_at.result
 field c = field_comes c.before.before.before.before.before.before.before.args.text.now c.before.before.before.loop.i c.before.before.before.loop.invariant.within c.field_at.result c.field_at.ensures
 
+blanks-requires : tie.Need-blanks-requires invariant_loop decreases_loop
+blanks-requires c κs = omega arith
+
 add_blanks : tie.Need-overflow-add-blanks invariant_loop decreases_loop
 add_blanks c = let b = brace_comes c.before.before.args.text.now c.blanks.result c.before.before.requires c.blanks.ensures in omega (arith, b.0)
 
@@ -25,6 +28,9 @@ blanks_requires_2 c κs = let b = brace_comes c.before.before.args.text.now c.bl
 
 loop_holds : tie.Need-loop-init invariant_loop decreases_loop
 loop_holds c = passed_none c.before.before.before.args.text.now c.before.blanks.result c.blanks2.result c.before.before.before.requires c.before.blanks.ensures c.blanks2.ensures
+
+ends_requires : tie.Need-ends-requires invariant_loop decreases_loop
+ends_requires c κs = c.loop.invariant.within.near
 
 field_at_requires : tie.Need-field-at-requires invariant_loop decreases_loop
 field_at_requires c κs = let l = c.before.before.loop in name_comes c.before.before.before.before.before.before.args.text.now l.i l.invariant.within c.before.ends.result c.before.ends.ensures (not-true c.before.ends.result c.if1.true)
@@ -35,6 +41,9 @@ among_requires c κs = (within_next c.before.before.before.before.before.before.
 returns : tie.Need-returns invariant_loop decreases_loop
 returns c = passed_repeated c.before.before.before.before.before.before.before.before.before.args.text.now c.before.before.before.before.before.loop.i c.before.before.before.before.before.loop.invariant c.before.before.field_at.result (field c.before.before) c.before.among.result c.before.among.ensures c.if2.true
 
+loop_less : tie.Need-loop-smaller invariant_loop decreases_loop
+loop_less c = let f = field c.before.before in omega (arith, f.later, f.near)
+
 loop_again : tie.Need-loop-preserved invariant_loop decreases_loop
 loop_again c = passed_more c.before.before.before.before.before.before.before.before.before.args.text.now c.before.before.before.before.before.loop.i c.before.before.before.before.before.loop.invariant c.before.before.field_at.result (field c.before.before) c.before.among.result c.before.among.ensures c.if2.false
 
@@ -43,7 +52,18 @@ returns_2 c = passed_all c.before.before.before.before.before.before.args.text.n
 
 pub repeats_spec : {M : Type 1} → statement M
 repeats_spec =
-    tie.close (tie.spec invariant_loop decreases_loop (λ c κs. omega arith) add_blanks blanks_requires_2
-    loop_holds (λ c κs. c.loop.invariant.within.near) field_at_requires among_requires returns
-    (λ c. let f = field c.before.before in omega (arith, f.later, f.near)) loop_again
+    tie.close
+    (tie.spec
+    invariant_loop
+    decreases_loop
+    blanks-requires
+    add_blanks
+    blanks_requires_2
+    loop_holds
+    ends_requires
+    field_at_requires
+    among_requires
+    returns
+    loop_less
+    loop_again
     returns_2)

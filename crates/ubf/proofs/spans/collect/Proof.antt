@@ -1,4 +1,3 @@
--- `collect` meets its contract: the loop keeps that the text up to t.at reads as the fields so far, that t knows their count, names and sizes, and that rows holds the first of them. Assumes nothing.
 use native.Mathlib.Omega.{arith}
 use Prim.Native.Nat.{◌-◌}
 use lib.ListN.{length}
@@ -12,10 +11,19 @@ invariant_loop text at rows₀ t₀ rows t = Collecting text at rows₀ rows t
 abbrev decreases_loop : tie.decreases_loop
 decreases_loop text at rows₀ t₀ rows t = length text - t.at
 
+tuple-at-requires : tie.Need-tuple-at-requires invariant_loop decreases_loop
+tuple-at-requires c κs = tt
+
 loop_holds : tie.Need-loop-init invariant_loop decreases_loop
 loop_holds c =
     let a = c.before.before.before.args in
     collecting_none a.text.now a.at a.rows.now c.tuple_at.result c.before.before.before.requires c.tuple_at.ensures
+
+shared-slice-read-if2 : tie.Need-shared-slice-read-if2 invariant_loop decreases_loop
+shared-slice-read-if2 c = c.before.if1.true
+
+same_length : tie.Need-same-length invariant_loop decreases_loop
+same_length c = c.before.before.before.before.loop.invariant.rooms
 
 returns : tie.Need-returns invariant_loop decreases_loop
 returns c =
@@ -23,11 +31,23 @@ returns c =
     let l = c.before.before.before.before.loop in
     collected a.text.now a.at a.rows.now l.rows l.t l.invariant c.if2.true
 
+field_at_requires : tie.Need-field-at-requires invariant_loop decreases_loop
+field_at_requires c κs = (c.before.before.if1.true, c.if2.false)
+
+tuple-at-requires-2 : tie.Need-tuple-at-requires-2 invariant_loop decreases_loop
+tuple-at-requires-2 c κs = tt
+
+same_length_2 : tie.Need-same-length-2 invariant_loop decreases_loop
+same_length_2 c = c.before.before.before.before.before.before.before.before.loop.invariant.rooms
+
 returns_2 : tie.Need-returns-2 invariant_loop decreases_loop
 returns_2 c =
     let a = c.before.before.before.before.before.before.before.before.before.before.before.before.args in
     let l = c.before.before.before.before.before.before.before.before.loop in
     collected_none a.text.now a.at a.rows.now l.rows l.t l.invariant c.before.before.before.field_at.result c.tuple-at2.result c.before.before.before.field_at.ensures c.before.if3.true c.tuple-at2.ensures
+
+keep_requires : tie.Need-keep-requires invariant_loop decreases_loop
+keep_requires c κs = tt
 
 grown_requires : tie.Need-grown-requires invariant_loop decreases_loop
 grown_requires c κs = ((c.before.before.before.before.before.before.field_at.ensures.found c.before.before.before.before.if3.false).lies, omega (arith, c.before.before.before.before.before.before.before.before.before.before.before.loop.invariant.few, c.before.before.before.before.before.before.before.before.before.if1.true))
@@ -43,6 +63,9 @@ loop_again c =
     let l = c.before.before.before.before.before.before.before.before.before.before.before.before.loop in
     collecting_more a.text.now a.at a.rows.now l.rows l.t l.invariant c.before.before.before.before.before.before.before.field_at.result c.before.before.before.keep.new.0 c.grown.result (c.before.before.before.before.before.before.before.field_at.ensures.found c.before.before.before.before.before.if3.false) c.before.before.before.keep.ensures c.grown.ensures
 
+same_length_3 : tie.Need-same-length-3 invariant_loop decreases_loop
+same_length_3 c = c.before.before.loop.invariant.rooms
+
 returns_3 : tie.Need-returns-3 invariant_loop decreases_loop
 returns_3 c =
     let a = c.before.before.before.before.before.before.args in
@@ -51,9 +74,22 @@ returns_3 c =
 
 pub collect_spec : {M : Type 1} → statement M
 collect_spec =
-    tie.close (tie.spec invariant_loop decreases_loop (λ c κs. tt) loop_holds (λ c. c.before.if1.true)
-    (λ c. c.before.before.before.before.loop.invariant.rooms) returns
-    (λ c κs. (c.before.before.if1.true, c.if2.false)) (λ c κs. tt)
-    (λ c. c.before.before.before.before.before.before.before.before.loop.invariant.rooms)
-    returns_2 (λ c κs. tt) grown_requires loop_less loop_again
-    (λ c. c.before.before.loop.invariant.rooms) returns_3)
+    tie.close
+    (tie.spec
+    invariant_loop
+    decreases_loop
+    tuple-at-requires
+    loop_holds
+    shared-slice-read-if2
+    same_length
+    returns
+    field_at_requires
+    tuple-at-requires-2
+    same_length_2
+    returns_2
+    keep_requires
+    grown_requires
+    loop_less
+    loop_again
+    same_length_3
+    returns_3)

@@ -1,4 +1,3 @@
--- `escaped_right` meets its contract: a length outside 1..64 is wrong; then the loop keeps that the name is right exactly if the bytes from i on that are left are printable. Assumes nothing.
 use mathlib.Core.Bool.{true}
 use native.Mathlib.Omega.{arith}
 use Rattle.ubf.proofs.Parts.{byte_inside, next_byte, Judged, judged_none, judged_end, judged_wrong, judged_more, name_wrong, small_name}
@@ -42,6 +41,12 @@ add_i c =
     let a = c.before.before.before.before.before.before.before.args in
     omega (arith, (next_byte a.text.now l.i l.left true c.before.before.byte-place.result (omega arith) c.before.before.byte-place.ensures l.invariant.lies).inside)
 
+sub_left : tie.Need-overflow-sub-left invariant_loop decreases_loop
+sub_left c = omega arith
+
+loop_less : tie.Need-loop-smaller invariant_loop decreases_loop
+loop_less c = omega arith
+
 loop_again : tie.Need-loop-preserved invariant_loop decreases_loop
 loop_again c =
     let l = c.before.before.before.before.loop in
@@ -56,5 +61,17 @@ returns_3 c =
 
 pub escaped_right_spec : {M : Type 1} → statement M
 escaped_right_spec =
-    tie.close (tie.spec invariant_loop decreases_loop returns loop_holds byte_place_requires shared_slice_read_b
-    returns_2 add_i (λ c. omega arith) (λ c. omega arith) loop_again returns_3)
+    tie.close
+    (tie.spec
+    invariant_loop
+    decreases_loop
+    returns
+    loop_holds
+    byte_place_requires
+    shared_slice_read_b
+    returns_2
+    add_i
+    sub_left
+    loop_less
+    loop_again
+    returns_3)

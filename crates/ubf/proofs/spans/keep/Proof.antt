@@ -1,4 +1,3 @@
--- `keep` meets its contract: by whether there is a row k: without one nothing is stored, else 7k + 7 is at most the length, and the seven stores are one store of the row. Assumes nothing.
 use native.Mathlib.Omega.{arith}
 use lib.ListN.{length-set}
 use Rattle.ubf.proofs.Rows.{row_kept, row_left}
@@ -9,15 +8,100 @@ use Rattle.ubf.proofs.spans.keep.Tie as tie
 returns : tie.Need-returns
 returns c = row_left c.before.args.rows.now c.before.args.k c.before.args.s c.if1.true
 
+mul_at : tie.Need-overflow-mul-at
+mul_at c = search rules
+
+mul-rows : tie.Need-overflow-mul-rows
+mul-rows c = search rules
+
+slice-write-rows : tie.Need-slice-write-rows
+slice-write-rows c = search rules
+
+add-rows : tie.Need-overflow-add-rows
+add-rows c = search rules
+
+mul-rows-2 : tie.Need-overflow-mul-rows-2
+mul-rows-2 c = search rules
+
+slice-write-rows-2 : tie.Need-slice-write-rows-2
+slice-write-rows-2 c = simp length-set (omega arith)
+
+add-rows-2 : tie.Need-overflow-add-rows-2
+add-rows-2 c = search rules
+
+mul-rows-3 : tie.Need-overflow-mul-rows-3
+mul-rows-3 c = search rules
+
+slice-write-rows-3 : tie.Need-slice-write-rows-3
+slice-write-rows-3 c = simp length-set (omega arith)
+
+add-rows-3 : tie.Need-overflow-add-rows-3
+add-rows-3 c = search rules
+
+mul-rows-4 : tie.Need-overflow-mul-rows-4
+mul-rows-4 c = search rules
+
+slice-write-rows-4 : tie.Need-slice-write-rows-4
+slice-write-rows-4 c = simp length-set (omega arith)
+
+add-rows-4 : tie.Need-overflow-add-rows-4
+add-rows-4 c = search rules
+
+mul-rows-5 : tie.Need-overflow-mul-rows-5
+mul-rows-5 c = search rules
+
+slice-write-rows-5 : tie.Need-slice-write-rows-5
+slice-write-rows-5 c = simp length-set (omega arith)
+
+add-rows-5 : tie.Need-overflow-add-rows-5
+add-rows-5 c = search rules
+
+mul-rows-6 : tie.Need-overflow-mul-rows-6
+mul-rows-6 c = search rules
+
+slice-write-rows-6 : tie.Need-slice-write-rows-6
+slice-write-rows-6 c = simp length-set (omega arith)
+
+add-rows-6 : tie.Need-overflow-add-rows-6
+add-rows-6 c = search rules
+
+mul-rows-7 : tie.Need-overflow-mul-rows-7
+mul-rows-7 c = search rules
+
+slice-write-rows-7 : tie.Need-slice-write-rows-7
+slice-write-rows-7 c = simp length-set (omega arith)
+
+same_length : tie.Need-same-length
+same_length c = search rules
+
 returns_2 : tie.Need-returns-2
 returns_2 c = row_kept c.before.args.rows.now c.before.args.k c.before.args.s c.if1.false
 
 pub keep_spec : {M : Type 1} → statement M
 keep_spec =
-    tie.close (tie.spec returns (λ c. search rules) (λ c. search rules) (λ c. search rules)
-    (λ c. search rules) (λ c. search rules) (λ c. simp length-set (omega arith)) (λ c. search rules)
-    (λ c. search rules) (λ c. simp length-set (omega arith)) (λ c. search rules) (λ c. search rules)
-    (λ c. simp length-set (omega arith)) (λ c. search rules) (λ c. search rules)
-    (λ c. simp length-set (omega arith)) (λ c. search rules) (λ c. search rules)
-    (λ c. simp length-set (omega arith)) (λ c. search rules) (λ c. search rules)
-    (λ c. simp length-set (omega arith)) (λ c. search rules) returns_2)
+    tie.close
+    (tie.spec
+    returns
+    mul_at
+    mul-rows
+    slice-write-rows
+    add-rows
+    mul-rows-2
+    slice-write-rows-2
+    add-rows-2
+    mul-rows-3
+    slice-write-rows-3
+    add-rows-3
+    mul-rows-4
+    slice-write-rows-4
+    add-rows-4
+    mul-rows-5
+    slice-write-rows-5
+    add-rows-5
+    mul-rows-6
+    slice-write-rows-6
+    add-rows-6
+    mul-rows-7
+    slice-write-rows-7
+    same_length
+    returns_2)

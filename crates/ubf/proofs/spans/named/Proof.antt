@@ -1,4 +1,3 @@
--- `named` meets its contract: by whether the name has escapes: `escaped_right` judges it, or `name_right` judges the slice of the text that it is. Assumes nothing.
 use mathlib.Core.Path.{ap, ◌∙◌}
 use native.Mathlib.Omega.{arith}
 use Rattle.notice.specs.Field.{name_right}
@@ -18,15 +17,32 @@ add_end c =
     let p = plain_part c.before.before.before.before.args.text.now c.before.before.before.before.args.s c.before.if1.false c.before.before.before.before.requires in
     omega arith
 
+sub-name-right : tie.Need-overflow-sub-name-right
+sub-name-right c = search rules
+
+part-name-right-start : tie.Need-slice-bounds-name-right-start
+part-name-right-start c = search rules
+
 part_name_right_end : tie.Need-slice-bounds-name-right-end
 part_name_right_end c =
     let p = plain_part c.before.before.before.before.args.text.now c.before.before.before.before.args.s c.before.if1.false c.before.before.before.before.requires in
     omega arith
+
+name-right-requires : tie.Need-name-right-requires
+name-right-requires c κs = search rules
 
 returns_2 : tie.Need-returns-2
 returns_2 c = c.name-right.ensures ∙ ap name_right (plain_slice c.before.before.before.before.before.before.args.text.now c.before.before.before.before.before.before.args.s c.before.before.before.if1.false)
 
 pub named_spec : {M : Type 1} → statement M
 named_spec =
-    tie.close (tie.spec escaped_right_requires returns add_end (λ c. search rules)
-    (λ c. search rules) part_name_right_end (λ c κs. search rules) returns_2)
+    tie.close
+    (tie.spec
+    escaped_right_requires
+    returns
+    add_end
+    sub-name-right
+    part-name-right-start
+    part_name_right_end
+    name-right-requires
+    returns_2)

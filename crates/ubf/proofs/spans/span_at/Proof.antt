@@ -1,18 +1,98 @@
--- `span_at` meets its contract: the seven indices from 7k on are in range by the precondition, and each reads what the rows without the first 7k numbers have there. Assumes nothing.
 use Prim.Native.Nat.{◌*◌}
 use Rattle.ubf.proofs.Rows.{row_read}
 use borrow.Author.Rules.{rules}
 use Rattle.ubf.proofs.spans.span_at.Statement.{statement}
 use Rattle.ubf.proofs.spans.span_at.Tie as tie
 
+mul_at : tie.Need-overflow-mul-at
+mul_at c = search rules
+
+mul_t4 : tie.Need-overflow-mul-t4
+mul_t4 c = search rules
+
+shared-slice-read-t6 : tie.Need-shared-slice-read-t6
+shared-slice-read-t6 c = search rules
+
+add_t7 : tie.Need-overflow-add-t7
+add_t7 c = search rules
+
+mul-t8 : tie.Need-overflow-mul-t8
+mul-t8 c = search rules
+
+shared-slice-read-t10 : tie.Need-shared-slice-read-t10
+shared-slice-read-t10 c = search rules
+
+add_t11 : tie.Need-overflow-add-t11
+add_t11 c = search rules
+
+mul-t12 : tie.Need-overflow-mul-t12
+mul-t12 c = search rules
+
+shared-slice-read-t14 : tie.Need-shared-slice-read-t14
+shared-slice-read-t14 c = search rules
+
+add-t15 : tie.Need-overflow-add-t15
+add-t15 c = search rules
+
+mul-t16 : tie.Need-overflow-mul-t16
+mul-t16 c = search rules
+
+shared-slice-read-t18 : tie.Need-shared-slice-read-t18
+shared-slice-read-t18 c = search rules
+
+add-t19 : tie.Need-overflow-add-t19
+add-t19 c = search rules
+
+mul-t20 : tie.Need-overflow-mul-t20
+mul-t20 c = search rules
+
+shared-slice-read-t22 : tie.Need-shared-slice-read-t22
+shared-slice-read-t22 c = search rules
+
+add-t23 : tie.Need-overflow-add-t23
+add-t23 c = search rules
+
+mul-t24 : tie.Need-overflow-mul-t24
+mul-t24 c = search rules
+
+shared-slice-read-t26 : tie.Need-shared-slice-read-t26
+shared-slice-read-t26 c = search rules
+
+add_t27 : tie.Need-overflow-add-t27
+add_t27 c = search rules
+
+mul-t28 : tie.Need-overflow-mul-t28
+mul-t28 c = search rules
+
+shared-slice-read-t30 : tie.Need-shared-slice-read-t30
+shared-slice-read-t30 c = search rules
+
 returns : tie.Need-returns
 returns c = row_read c.before.before.before.before.before.before.before.args.rows.now (7 * c.before.before.before.before.before.before.before.args.k)
 
 pub span_at_spec : {M : Type 1} → statement M
 span_at_spec =
-    tie.close (tie.spec (λ c. search rules) (λ c. search rules) (λ c. search rules)
-    (λ c. search rules) (λ c. search rules) (λ c. search rules) (λ c. search rules)
-    (λ c. search rules) (λ c. search rules) (λ c. search rules) (λ c. search rules)
-    (λ c. search rules) (λ c. search rules) (λ c. search rules) (λ c. search rules)
-    (λ c. search rules) (λ c. search rules) (λ c. search rules) (λ c. search rules)
-    (λ c. search rules) (λ c. search rules) returns)
+    tie.close
+    (tie.spec
+    mul_at
+    mul_t4
+    shared-slice-read-t6
+    add_t7
+    mul-t8
+    shared-slice-read-t10
+    add_t11
+    mul-t12
+    shared-slice-read-t14
+    add-t15
+    mul-t16
+    shared-slice-read-t18
+    add-t19
+    mul-t20
+    shared-slice-read-t22
+    add-t23
+    mul-t24
+    shared-slice-read-t26
+    add_t27
+    mul-t28
+    shared-slice-read-t30
+    returns)

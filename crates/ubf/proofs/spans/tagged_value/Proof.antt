@@ -1,4 +1,3 @@
--- `tagged_value` meets its contract: by whether the tag closes, then by whether it is int64 and the size fits 8 bytes; a tag is int64 exactly if these five bytes stand in the text. Assumes nothing.
 use mathlib.Core.Path.{sym, ◌∙◌}
 use native.Mathlib.Omega.{arith}
 use Rattle.octets.proofs.Theorems.{and_parts}
@@ -7,11 +6,44 @@ use borrow.Author.Rules.{rules}
 use Rattle.ubf.proofs.spans.tagged_value.Statement.{statement}
 use Rattle.ubf.proofs.spans.tagged_value.Tie as tie
 
+add-quoted-at : tie.Need-overflow-add-quoted-at
+add-quoted-at c = search rules
+
+quoted_at_requires : tie.Need-quoted-at-requires
+quoted_at_requires c κs = search rules
+
+no-value-requires : tie.Need-no-value-requires
+no-value-requires c κs = search rules
+
 returns : tie.Need-returns
 returns c =
     let a = c.before.before.before.before.args in
     let q = c.before.before.quoted-at in
     tag_none a.text.now a.at a.negative a.n q.result.end q.result.escapes c.before.before.before.before.requires.0 c.before.before.before.before.requires.1 q.ensures c.no_value.result c.before.if1.true c.no_value.ensures
+
+add_same : tie.Need-overflow-add-same
+add_same c = search rules
+
+sub_same : tie.Need-overflow-sub-same
+sub_same c = omega (arith, (c.before.quoted-at.ensures.closes (omega arith)).after)
+
+part-same-start : tie.Need-slice-bounds-same-start
+part-same-start c = omega (arith, (c.before.quoted-at.ensures.closes (omega arith)).after)
+
+part-same-end : tie.Need-slice-bounds-same-end
+part-same-end c = search rules
+
+slice-aggregate-same : tie.Need-slice-aggregate-same
+slice-aggregate-same c = search rules
+
+same-requires : tie.Need-same-requires
+same-requires c κs = search rules
+
+fits8-requires : tie.Need-fits8-requires
+fits8-requires c κs = search rules
+
+no-value-requires-2 : tie.Need-no-value-requires-2
+no-value-requires-2 c κs = search rules
 
 returns_2 : tie.Need-returns-2
 returns_2 c =
@@ -22,6 +54,12 @@ returns_2 c =
 bits8_requires : tie.Need-bits8-requires
 bits8_requires c κs = sym c.before.fits8.ensures ∙ (and_parts c.before.before.same.result c.before.fits8.result (not-false _ c.if2.false)).1
 
+add_blanks : tie.Need-overflow-add-blanks
+add_blanks c = search rules
+
+blanks-requires : tie.Need-blanks-requires
+blanks-requires c κs = search rules
+
 returns_3 : tie.Need-returns-3
 returns_3 c =
     let a = c.before.before.before.before.before.before.before.before.before.before.args in
@@ -30,10 +68,22 @@ returns_3 c =
 
 pub tagged_value_spec : {M : Type 1} → statement M
 tagged_value_spec =
-    tie.close (tie.spec (λ c. search rules) (λ c κs. search rules) (λ c κs. search rules) returns
-    (λ c. search rules)
-    (λ c. omega (arith, (c.before.quoted-at.ensures.closes (omega arith)).after))
-    (λ c. omega (arith, (c.before.quoted-at.ensures.closes (omega arith)).after))
-    (λ c. search rules) (λ c. search rules) (λ c κs. search rules) (λ c κs. search rules)
-    (λ c κs. search rules) returns_2 bits8_requires (λ c. search rules) (λ c κs. search rules)
+    tie.close
+    (tie.spec
+    add-quoted-at
+    quoted_at_requires
+    no-value-requires
+    returns
+    add_same
+    sub_same
+    part-same-start
+    part-same-end
+    slice-aggregate-same
+    same-requires
+    fits8-requires
+    no-value-requires-2
+    returns_2
+    bits8_requires
+    add_blanks
+    blanks-requires
     returns_3)

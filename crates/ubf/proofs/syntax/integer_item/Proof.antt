@@ -1,8 +1,17 @@
--- `integer_item` meets its contract: by whether `integer_at` ends where it began: a minus without a digit breaks the text, else the integer is held by sign and capped size. Assumes nothing.
 use Rattle.ubf.proofs.Items.{integer_none, integer_past}
 use borrow.Author.Rules.{rules}
 use Rattle.ubf.proofs.syntax.integer_item.Statement.{statement}
 use Rattle.ubf.proofs.syntax.integer_item.Tie as tie
+use Rattle.ubf.proofs.syntax.integer_item.Reads as reads
+use Rattle.ubf.proofs.syntax.integer_item.Lts as lts
+use Rattle.ubf.proofs.scanning.integer_at.Reads as integer-at-reads
+use Rattle.ubf.proofs.syntax.past.Reads as past-reads
+
+integer-at-requires : tie.Need-integer-at-requires
+integer-at-requires c κs = search rules
+
+past-requires : tie.Need-past-requires
+past-requires c κs = search rules
 
 returns : tie.Need-returns
 returns c =
@@ -19,5 +28,4 @@ returns_2 c =
     integer_past a.text.now a.p s.requires.0 n.result.negative n.result.size n.result.end n.ensures c.if1.false
 
 pub integer_item_spec : {M : Type 1} → statement M
-integer_item_spec =
-    tie.close (tie.spec (λ c κs. search rules) (λ c κs. search rules) returns returns_2)
+integer_item_spec = tie.close (tie.spec integer-at-requires past-requires returns returns_2)

@@ -1,15 +1,24 @@
--- `quoted_item` meets its contract: by whether the item closes; its delimiter is no backslash, as `quoted_at` asks, and no percent sign, so it is an item and no comment. Assumes nothing.
 use native.Mathlib.Omega.{arith}
 use mathlib.Core.Path.{refl}
 use Rattle.ubf.proofs.Items.{delimiter_not, quoted_unclosed, quoted_past}
 use borrow.Author.Rules.{rules}
 use Rattle.ubf.proofs.syntax.quoted_item.Statement.{statement}
 use Rattle.ubf.proofs.syntax.quoted_item.Tie as tie
+use Rattle.ubf.proofs.syntax.quoted_item.Reads as reads
+use Rattle.ubf.proofs.syntax.quoted_item.Lts as lts
+use Rattle.ubf.proofs.scanning.quoted_at.Reads as quoted-at-reads
+use Rattle.ubf.proofs.syntax.past.Reads as past-reads
+
+add-quoted-at : tie.Need-overflow-add-quoted-at
+add-quoted-at c = search rules
 
 quoted_at_requires : tie.Need-quoted-at-requires
 quoted_at_requires c κs =
     let s = c.before.before in
     (omega (arith, s.requires.0), delimiter_not s.args.q 92 s.requires.2 refl)
+
+past-requires : tie.Need-past-requires
+past-requires c κs = search rules
 
 returns : tie.Need-returns
 returns c =
@@ -17,6 +26,12 @@ returns c =
     let a = s.args in
     let q = c.before.before.quoted-at in
     rw c.past.ensures (quoted_unclosed a.text.now a.p s.requires.0 a.q q.result.end q.result.escapes s.requires.1 s.requires.2 q.ensures c.before.if1.true)
+
+add_past : tie.Need-overflow-add-past
+add_past c = search rules
+
+past-requires-2 : tie.Need-past-requires-2
+past-requires-2 c κs = search rules
 
 returns_2 : tie.Need-returns-2
 returns_2 c =
@@ -27,5 +42,12 @@ returns_2 c =
 
 pub quoted_item_spec : {M : Type 1} → statement M
 quoted_item_spec =
-    tie.close (tie.spec (λ c. search rules) quoted_at_requires (λ c κs. search rules) returns
-    (λ c. search rules) (λ c κs. search rules) returns_2)
+    tie.close
+    (tie.spec
+    add-quoted-at
+    quoted_at_requires
+    past-requires
+    returns
+    add_past
+    past-requires-2
+    returns_2)

@@ -1,4 +1,3 @@
--- `plain_at` meets its contract: with fewer than 8 bytes left there is nothing to prove; else the word has the bytes of the slice, and it lacks both q and the backslash. Assumes nothing.
 use mathlib.Core.Path.{◌≡◌, sym, ap₂, ◌∙◌}
 use mathlib.Core.Bool.{true, ◌&&◌}
 use native.Mathlib.Omega.{arith}
@@ -9,6 +8,25 @@ use Rattle.ubf.proofs.Plains.{word_plain}
 use borrow.Author.Rules.{rules}
 use Rattle.ubf.proofs.words.plain_at.Statement.{statement}
 use Rattle.ubf.proofs.words.plain_at.Tie as tie
+use Rattle.ubf.proofs.words.plain_at.Reads as reads
+use Rattle.ubf.proofs.words.plain_at.Lts as lts
+use Rattle.ubf.proofs.words.lacks.Reads as lacks-reads
+use Rattle.word.proofs.read_u64.Reads as read-u64-reads
+
+sub-if1 : tie.Need-overflow-sub-if1
+sub-if1 c = search rules
+
+returns : tie.Need-returns
+returns c = false_true
+
+read_u64_requires : tie.Need-read-u64-requires
+read_u64_requires c κs = search rules
+
+lacks-requires : tie.Need-lacks-requires
+lacks-requires c κs = search rules
+
+lacks-requires-2 : tie.Need-lacks-requires-2
+lacks-requires-2 c κs = search rules
 
 returns_2 : tie.Need-returns-2
 returns_2 c = λ e.
@@ -18,5 +36,5 @@ returns_2 c = λ e.
 
 pub plain_at_spec : {M : Type 1} → statement M
 plain_at_spec =
-    tie.close (tie.spec (λ c. search rules) (λ c. false_true) (λ c κs. search rules)
-    (λ c κs. search rules) (λ c κs. search rules) returns_2)
+    tie.close
+    (tie.spec sub-if1 returns read_u64_requires lacks-requires lacks-requires-2 returns_2)

@@ -1,7 +1,6 @@
--- `field_length` meets its contract: a right field has its name and its value at the offsets that are lent, and its text is as long as the two texts together. Assumes nothing.
 use mathlib.Core.List.{List}
 use mathlib.Core.Path.{ap, ap₂, ◌∙◌}
-use Prim.Native.Nat.{ℕ, ◌+◌}
+use Prim.Native.Nat.{ℕ, ◌+◌, ◌-◌}
 use native.Mathlib.Omega.{arith}
 use lib.ListN.{length}
 use Rattle.ubf.specs.Escape.{escapes}
@@ -11,6 +10,13 @@ use Rattle.notice.specs.Field.{size_right}
 use Rattle.ubf.proofs.Values.{parts, name_part, value_part, length_field}
 use Rattle.ubf.proofs.writing.field_length.Statement.{statement}
 use Rattle.ubf.proofs.writing.field_length.Tie as tie
+use Rattle.ubf.proofs.writing.field_length.Reads as reads
+use Rattle.ubf.proofs.writing.field_length.Lts as lts
+use Rattle.ubf.proofs.put.escaped_length.Reads as escaped-length-reads
+use Rattle.ubf.proofs.writing.field_size.Reads as field-size-reads
+use Rattle.ubf.proofs.writing.name_size.Reads as name-size-reads
+use Rattle.ubf.proofs.writing.value_length.Reads as value-length-reads
+use Rattle.word.proofs.read_u16.Reads as read-u16-reads
 
 add_name : tie.Need-overflow-add-name
 add_name c = let p = parts c.before.args.notice.now c.before.args.at c.before.requires in omega arith
@@ -71,7 +77,24 @@ returns c = let p = parts c.before.before.before.before.before.before.before.bef
 
 pub field_length_spec : {M : Type 1} → statement M
 field_length_spec =
-    tie.close (tie.spec add_name name_size_requires add_value add_end field_size_requires add_end_2
-    sub_escaped_length part_escaped_length_start part_escaped_length_end escaped_length_requires
-    add_result add_read_u16 read_u16_requires sub_value_length part_value_length_start
-    part_value_length_end value_length_requires add_result_2 returns)
+    tie.close
+    (tie.spec
+    add_name
+    name_size_requires
+    add_value
+    add_end
+    field_size_requires
+    add_end_2
+    sub_escaped_length
+    part_escaped_length_start
+    part_escaped_length_end
+    escaped_length_requires
+    add_result
+    add_read_u16
+    read_u16_requires
+    sub_value_length
+    part_value_length_start
+    part_value_length_end
+    value_length_requires
+    add_result_2
+    returns)

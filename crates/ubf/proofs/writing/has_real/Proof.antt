@@ -11,6 +11,10 @@ use Rattle.ubf.proofs.Values.{Rest, rest_start, rest_right, rest_next, real_next
 use borrow.Author.Rules.{rules}
 use Rattle.ubf.proofs.writing.has_real.Statement.{statement}
 use Rattle.ubf.proofs.writing.has_real.Tie as tie
+use Rattle.ubf.proofs.writing.has_real.Reads as reads
+use Rattle.ubf.proofs.writing.has_real.Lts as lts
+use Rattle.ubf.proofs.writing.field_size.Reads as field-size-reads
+use Rattle.word.proofs.read_u16.Reads as read-u16-reads
 
 abbrev invariant_loop : tie.invariant_loop
 invariant_loop notice real₀ left₀ at₀ real left at = Rest left notice at × ((real || has_real (fields_from left notice at)) ≡ has_real (fields_of notice))
@@ -70,6 +74,12 @@ add_at_2 c =
     let p = parts s l.at (rest_right l.left s l.at t l.invariant.0) in
     omega (arith, p.within)
 
+sub_left : tie.Need-overflow-sub-left invariant_loop decreases_loop
+sub_left c = search rules
+
+loop_less : tie.Need-loop-smaller invariant_loop decreases_loop
+loop_less c = search rules
+
 loop_again : tie.Need-loop-preserved invariant_loop decreases_loop
 loop_again c =
     let s = c.before.before.before.before.before.before.args.notice.now in
@@ -89,6 +99,18 @@ returns c =
 
 pub has_real_spec : {M : Type 1} → statement M
 has_real_spec =
-    tie.close (tie.spec invariant_loop decreases_loop read_u16_requires loop_holds add_read_u16
-    read_u16_requires_2 add_at field_size_requires add_at_2 (λ c. search rules) (λ c. search rules)
-    loop_again returns)
+    tie.close
+    (tie.spec
+    invariant_loop
+    decreases_loop
+    read_u16_requires
+    loop_holds
+    add_read_u16
+    read_u16_requires_2
+    add_at
+    field_size_requires
+    add_at_2
+    sub_left
+    loop_less
+    loop_again
+    returns)

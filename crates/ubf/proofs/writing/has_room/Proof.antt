@@ -1,4 +1,3 @@
--- `has_room` meets its contract: a text has at most twice its notice's bytes and 5 for each of 64 fields; where that may not fit, what `measure` promises and 3 is its length. Assumes nothing.
 use mathlib.Core.Path.{◌≡◌, sym, ap}
 use Prim.Native.Nat.{ℕ, ◌+◌}
 use native.Mathlib.Omega.{arith}
@@ -12,12 +11,24 @@ use Rattle.ubf.proofs.Writes.{length_text, text_room}
 use borrow.Author.Rules.{rules}
 use Rattle.ubf.proofs.writing.has_room.Statement.{statement}
 use Rattle.ubf.proofs.writing.has_room.Tie as tie
+use Rattle.ubf.proofs.writing.has_room.Reads as reads
+use Rattle.ubf.proofs.writing.has_room.Lts as lts
+use Rattle.ubf.proofs.writing.measure.Reads as measure-reads
+
+mul_if1 : tie.Need-overflow-mul-if1
+mul_if1 c = search rules
 
 add_if1 : tie.Need-overflow-add-if1
 add_if1 c = let h = well_header c.before.args.notice.now (λ i. (c.shared-slice-known.given i).fits) c.before.requires in record { fits = omega (arith, h.short) }
 
 returns : tie.Need-returns
 returns c = let a = c.before.before.args in sym (le-leb (length (text_of (fields_of a.notice.now))) a.room (omega (arith, text_room a.notice.now (λ i. (c.before.shared-slice-known.given i).fits) c.before.before.requires, c.if1.true)))
+
+measure-requires : tie.Need-measure-requires
+measure-requires c κs = search rules
+
+add_result : tie.Need-overflow-add-result
+add_result c = search rules
 
 returns_2 : tie.Need-returns-2
 returns_2 c =
@@ -26,6 +37,4 @@ returns_2 c =
     ap (λ (n : ℕ). leb n a.room) e
 
 pub has_room_spec : {M : Type 1} → statement M
-has_room_spec =
-    tie.close (tie.spec (λ c. search rules) add_if1 returns (λ c κs. search rules)
-    (λ c. search rules) returns_2)
+has_room_spec = tie.close (tie.spec mul_if1 add_if1 returns measure-requires add_result returns_2)

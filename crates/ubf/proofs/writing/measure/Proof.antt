@@ -11,6 +11,11 @@ use Rattle.ubf.proofs.Values.{Rest, rest_start, rest_right, rest_next, length_mo
 use borrow.Author.Rules.{rules}
 use Rattle.ubf.proofs.writing.measure.Statement.{statement}
 use Rattle.ubf.proofs.writing.measure.Tie as tie
+use Rattle.ubf.proofs.writing.measure.Reads as reads
+use Rattle.ubf.proofs.writing.measure.Lts as lts
+use Rattle.ubf.proofs.writing.field_length.Reads as field-length-reads
+use Rattle.ubf.proofs.writing.field_size.Reads as field-size-reads
+use Rattle.word.proofs.read_u16.Reads as read-u16-reads
 
 abbrev invariant_loop : tie.invariant_loop
 invariant_loop notice len₀ left₀ at₀ len left at = Rest left notice at × (len + left * 4096 ≤ 262144) × (len + length (fields_text (fields_from left notice at)) ≡ length (fields_text (fields_of notice)))
@@ -65,6 +70,12 @@ add_at_2 c =
     let p = parts s l.at (rest_right l.left s l.at t l.invariant.0) in
     omega (arith, p.within)
 
+sub_left : tie.Need-overflow-sub-left invariant_loop decreases_loop
+sub_left c = search rules
+
+loop_less : tie.Need-loop-smaller invariant_loop decreases_loop
+loop_less c = search rules
+
 loop_again : tie.Need-loop-preserved invariant_loop decreases_loop
 loop_again c =
     let s = c.before.before.before.before.before.before.args.notice.now in
@@ -84,5 +95,18 @@ returns c =
 
 pub measure_spec : {M : Type 1} → statement M
 measure_spec =
-    tie.close (tie.spec invariant_loop decreases_loop read_u16_requires loop_holds field_length_requires add_len
-    add_at field_size_requires add_at_2 (λ c. search rules) (λ c. search rules) loop_again returns)
+    tie.close
+    (tie.spec
+    invariant_loop
+    decreases_loop
+    read_u16_requires
+    loop_holds
+    field_length_requires
+    add_len
+    add_at
+    field_size_requires
+    add_at_2
+    sub_left
+    loop_less
+    loop_again
+    returns)

@@ -1,7 +1,5 @@
--- `put_field` meets its contract: a right field has its name and its value at the offsets that are lent; the store of the one and that of the other behind it are one of the field's text.
--- Assumes nothing.
 use mathlib.Core.Path.{ap, ap₂, ◌∙◌}
-use Prim.Native.Nat.{ℕ, ◌+◌}
+use Prim.Native.Nat.{ℕ, ◌+◌, ◌-◌}
 use native.Mathlib.Omega.{arith}
 use mathlib.Core.List.{List}
 use lib.ListN.{length}
@@ -14,6 +12,13 @@ use Rattle.ubf.proofs.Values.{parts, name_part, value_part, length_field}
 use borrow.Author.Rules.{rules}
 use Rattle.ubf.proofs.writing.put_field.Statement.{statement}
 use Rattle.ubf.proofs.writing.put_field.Tie as tie
+use Rattle.ubf.proofs.writing.put_field.Reads as reads
+use Rattle.ubf.proofs.writing.put_field.Lts as lts
+use Rattle.ubf.proofs.put.put_string.Reads as put-string-reads
+use Rattle.ubf.proofs.writing.field_size.Reads as field-size-reads
+use Rattle.ubf.proofs.writing.name_size.Reads as name-size-reads
+use Rattle.ubf.proofs.writing.put_value.Reads as put-value-reads
+use Rattle.word.proofs.read_u16.Reads as read-u16-reads
 
 add_name : tie.Need-overflow-add-name
 add_name c = let p = parts c.before.before.args.notice.now c.before.before.args.at c.before.before.requires.0 in omega arith
@@ -32,6 +37,12 @@ field_size_requires c κs = let p = parts c.before.before.before.args.notice.now
 
 add_end_2 : tie.Need-overflow-add-end-2
 add_end_2 c = let p = parts c.before.before.before.before.args.notice.now c.before.before.before.before.args.at c.before.before.before.before.requires.0 in omega arith
+
+sub-put-string : tie.Need-overflow-sub-put-string
+sub-put-string c = search rules
+
+part-put-string-start : tie.Need-slice-bounds-put-string-start
+part-put-string-start c = search rules
 
 part_put_string_end : tie.Need-slice-bounds-put-string-end
 part_put_string_end c = let p = parts c.before.before.before.before.before.args.notice.now c.before.before.before.before.before.args.at c.before.before.before.before.before.requires.0 in omega arith
@@ -57,12 +68,31 @@ part_put_value_end c = let p = parts c.before.before.before.before.before.before
 put_value_requires : tie.Need-put-value-requires
 put_value_requires c κs = let p = parts c.before.before.before.before.before.before.before.before.before.before.before.before.args.notice.now c.before.before.before.before.before.before.before.before.before.before.before.before.args.at c.before.before.before.before.before.before.before.before.before.before.before.before.requires.0 in let e = name_part c.before.before.before.before.before.before.before.before.before.before.before.before.args.notice.now c.before.before.before.before.before.before.before.before.before.before.before.before.args.at (c.before.before.before.before.before.before.before.before.before.before.before.before.args.at + 5 + c.before.before.before.before.before.before.before.before.before.name_size.result) (omega arith) in let f = value_part c.before.before.before.before.before.before.before.before.before.before.before.before.args.notice.now c.before.before.before.before.before.before.before.before.before.before.before.before.args.at (c.before.before.before.before.before.before.before.before.before.before.before.before.args.at + 5 + c.before.before.before.before.before.before.before.before.before.name_size.result) (c.before.before.before.before.before.before.before.before.before.before.before.before.args.at + 2 + c.before.before.before.before.before.before.before.before.field_size.result) (omega arith) (omega arith) in let s = c.before.before.before.before.before.before.before.before.before.before.before.before.args.notice.now in let i = c.before.before.before.before.before.before.before.before.before.before.before.before.args.at in let z = c.before.before.before.before.before.put-string.ensures.next ∙ ap (λ (l : List ℕ). c.before.before.before.before.before.before.before.before.before.before.before.before.args.p + length (string_text l)) e in let k = c.before.read-u16.ensures in (ap₂ (λ (k : ℕ) (v : List ℕ). size_right k (length v)) k f ∙ p.size_right, omega (arith, length_field (field_at s i), length_string (name_at s i), z, ap₂ (λ (k : ℕ) (v : List ℕ). length (value_text k v)) k f))
 
+same_length : tie.Need-same-length
+same_length c = search rules
+
 returns : tie.Need-returns
 returns c = let p = parts c.before.before.before.before.before.before.before.before.before.before.before.before.before.before.before.args.notice.now c.before.before.before.before.before.before.before.before.before.before.before.before.before.before.before.args.at c.before.before.before.before.before.before.before.before.before.before.before.before.before.before.before.requires.0 in let e = name_part c.before.before.before.before.before.before.before.before.before.before.before.before.before.before.before.args.notice.now c.before.before.before.before.before.before.before.before.before.before.before.before.before.before.before.args.at (c.before.before.before.before.before.before.before.before.before.before.before.before.before.before.before.args.at + 5 + c.before.before.before.before.before.before.before.before.before.before.before.before.name_size.result) (omega arith) in let f = value_part c.before.before.before.before.before.before.before.before.before.before.before.before.before.before.before.args.notice.now c.before.before.before.before.before.before.before.before.before.before.before.before.before.before.before.args.at (c.before.before.before.before.before.before.before.before.before.before.before.before.before.before.before.args.at + 5 + c.before.before.before.before.before.before.before.before.before.before.before.before.name_size.result) (c.before.before.before.before.before.before.before.before.before.before.before.before.before.before.before.args.at + 2 + c.before.before.before.before.before.before.before.before.before.before.before.field_size.result) (omega arith) (omega arith) in let s = c.before.before.before.before.before.before.before.before.before.before.before.before.before.before.before.args.notice.now in let i = c.before.before.before.before.before.before.before.before.before.before.before.before.before.before.before.args.at in let t = ap₂ value_text c.before.before.before.before.read-u16.ensures f in joined (string_text (name_at s i)) (value_text (kind_at s i) (value_at s i)) (renamed (ap string_text e) c.before.before.before.before.before.before.before.before.put-string.ensures) (renamed t c.before.before.put-value.ensures)
 
 pub put_field_spec : {M : Type 1} → statement M
 put_field_spec =
-    tie.close (tie.spec add_name name_size_requires add_value add_end field_size_requires add_end_2
-    (λ c. search rules) (λ c. search rules) part_put_string_end put_string_requires add_read_u16
-    read_u16_requires sub_put_value part_put_value_start part_put_value_end put_value_requires
-    (λ c. search rules) returns)
+    tie.close
+    (tie.spec
+    add_name
+    name_size_requires
+    add_value
+    add_end
+    field_size_requires
+    add_end_2
+    sub-put-string
+    part-put-string-start
+    part_put_string_end
+    put_string_requires
+    add_read_u16
+    read_u16_requires
+    sub_put_value
+    part_put_value_start
+    part_put_value_end
+    put_value_requires
+    same_length
+    returns)

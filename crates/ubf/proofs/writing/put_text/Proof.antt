@@ -1,16 +1,19 @@
--- `put_text` meets its contract: the stores of a brace, of the fields, of a brace and a dollar are one store of the text at offset 0, and the bytes past it stay. Assumes nothing.
 use mathlib.Core.Path.{◌≡◌, ◌∙◌}
 use Prim.Native.Nat.{◌+◌}
 use native.Mathlib.Omega.{arith}
 use lib.ListN.{length}
 use mathlib.Core.List.{[], ◌∷◌, ◌++◌}
 use Rattle.decimal.proofs.Laws.{joined}
+use Rattle.decimal.proofs.put_byte.Reads as put-byte-reads
 use Rattle.ubf.specs.Text.{fields_text, text_of}
 use Rattle.notice.specs.Layout.{fields_of}
 use Rattle.ubf.proofs.Writes.{length_text, stored_leaves}
 use borrow.Author.Rules.{rules}
 use Rattle.ubf.proofs.writing.put_text.Statement.{statement}
 use Rattle.ubf.proofs.writing.put_text.Tie as tie
+use Rattle.ubf.proofs.writing.put_text.Reads as reads
+use Rattle.ubf.proofs.writing.put_text.Lts as lts
+use Rattle.ubf.proofs.writing.put_fields.Reads as put-fields-reads
 
 put_byte_requires : tie.Need-put-byte-requires
 put_byte_requires c κs = let fs = fields_of c.before.before.before.args.notice.now in omega (arith, length_text fs, c.before.before.before.requires.1)
@@ -24,6 +27,9 @@ put_byte_requires_2 c κs = let fs = fields_of c.before.before.before.before.bef
 put_byte_requires_3 : tie.Need-put-byte-requires-3
 put_byte_requires_3 c κs = let fs = fields_of c.before.before.before.before.before.before.before.before.before.before.before.before.before.before.before.args.notice.now in omega (arith, length_text fs, c.before.before.before.before.before.before.before.before.before.before.before.before.before.before.before.requires.1, c.before.before.before.before.before.before.before.before.before.before.before.put_byte.ensures.next, c.before.before.before.before.before.before.before.put-fields.ensures.next, c.before.before.before.put-byte2.ensures.next)
 
+same_length : tie.Need-same-length
+same_length c = search rules
+
 returns : tie.Need-returns
 returns c =
     let a = c.before.before.before.before.before.before.before.before.before.before.before.before.before.before.before.before.before.before.args in
@@ -35,5 +41,11 @@ returns c =
 
 pub put_text_spec : {M : Type 1} → statement M
 put_text_spec =
-    tie.close (tie.spec put_byte_requires put_fields_requires put_byte_requires_2
-    put_byte_requires_3 (λ c. search rules) returns)
+    tie.close
+    (tie.spec
+    put_byte_requires
+    put_fields_requires
+    put_byte_requires_2
+    put_byte_requires_3
+    same_length
+    returns)

@@ -1,4 +1,3 @@
--- `field_value` meets its contract: by the kind, whose size puts a number's word within the notice, where it is the word of the field's own bytes. Assumes nothing.
 use mathlib.Core.Path.{◌≡◌, ap, ◌∙◌}
 use native.Mathlib.Omega.{arith}
 use lib.Ieee.{binary64, of_bits}
@@ -27,6 +26,30 @@ eight c = eqb-true c.before.before.args.len 8 (rw c.match.keys2 at c.before.befo
 eight_real : (c : tie.At-match-keys3) → c.before.before.args.len ≡ 8
 eight_real c = eqb-true c.before.before.args.len 8 (rw c.match.keys3 at c.before.before.requires.0)
 
+read_u32_requires : tie.Need-read-u32-requires
+read_u32_requires c κs = let l = four c in let p = c.before.before.requires.1 in omega arith
+
+i32-of-bits-requires : tie.Need-i32-of-bits-requires
+i32-of-bits-requires c κs = search rules
+
+read_u64_requires : tie.Need-read-u64-requires
+read_u64_requires c κs = let l = eight c in let p = c.before.before.requires.1 in omega arith
+
+i64-of-bits-requires : tie.Need-i64-of-bits-requires
+i64-of-bits-requires c κs = search rules
+
+read_u64_requires_2 : tie.Need-read-u64-requires-2
+read_u64_requires_2 c κs = let l = eight_real c in let p = c.before.before.requires.1 in omega arith
+
+real-of-bits-requires : tie.Need-real-of-bits-requires
+real-of-bits-requires c κs = search rules
+
+in-notice-requires : tie.Need-in-notice-requires
+in-notice-requires c κs = search rules
+
+in-notice-requires-2 : tie.Need-in-notice-requires-2
+in-notice-requires-2 c κs = search rules
+
 returns : tie.Need-returns
 returns c =
     let m = c.before.before in let a = m.before.before.args in
@@ -45,6 +68,12 @@ returns_3 c =
     let w = word_part 8 a.start a.len a.notice.now (bytes m.before) (eight_real m) m.before.before.requires.1 in
     λ p. rw m.match.keys3 (ap real (c.real-of-bits.ensures ∙ ap (of_bits binary64) (c.before.read-u642.ensures ∙ w)))
 
+returns_4 : tie.Need-returns-4
+returns_4 c = λ p. rw (c.before.match.keys4, c.in-notice.ensures) (ap text (not_folded _))
+
+returns_5 : tie.Need-returns-5
+returns_5 c = λ p. rw (c.before.match.keys5, c.in-notice2.ensures)
+
 returns_6 : tie.Need-returns-6
 returns_6 c =
     λ p. let r = c.match.rest in let k = c.before.before.args.kind in
@@ -52,11 +81,19 @@ returns_6 c =
 
 pub field_value_spec : {M : Type 1} → statement M
 field_value_spec =
-    tie.close (tie.spec (λ c κs. let l = four c in let p = c.before.before.requires.1 in omega arith)
-    (λ c κs. search rules)
-    (λ c κs. let l = eight c in let p = c.before.before.requires.1 in omega arith)
-    (λ c κs. search rules)
-    (λ c κs. let l = eight_real c in let p = c.before.before.requires.1 in omega arith)
-    (λ c κs. search rules) (λ c κs. search rules) (λ c κs. search rules) returns returns_2 returns_3
-    (λ c. λ p. rw (c.before.match.keys4, c.in-notice.ensures) (ap text (not_folded _)))
-    (λ c. λ p. rw (c.before.match.keys5, c.in-notice2.ensures)) returns_6)
+    tie.close
+    (tie.spec
+    read_u32_requires
+    i32-of-bits-requires
+    read_u64_requires
+    i64-of-bits-requires
+    read_u64_requires_2
+    real-of-bits-requires
+    in-notice-requires
+    in-notice-requires-2
+    returns
+    returns_2
+    returns_3
+    returns_4
+    returns_5
+    returns_6)

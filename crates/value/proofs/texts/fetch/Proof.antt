@@ -1,8 +1,25 @@
--- `fetch` meets its contract: by cases of the origin, and a part is at most as long as the piece says in 16 bits. Assumes nothing.
 use Rattle.value.proofs.Parts.{shorter}
 use borrow.Author.Rules.{rules}
 use Rattle.value.proofs.texts.fetch.Statement.{statement}
 use Rattle.value.proofs.texts.fetch.Tie as tie
+
+cast-start : tie.Need-overflow-cast-start
+cast-start c = search rules
+
+cast-len : tie.Need-overflow-cast-len
+cast-len c = search rules
+
+enum_told : tie.Need-enum-told
+enum_told c = search rules
+
+part-requires : tie.Need-part-requires
+part-requires c κs = search rules
+
+enum-told-2 : tie.Need-enum-told-2
+enum-told-2 c = search rules
+
+part-requires-2 : tie.Need-part-requires-2
+part-requires-2 c κs = search rules
 
 returns : tie.Need-returns
 returns c =
@@ -16,5 +33,13 @@ returns_2 c =
 
 pub fetch_spec : {M : Type 1} → statement M
 fetch_spec =
-    tie.close (tie.spec (λ c. search rules) (λ c. search rules) (λ c. search rules)
-    (λ c κs. search rules) (λ c. search rules) (λ c κs. search rules) returns returns_2)
+    tie.close
+    (tie.spec
+    cast-start
+    cast-len
+    enum_told
+    part-requires
+    enum-told-2
+    part-requires-2
+    returns
+    returns_2)

@@ -1,7 +1,24 @@
--- `fit` meets its contract: the test of two texts is the one of `fit_values`, which then goes by their bytes or is bottom. Assumes nothing.
 use borrow.Author.Rules.{rules}
 use Rattle.value.proofs.values.fit.Statement.{statement}
 use Rattle.value.proofs.values.fit.Tie as tie
+
+is-text-requires : tie.Need-is-text-requires
+is-text-requires c κs = search rules
+
+is-text-requires-2 : tie.Need-is-text-requires-2
+is-text-requires-2 c κs = search rules
+
+text_in-requires : tie.Need-text_in-requires
+text_in-requires c κs = search rules
+
+text_in-requires-2 : tie.Need-text_in-requires-2
+text_in-requires-2 c κs = search rules
+
+fits-requires : tie.Need-fits-requires
+fits-requires c κs = search rules
+
+of-bool-requires : tie.Need-of-bool-requires
+of-bool-requires c κs = search rules
 
 returns : tie.Need-returns
 returns c =
@@ -15,5 +32,13 @@ returns_2 c =
 
 pub fit_spec : {M : Type 1} → statement M
 fit_spec =
-    tie.close (tie.spec (λ c κs. search rules) (λ c κs. search rules) (λ c κs. search rules)
-    (λ c κs. search rules) (λ c κs. search rules) (λ c κs. search rules) returns returns_2)
+    tie.close
+    (tie.spec
+    is-text-requires
+    is-text-requires-2
+    text_in-requires
+    text_in-requires-2
+    fits-requires
+    of-bool-requires
+    returns
+    returns_2)

@@ -1,5 +1,4 @@
--- `fold_case` meets its contract: by cases of the type, where folding a text that may be folded already is folding its bytes once. Assumes nothing.
-use mathlib.Core.Path.{sym, ap}
+use mathlib.Core.Path.{◌≡◌, refl, sym, ap, ◌∙◌}
 use Rattle.value.specs.Value.{text}
 use Rattle.value.specs.Held.{part_of}
 use Rattle.value.proofs.Parts.{refold}
@@ -7,15 +6,61 @@ use borrow.Author.Rules.{rules}
 use Rattle.value.proofs.values.fold_case.Statement.{statement}
 use Rattle.value.proofs.values.fold_case.Tie as tie
 
+enum_told : tie.Need-enum-told
+enum_told c = search rules
+
+enum-told-2 : tie.Need-enum-told-2
+enum-told-2 c = search rules
+
+enum-told-3 : tie.Need-enum-told-3
+enum-told-3 c = search rules
+
+enum-told-4 : tie.Need-enum-told-4
+enum-told-4 c = search rules
+
+enum-known-v : tie.Need-enum-known-v
+enum-known-v c = search rules
+
+fold-piece-requires : tie.Need-fold-piece-requires
+fold-piece-requires c κs = search rules
+
+enum-told-5 : tie.Need-enum-told-5
+enum-told-5 c = search rules
+
+returns : tie.Need-returns
+returns c = λ p q. rw c.enum_told.given.1
+
+returns_2 : tie.Need-returns-2
+returns_2 c = λ p q. rw c.enum-told2.given.1
+
+returns_3 : tie.Need-returns-3
+returns_3 c = λ p q. rw c.enum-told3.given.1
+
+returns_4 : tie.Need-returns-4
+returns_4 c = λ p q. rw c.enum-told4.given.1
+
 returns_5 : tie.Need-returns-5
 returns_5 c =
     λ p q. let x = c.before.before.v.given.0.0 in
     rw (c.before.before.v.given.1, c.fold-piece.ensures) (sym (ap text (refold x.folded (part_of p q x))))
 
+returns_6 : tie.Need-returns-6
+returns_6 c = λ p q. rw c.enum-told5.given.1
+
 pub fold_case_spec : {M : Type 1} → statement M
 fold_case_spec =
-    tie.close (tie.spec (λ c. search rules) (λ c. search rules) (λ c. search rules)
-    (λ c. search rules) (λ c. search rules) (λ c κs. search rules) (λ c. search rules)
-    (λ c. λ p q. rw c.enum_told.given.1) (λ c. λ p q. rw c.enum-told2.given.1)
-    (λ c. λ p q. rw c.enum-told3.given.1) (λ c. λ p q. rw c.enum-told4.given.1) returns_5
-    (λ c. λ p q. rw c.enum-told5.given.1))
+    tie.close
+    (tie.spec
+    enum_told
+    enum-told-2
+    enum-told-3
+    enum-told-4
+    enum-known-v
+    fold-piece-requires
+    enum-told-5
+    returns
+    returns_2
+    returns_3
+    returns_4
+    returns_5
+    returns_6)

@@ -1,17 +1,58 @@
--- `int32_in` meets its contract: by cases of the type, where an int32 is read back from its 32 bits and all others are 0. Assumes nothing.
 use mir.Syntax.{w32}
 use mir.ValLaws.{to_z-of_z}
 use borrow.Author.Rules.{rules}
 use Rattle.value.proofs.values.int32_in.Statement.{statement}
 use Rattle.value.proofs.values.int32_in.Tie as tie
 
+enum_told : tie.Need-enum-told
+enum_told c = search rules
+
+enum-known-v : tie.Need-enum-known-v
+enum-known-v c = search rules
+
+enum-told-2 : tie.Need-enum-told-2
+enum-told-2 c = search rules
+
+enum-told-3 : tie.Need-enum-told-3
+enum-told-3 c = search rules
+
+enum-told-4 : tie.Need-enum-told-4
+enum-told-4 c = search rules
+
+enum-told-5 : tie.Need-enum-told-5
+enum-told-5 c = search rules
+
+returns : tie.Need-returns
+returns c = λ p q. rw c.enum_told.given.1
+
 returns_2 : tie.Need-returns-2
 returns_2 c = λ p q. rw c.before.v.given.1 (to_z-of_z w32 c.before.v.given.0.0 (record { sfits = c.known-told.given.0.1 }))
 
+returns_3 : tie.Need-returns-3
+returns_3 c = λ p q. rw c.enum-told2.given.1
+
+returns_4 : tie.Need-returns-4
+returns_4 c = λ p q. rw c.enum-told3.given.1
+
+returns_5 : tie.Need-returns-5
+returns_5 c = λ p q. rw c.enum-told4.given.1
+
+returns_6 : tie.Need-returns-6
+returns_6 c = λ p q. rw c.enum-told5.given.1
+
 pub int32_in_spec : {M : Type 1} → statement M
 int32_in_spec =
-    tie.close (tie.spec (λ c. search rules) (λ c. search rules) (λ c. search rules)
-    (λ c. search rules) (λ c. search rules) (λ c. search rules)
-    (λ c. λ p q. rw c.enum_told.given.1) returns_2 (λ c. λ p q. rw c.enum-told2.given.1)
-    (λ c. λ p q. rw c.enum-told3.given.1) (λ c. λ p q. rw c.enum-told4.given.1)
-    (λ c. λ p q. rw c.enum-told5.given.1))
+    tie.close
+    (tie.spec
+    enum_told
+    enum-known-v
+    enum-told-2
+    enum-told-3
+    enum-told-4
+    enum-told-5
+    returns
+    returns_2
+    returns_3
+    returns_4
+    returns_5
+    returns_6)

@@ -1,18 +1,67 @@
--- `nan` meets its contract: by cases of the type, where each arm is the equation of `nan_of` for it. Assumes nothing.
-use mathlib.Core.Path.{ap, ◌∙◌}
+use mathlib.Core.Path.{◌≡◌, refl, sym, ap, ◌∙◌}
 use Rattle.truth.specs.Truth.{of_bool}
 use borrow.Author.Rules.{rules}
 use Rattle.value.proofs.values.nan.Statement.{statement}
 use Rattle.value.proofs.values.nan.Tie as tie
 
+enum_told : tie.Need-enum-told
+enum_told c = search rules
+
+enum-told-2 : tie.Need-enum-told-2
+enum-told-2 c = search rules
+
+enum-told-3 : tie.Need-enum-told-3
+enum-told-3 c = search rules
+
+enum-known-v : tie.Need-enum-known-v
+enum-known-v c = search rules
+
+is-nan-requires : tie.Need-is-nan-requires
+is-nan-requires c κs = search rules
+
+of-bool-requires : tie.Need-of-bool-requires
+of-bool-requires c κs = search rules
+
+enum-told-4 : tie.Need-enum-told-4
+enum-told-4 c = search rules
+
+enum-told-5 : tie.Need-enum-told-5
+enum-told-5 c = search rules
+
+returns : tie.Need-returns
+returns c = λ p q. rw c.enum_told.given.1
+
+returns_2 : tie.Need-returns-2
+returns_2 c = λ p q. rw c.enum-told2.given.1
+
+returns_3 : tie.Need-returns-3
+returns_3 c = λ p q. rw c.enum-told3.given.1
+
 returns_4 : tie.Need-returns-4
 returns_4 c =
     λ p q. rw c.before.before.before.v.given.1 (c.of-bool.ensures ∙ ap of_bool c.before.is_nan.ensures)
 
+returns_5 : tie.Need-returns-5
+returns_5 c = λ p q. rw c.enum-told4.given.1
+
+returns_6 : tie.Need-returns-6
+returns_6 c = λ p q. rw c.enum-told5.given.1
+
 pub nan_spec : {M : Type 1} → statement M
 nan_spec =
-    tie.close (tie.spec (λ c. search rules) (λ c. search rules) (λ c. search rules)
-    (λ c. search rules) (λ c κs. search rules) (λ c κs. search rules) (λ c. search rules)
-    (λ c. search rules) (λ c. λ p q. rw c.enum_told.given.1)
-    (λ c. λ p q. rw c.enum-told2.given.1) (λ c. λ p q. rw c.enum-told3.given.1) returns_4
-    (λ c. λ p q. rw c.enum-told4.given.1) (λ c. λ p q. rw c.enum-told5.given.1))
+    tie.close
+    (tie.spec
+    enum_told
+    enum-told-2
+    enum-told-3
+    enum-known-v
+    is-nan-requires
+    of-bool-requires
+    enum-told-4
+    enum-told-5
+    returns
+    returns_2
+    returns_3
+    returns_4
+    returns_5
+    returns_6)

@@ -1,4 +1,3 @@
--- `text_size` meets its contract: a text has at most as many characters as bytes, below 65,536, so that the count fits, and its mark does not change it. Assumes nothing.
 use mathlib.Core.Path.{sym, ap, ◌∙◌}
 use native.Mathlib.Omega.{arith}
 use mir.Syntax.{w32}
@@ -12,10 +11,22 @@ use borrow.Author.Rules.{rules}
 use Rattle.value.proofs.values.text_size.Statement.{statement}
 use Rattle.value.proofs.values.text_size.Tie as tie
 
+fetch-requires : tie.Need-fetch-requires
+fetch-requires c κs = search rules
+
+count_requires : tie.Need-count-requires
+count_requires c κs = search rules
+
+enum-known-n : tie.Need-enum-known-n
+enum-known-n c = search rules
+
 cast_t8 : tie.Need-overflow-cast-t8
 cast_t8 c =
     let h = rw c.before.n.given.1 at c.before.before.before.count.ensures in
     record { sfits = below_half _ (omega (arith, few _ _ h, c.before.before.before.before.fetch.ensures.1)) }
+
+enum_told : tie.Need-enum-told
+enum_told c = search rules
 
 returns : tie.Need-returns
 returns c =
@@ -32,5 +43,5 @@ returns_2 c =
 
 pub text_size_spec : {M : Type 1} → statement M
 text_size_spec =
-    tie.close (tie.spec (λ c κs. search rules) (λ c κs. search rules) (λ c. search rules) cast_t8
-    (λ c. search rules) returns returns_2)
+    tie.close
+    (tie.spec fetch-requires count_requires enum-known-n cast_t8 enum_told returns returns_2)

@@ -1,12 +1,56 @@
--- `type_of` meets its contract: by cases of the type, where each arm is the equation of `type_of` for it. Assumes nothing.
 use borrow.Author.Rules.{rules}
 use Rattle.value.proofs.values.type_of.Statement.{statement}
 use Rattle.value.proofs.values.type_of.Tie as tie
 
+enum_told : tie.Need-enum-told
+enum_told c = search rules
+
+enum-told-2 : tie.Need-enum-told-2
+enum-told-2 c = search rules
+
+enum-told-3 : tie.Need-enum-told-3
+enum-told-3 c = search rules
+
+enum-told-4 : tie.Need-enum-told-4
+enum-told-4 c = search rules
+
+enum-told-5 : tie.Need-enum-told-5
+enum-told-5 c = search rules
+
+enum-told-6 : tie.Need-enum-told-6
+enum-told-6 c = search rules
+
+returns : tie.Need-returns
+returns c = λ p q. rw c.enum_told.given.1
+
+returns_2 : tie.Need-returns-2
+returns_2 c = λ p q. rw c.enum-told2.given.1
+
+returns_3 : tie.Need-returns-3
+returns_3 c = λ p q. rw c.enum-told3.given.1
+
+returns_4 : tie.Need-returns-4
+returns_4 c = λ p q. rw c.enum-told4.given.1
+
+returns_5 : tie.Need-returns-5
+returns_5 c = λ p q. rw c.enum-told5.given.1
+
+returns_6 : tie.Need-returns-6
+returns_6 c = λ p q. rw c.enum-told6.given.1
+
 pub type_of_spec : {M : Type 1} → statement M
 type_of_spec =
-    tie.close (tie.spec (λ c. search rules) (λ c. search rules) (λ c. search rules)
-    (λ c. search rules) (λ c. search rules) (λ c. search rules)
-    (λ c. λ p q. rw c.enum_told.given.1) (λ c. λ p q. rw c.enum-told2.given.1)
-    (λ c. λ p q. rw c.enum-told3.given.1) (λ c. λ p q. rw c.enum-told4.given.1)
-    (λ c. λ p q. rw c.enum-told5.given.1) (λ c. λ p q. rw c.enum-told6.given.1))
+    tie.close
+    (tie.spec
+    enum_told
+    enum-told-2
+    enum-told-3
+    enum-told-4
+    enum-told-5
+    enum-told-6
+    returns
+    returns_2
+    returns_3
+    returns_4
+    returns_5
+    returns_6)

@@ -1,4 +1,3 @@
--- `type_test` meets its contract: `type_of` promises the type, which is compared with the number, and `if_present` keeps bottom for a value that is bottom. Assumes nothing.
 use mathlib.Core.Path.{ap, ◌∙◌}
 use Prim.Native.Nat.{ℕ}
 use lib.Dec.{eqb}
@@ -9,12 +8,19 @@ use borrow.Author.Rules.{rules}
 use Rattle.value.proofs.values.type_test.Statement.{statement}
 use Rattle.value.proofs.values.type_test.Tie as tie
 
+type-of-requires : tie.Need-type-of-requires
+type-of-requires c κs = search rules
+
+of-bool-requires : tie.Need-of-bool-requires
+of-bool-requires c κs = search rules
+
+if-present-requires : tie.Need-if-present-requires
+if-present-requires c κs = search rules
+
 returns : tie.Need-returns
 returns c =
     λ p q. let a = c.before.before.before.args in
     c.if-present.ensures p q ∙ ap (if_present (typed_of p q a.v)) (c.before.of-bool.ensures ∙ ap (λ (n : ℕ). of_bool (eqb n a.number)) (c.before.before.type-of.ensures p q))
 
 pub type_test_spec : {M : Type 1} → statement M
-type_test_spec =
-    tie.close (tie.spec (λ c κs. search rules) (λ c κs. search rules) (λ c κs. search rules)
-    returns)
+type_test_spec = tie.close (tie.spec type-of-requires of-bool-requires if-present-requires returns)

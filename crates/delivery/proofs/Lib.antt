@@ -1,5 +1,0 @@
-pub mod Subscription
-pub mod Delivery
-pub mod Many
-pub mod People
-pub mod Examples

@@ -1,4 +1,0 @@
-pub mod Subscription
-pub mod Delivery
-pub mod People
-pub mod Examples
