@@ -1,4 +1,6 @@
 // A position automaton over a table of tokens (Fischer, Huch and Wilke): one pass of the marks over the table for each byte of a value, so that no input costs more than its length times the table's.
+#![tactic(auto)]
+
 ghost use Rattle.std.specs.Prelude.{◌≡◌, Bool, true, false, cond, ◌||◌, ◌&&◌, [], ◌+◌, ◌-◌, ◌*◌, ◌≤◌, ◌<◌, ltb, length, get_or, replicate, drop};
 ghost use Rattle.octets.specs.Octets.{folded};
 ghost use Rattle.pattern.specs.Steps.{turned as turned_of};
@@ -99,7 +101,7 @@ fn hit_if(enter: bool, text: &[u8], kind: u8, at: usize, c: u8) -> bool
 // ---- the pass
 
 // Where the pass stands in a group: what enters its branches, what its finished branches gave (a way ended, it may be empty, a way ends now), and the same of the branch so far.
-#[derive(Drop)]
+#[derive(Clone, Copy)]
 pub struct Level {
     pub into: bool,
     pub out: bool,

@@ -1,4 +1,6 @@
 // What every crate may use: in specs/ a choice and a property of each of a list, here copies and moves of bytes in a lent buffer. Each asks that the bytes lie in the buffer.
+#![tactic(auto)]
+
 ghost use Rattle.std.specs.Prelude.{◌≡◌, ◌+◌, ◌-◌, ◌≤◌, length, take, drop};
 ghost use Rattle.std.proofs.lemmas.List.Edits.{sets};
 

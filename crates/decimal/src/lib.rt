@@ -1,4 +1,6 @@
 // Numbers in decimal, and bytes put one after the other: each function stores its bytes from `at` on and answers the place after them. It asks for room, which its caller has tested once for all.
+#![tactic(auto)]
+
 ghost use Rattle.std.specs.Prelude.{◌≡◌, ◌∷◌, [], ◌+◌, ◌≤◌, ◌<◌, length};
 ghost use Rattle.decimal.specs.Decimal.{decimal_of, Put};
 

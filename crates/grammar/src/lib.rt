@@ -1,4 +1,6 @@
 // What the parser is asked of single tokens, and refusal 6. The recursion over the tokens is crate `postfix`.
+#![tactic(auto)]
+
 ghost use Rattle.std.specs.Prelude.{◌≡◌};
 ghost use Rattle.grammar.specs.Nesting.{too_deep};
 

@@ -1,4 +1,6 @@
 // Judges the texts of standard input: prints the number and place of refusal 1, 3, 10, 6, 2, 4, 18, 5 or 7, or `0` and the entries, pool bytes and slots of the code.
+#![tactic(auto)]
+
 ghost use Rattle.postfix.specs.Answer.{Ready};
 
 use libc::STDOUT_FILENO;

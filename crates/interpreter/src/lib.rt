@@ -1,4 +1,6 @@
 // The run of a table on a notice. Document 01, "Table" (the run) and "Refusals by number" (running).
+#![tactic(auto)]
+
 ghost use Rattle.std.specs.Prelude.{◌≡◌, true, cond, ◌&&◌, List, ℕ, ◌+◌, ◌-◌, ◌*◌, ◌/◌, ◌≤◌, ◌<◌, eqb, ltb};
 ghost use Rattle.notice.specs.Layout.{check_of as noticeCheck, Indexed};
 ghost use Rattle.notice.specs.declared.Layout.TheVariants.{WellFormed};

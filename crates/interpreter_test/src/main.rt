@@ -1,4 +1,6 @@
 // Runs each table on standard input on the notice after it, and prints number, place, verdict and steps.
+#![tactic(auto)]
+
 use interpreter::Ran;
 use libc::STDOUT_FILENO;
 use truth::Truth;

@@ -1,4 +1,6 @@
 // Prints document 01's truth table by the operators of `truth`, the words of a small buffer, and the comparisons of `octets` on the cases of standard input.
+#![tactic(auto)]
+
 use libc::STDOUT_FILENO;
 use truth::Truth;
 

@@ -1,4 +1,6 @@
 // Tokens. Document 01, "Tokens", and "Refusals by number", 10, 1 and 3.
+#![tactic(auto)]
+
 ghost use Rattle.std.specs.Prelude.{◌≡◌, true, ◌+◌, ◌-◌, ◌≤◌, ◌<◌, length, get_or, drop};
 ghost use Rattle.std.proofs.lemmas.List.Edits.{sets};
 ghost use Rattle.lexer.specs.Byte.{is_quote, starts_number};

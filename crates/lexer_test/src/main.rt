@@ -1,6 +1,8 @@
 // Prints of each text on standard input its refusal number and place, or 0 and the count of its tokens; then of each token that was found its
 // kind number, its start and its value: integers and reals by their 64 bits, names and strings by their bytes, names with two flags
 // besides: whether there is an escape, and whether the name is `fold-case`.
+#![tactic(auto)]
+
 use lexer::Lexing;
 use libc::STDOUT_FILENO;
 

@@ -1,4 +1,6 @@
 // One notice, many subscriptions. Document 02, request 8.
+#![tactic(auto)]
+
 ghost use Rattle.std.specs.Prelude.{◌≡◌, cond, ◌+◌, ◌≤◌, ◌<◌, leb, length, drop};
 ghost use Rattle.std.proofs.lemmas.List.Edits.{sets};
 ghost use Rattle.notice.specs.Layout.{check_of as noticeCheck, Indexed};

@@ -1,5 +1,7 @@
 // Runs tables laid end to end on a notice, on the cases of standard input. A case is three parts: the length of the lent verdict buffer (4 bytes), the tables, and the notice.
 // Prints number, place and count, and the whole buffer, the part that is not lent too: it was filled with 0xa5.
+#![tactic(auto)]
+
 ghost use Rattle.std.specs.Prelude.{◌≤◌, length};
 
 use libc::STDOUT_FILENO;

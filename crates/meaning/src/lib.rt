@@ -1,1 +1,2 @@
 // The meaning of expressions: definitions and theorems alone, in specs/ and proofs/.
+#![tactic(auto)]

@@ -1,4 +1,6 @@
 // Mending the notices of the old consoles. Document 02, request 14.
+#![tactic(auto)]
+
 ghost use Rattle.std.specs.Prelude.{◌≡◌, ◌≤◌, length};
 ghost use Rattle.mend.specs.Mend.{refused as refusedOf, MendIs};
 ghost use Rattle.mend.specs.Order.{Sized, Roomy};

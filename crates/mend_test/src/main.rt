@@ -1,5 +1,7 @@
 // Runs mending on the cases of standard input. A case is two parts: the lengths of the lent list and of the lent notice (4 bytes each), and the bytes.
 // Prints number, place, the notice's length and the fields listed, the list, the notice, and of either buffer whether all bytes past it, the part that is not lent too, are as they were (1, 0).
+#![tactic(auto)]
+
 ghost use Rattle.std.specs.Prelude.{◌≤◌, length};
 
 use libc::STDOUT_FILENO;

@@ -1,4 +1,6 @@
 // Comparison of two integers, of two reals, and of an integer with a real by exact value. Document 02, request 6.
+#![tactic(auto)]
+
 ghost use Rattle.std.specs.Prelude.{◌≡◌};
 ghost use Rattle.std.specs.Float.Ieee.{eq};
 ghost use Rattle.mixed.specs.Mixed.{exactly, order_real, Same, flipped_of};

@@ -1,4 +1,6 @@
 // The nearest f64 of an int64, and of sums, differences, products and quotients of int64 past 64 bits. Document 02, request 6.
+#![tactic(auto)]
+
 ghost use Rattle.std.specs.Prelude.{◌≡◌, ◌+◌, ◌*◌, ◌^◌, ◌≤◌, pos, negsuc, ◌+ℤ◌, ◌-ℤ◌, ◌*ℤ◌, int_div, unsigned_abs};
 ghost use Rattle.nearest.specs.Nearest.{nearest_real, is_negative};
 

@@ -1,4 +1,6 @@
 // Notices: layout, lookup by name, reading and writing. Document 01, "Notice".
+#![tactic(auto)]
+
 ghost use Rattle.std.specs.Prelude.{◌≡◌, ◌≤◌, true, [], length};
 ghost use Rattle.std.proofs.lemmas.List.Edits.{sets};
 ghost use Rattle.notice.specs.Layout.{header_right, count_of, check_from, check_of, right_at, stood_from, stood_of, Indexed};

@@ -2,6 +2,8 @@
 // 2, a buffer, the named length (8 bytes), a name, a kind (2 bytes), a value; or 3, a notice, a name. Reading prints number, place, kind, name and value,
 // and where it is not refused the kind and the value that lookup finds by the name; writing prints number, place, length and the buffer; finding prints
 // number, place, index and the names looked at, after `other` if halving finds something else than lookup.
+#![tactic(auto)]
+
 ghost use Rattle.std.specs.Prelude.{◌≡◌};
 ghost use Rattle.notice.specs.Layout.{check_of, Indexed};
 ghost use Rattle.notice.specs.Read.{read_number};

@@ -1,4 +1,6 @@
 // Numbers: int32, int64 and real64, with the operators of document 01, "Meaning".
+#![tactic(auto)]
+
 ghost use Rattle.std.specs.Prelude.{◌≡◌, ◌<◌};
 ghost use Rattle.number.specs.Number.{is_int32, is_integer, is_real, integer_of, int32Of, real_of, in_arithmetic, on_reals, real_arithmetic, divides, is_zero, zero_divisor, arithmetic_of, bitwise_of, complement_of, count_of, remainder as remainderBy, remainder_of, count_in, shift_of, equal_of, order_of};
 
@@ -11,7 +13,7 @@ pub use real::{bits_of_real, decimal, is_nan, real_of_bits};
 use truth::Truth;
 
 // `None` is no number: bottom. The variants stand as those of a typed value do, so that a value becomes a number without a jump.
-#[derive(Drop)]
+#[derive(Clone, Copy)]
 pub enum Number {
     None,
     Int32(i32),

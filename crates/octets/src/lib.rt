@@ -1,4 +1,6 @@
 // Byte strings under folding marks: same, order, begins, contains, ends. A mark says that its side is read with A..Z as a..z.
+#![tactic(auto)]
+
 ghost use Rattle.std.specs.Prelude.{◌≡◌};
 ghost use Rattle.octets.specs.Octets.{fold as fold_of, folded, same_of, before_of, begins_of, contains_of, ends_of};
 

@@ -1,4 +1,6 @@
 // The parser over the marks of tokens: levels, operand and argument list call each other in a cycle, which judges forms and kinds, counts entries and leaves the postfix codes.
+#![tactic(auto)]
+
 ghost use Rattle.std.specs.Prelude.{◌≡◌, ◌≤◌, get_or};
 ghost use Rattle.lexer.specs.Kind.{ending};
 ghost use Rattle.grammar.specs.Parse.{level_of, prefix_of, operand_of};
@@ -12,7 +14,7 @@ mod packed;
 mod part;
 
 // How many entries the code has, whether the expression is logic, whether the refusals 4 and 5 do not apply, and how many slots it holds at once, up to 63.
-#[derive(Drop)]
+#[derive(Clone, Copy)]
 pub struct Judged {
     pub entries: usize,
     pub logic: bool,

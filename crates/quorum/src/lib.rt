@@ -1,4 +1,6 @@
 // The quorum counter: a decision in a lent buffer, and the people counted in it. Document 02, request 3.
+#![tactic(auto)]
+
 ghost use Rattle.std.specs.Prelude.{◌≡◌, ◌<◌};
 ghost use Rattle.quorum.specs.Showing.{shown_as, nothing_yet, open_refusal, Opens, adds as addsOf, answer_by, Shows};
 
@@ -19,7 +21,7 @@ pub struct Shown {
 }
 
 // What a notice is to a decision: it leaves it as it stood, adds its Staff, or is refused.
-#[derive(Drop)]
+#[derive(Clone, Copy)]
 enum Turn {
     Keep,
     Add,

@@ -1,4 +1,6 @@
 // The records of standard input and the lines of standard output. Document 01, "Examples", the program `verdict`.
+#![tactic(auto)]
+
 ghost use Rattle.std.specs.Prelude.{◌≡◌, ◌+◌, ◌≤◌, ◌<◌, length};
 ghost use Rattle.record.specs.Record.{record_of, waits_of};
 ghost use Rattle.decimal.specs.Decimal.{Put};
@@ -10,7 +12,7 @@ use truth::Truth;
 // ---- records
 
 // What the bytes that are left of the input start with.
-#[derive(Drop)]
+#[derive(Clone, Copy)]
 pub enum Record {
     // Nothing is left.
     End,

@@ -1,4 +1,6 @@
 // Prints of each case of standard input whether its pattern is one, and whether some stretch of the value fits it.
+#![tactic(auto)]
+
 use libc::STDOUT_FILENO;
 
 fn put(s: &[u8]) {

@@ -1,4 +1,6 @@
 // Regular expressions: whether a text is a pattern, and whether a stretch of a value fits it. Document 02, request 13. A pattern is read a branch at a time into a table of tokens, which the crate automaton runs.
+#![tactic(auto)]
+
 ghost use Rattle.std.specs.Prelude.{◌≡◌, true, false, ◌||◌, ◌+◌, ◌≤◌, ◌<◌, length, take, drop};
 ghost use Rattle.octets.specs.Octets.{folded};
 ghost use Rattle.automaton.specs.Table.{repeats as repeatsOf, absent as absentOf, outside as outsideOf, sort as sortOf, tokens_of};

@@ -1,4 +1,6 @@
 // Runs a table many times, for the benchmark: table and notice checked once, then the inner run over and over.
+#![tactic(auto)]
+
 ghost use Rattle.std.specs.Prelude.{◌≡◌, true, ◌+◌, ◌*◌, ◌≤◌};
 ghost use Rattle.truth.specs.Truth.{rank as rank_of};
 ghost use Rattle.notice.specs.Layout.{check_of as noticeCheck, Indexed};

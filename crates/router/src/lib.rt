@@ -1,6 +1,8 @@
 // Translation, check and run together. Demand 3 is stated in specs/Demand.antt and proved in proofs/Demand.antt; `match_text` of matching.rt carries it.
 // Here are the functions of the static library, which C and Rust call (include/virentolex.h).
 // Each calls one function of the crates below, answers the refusal's number, 0 if nothing is refused, and stores what else there is to say through the references that it is lent.
+#![tactic(auto)]
+
 ghost use Rattle.std.specs.Prelude.{◌≡◌, cond, length};
 ghost use Rattle.truth.specs.Truth.{number_of as verdictNumber};
 ghost use Rattle.translator.specs.Translation.{translation_of, Answers};

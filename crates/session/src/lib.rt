@@ -1,4 +1,6 @@
 // What each record of standard input means, and the session that answers them over lent buffers, as functions on slices. Document 01, "Examples", the program `verdict`.
+#![tactic(auto)]
+
 ghost use Rattle.std.specs.Prelude.{◌≡◌, List, ℕ, ◌+◌, ◌-◌, ◌/◌, ◌≤◌, length, take};
 ghost use Rattle.decimal.specs.Decimal.{Put};
 ghost use Rattle.record.specs.Line.{line_room};
@@ -156,7 +158,7 @@ fn serve(input: &[u8], last: bool, table: &mut [u8], held: usize, out: &mut [u8]
 // ---- a session over lent buffers: turns, and room for what is read
 
 // What is done next.
-#[derive(Drop)]
+#[derive(Clone, Copy)]
 pub enum Next {
     // What is there is answered.
     Answer,
@@ -167,7 +169,7 @@ pub enum Next {
 }
 
 // What is kept between the steps: where the bytes that are not answered yet stand in the input's buffer, the length of the table, that of the lines which the last turn left, whether the input has ended, and what is done next.
-#[derive(Drop)]
+#[derive(Clone, Copy)]
 pub struct State {
     pub from: usize,
     pub end: usize,

@@ -1,4 +1,6 @@
 // A store of tables that come and go, in one buffer that the caller lends. Document 02, request 12. The layout stands in specs/Layout.antt.
+#![tactic(auto)]
+
 ghost use Rattle.std.specs.Prelude.{◌≡◌};
 ghost use Rattle.store.specs.Calls.{answered, added_of, part_of, fetched_of, Makes, Adds, Removes, Indexes};
 

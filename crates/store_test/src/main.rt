@@ -3,6 +3,8 @@
 // f, a number (8 bytes): it is fetched; n, the length of the lent verdict buffer (2 bytes) and a notice: the tables held are run on it;
 // b, an offset (8 bytes) and a byte: the byte is written there; d: every byte is printed.
 // Prints the refusal, and what else is answered; of verdicts the whole buffer, the part that is not lent too: it was filled with 0xa5.
+#![tactic(auto)]
+
 ghost use Rattle.std.specs.Prelude.{◌≤◌, length};
 
 use libc::STDOUT_FILENO;

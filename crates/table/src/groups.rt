@@ -3,7 +3,7 @@ ghost use Rattle.std.specs.Prelude.{◌≡◌};
 ghost use Rattle.opcode.specs.Opcode.{op_of};
 ghost use Rattle.table.specs.Groups.{group_of};
 
-#[derive(Drop)]
+#[derive(Clone, Copy)]
 pub enum Group {
     // 1
     Int32,

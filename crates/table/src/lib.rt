@@ -1,4 +1,6 @@
 // Tables: layout, decoding and the check. Document 01, "Table"; document 02, requests 1 and 13: the patterns of `wildcard` and `regex`; request 9: the editions. Every function takes a slice that is exactly the table, wherever it lies.
+#![tactic(auto)]
+
 ghost use Rattle.std.specs.Prelude.{◌≡◌, Bool, true, ◌&&◌, List, ℕ, suc, ◌+◌, ◌*◌, ◌≤◌, ◌<◌, leb, eqb, length, get_or, replicate};
 ghost use Rattle.std.proofs.Math.Option.{Option, some};
 ghost use Rattle.opcode.specs.Opcode.{op_of, Kind, logic, value};
@@ -14,7 +16,7 @@ use opcode::{Edition, Load};
 mod groups;
 
 // "Entry: u16 op, u16 a, u64 b."
-#[derive(Drop)]
+#[derive(Clone, Copy)]
 pub struct Entry {
     pub op: u16,
     pub a: u16,

@@ -1,5 +1,7 @@
 // Prints of each table on standard input its refusal number, 0 or 12, and of one that passes its entries and its pool. A case is a table and an empty part;
 // or a table and an entry's number (8 bytes): of this entry it prints the number, op, a, b, start and end.
+#![tactic(auto)]
+
 ghost use Rattle.std.specs.Prelude.{◌+◌, ◌*◌, ◌≤◌, length, ◌≡◌, true};
 ghost use Rattle.table.specs.Check.{check_of};
 

@@ -1,5 +1,7 @@
 // Translates each text on standard input into a lent part of a buffer, in an edition: the part's length and the edition's number stand before the text.
 // Prints number, place and table length, the table, and whether every later byte of the buffer, also past the lent part, is as it was.
+#![tactic(auto)]
+
 ghost use Rattle.std.specs.Prelude.{◌≤◌, length};
 
 use libc::STDOUT_FILENO;

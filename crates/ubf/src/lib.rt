@@ -1,4 +1,5 @@
 // Notices as UBF(A) texts. Document 02, request 5; source document 001.
+#![tactic(auto)]
 
 mod ordering;
 mod placing;

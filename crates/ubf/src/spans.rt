@@ -21,7 +21,7 @@ pub struct Value {
 }
 
 // A field: its value, where its name's bytes start, how many the name has, and how many of them have an escape.
-#[derive(Drop)]
+#[derive(Clone, Copy)]
 pub struct Span {
     pub kind: usize,
     pub name: usize,
@@ -34,7 +34,7 @@ pub struct Span {
 }
 
 // What is known of a tuple: whether it is one, where its fields end, how many they are, whether all names and all sizes are right, and the notice's size.
-#[derive(Drop)]
+#[derive(Clone, Copy)]
 pub struct Tuple {
     pub right: bool,
     pub at: usize,

@@ -1,5 +1,7 @@
 // Reads UBF(A) texts and writes notices of standard input into a lent part of a buffer. A case is two parts: a byte, `r` to read or `w` to write, with the lent part's length (4 bytes); and the text or the notice.
 // Prints number, place and length, the result, and whether every later byte of the buffer, also past the lent part, is as it was.
+#![tactic(auto)]
+
 ghost use Rattle.std.specs.Prelude.{◌≤◌, length};
 
 use libc::STDOUT_FILENO;

@@ -1,4 +1,6 @@
 // The characters of a byte string: UTF-8, RFC 3629.
+#![tactic(auto)]
+
 ghost use Rattle.std.specs.Prelude.{◌≡◌, true, ◌+◌, ◌≤◌, ◌<◌, length, get_or, drop};
 ghost use Rattle.utf8.specs.Utf8.{Counts};
 ghost use Rattle.utf8.specs.Scan.{is_continuation, first_two, is_two, is_three, is_four, long_width, width_at, characters_in, Ascii, Advances};

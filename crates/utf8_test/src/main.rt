@@ -1,4 +1,6 @@
 // Prints of each string of standard input how many characters it has, or `-` if it is ill-formed.
+#![tactic(auto)]
+
 use libc::STDOUT_FILENO;
 use utf8::Counted;
 

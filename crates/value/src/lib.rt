@@ -2,6 +2,8 @@
 // No function here asks anything of its operands: what a piece names beyond its source is not there, and an operand of the other kind counts as bottom.
 // Only `find_name` and `field` ask something, which the two checks have answered: that the notice was found well-formed and the starts of its fields are at hand, so that a name is found by halving, that the name lies in the pool, and that the
 // field found is right.
+#![tactic(auto)]
+
 ghost use Rattle.std.specs.Prelude.{◌≡◌, true, List, ℕ, ◌+◌, ◌%◌, ◌≤◌, length, take, drop};
 ghost use Rattle.notice.specs.Field.{size_right};
 ghost use Rattle.notice.specs.Layout.{check_of as noticeCheck, Indexed};
@@ -27,14 +29,14 @@ pub use texts::fetch;
 use truth::Truth;
 
 // "a string on the stack stands in the table's pool or in the notice"
-#[derive(Drop)]
+#[derive(Clone, Copy)]
 pub enum Origin {
     Pool,
     Notice,
 }
 
 // A part of the pool or of the notice, "a folded one with a mark beside it". The two marks stand before the numbers: a piece then ends where a value's 64-bit numbers begin, so that the compiler keeps its parts in registers.
-#[derive(Drop)]
+#[derive(Clone, Copy)]
 pub struct Piece {
     pub origin: Origin,
     pub folded: bool,
@@ -42,7 +44,7 @@ pub struct Piece {
     pub len: u16,
 }
 
-#[derive(Drop)]
+#[derive(Clone, Copy)]
 pub enum Typed {
     Bottom,
     Int32(i32),
@@ -53,13 +55,13 @@ pub enum Typed {
 }
 
 // "A slot holds a truth value or a value of some type"
-#[derive(Drop)]
+#[derive(Clone, Copy)]
 pub enum Held {
     Logic(Truth),
     Value(Typed),
 }
 
-#[derive(Drop)]
+#[derive(Clone, Copy)]
 pub struct Slot {
     pub held: Held,
 }
@@ -103,7 +105,7 @@ fn value_in(s: Slot) -> Typed
 }
 
 // Two operands that are values, or one of them is bottom.
-#[derive(Drop)]
+#[derive(Clone, Copy)]
 enum Pair {
     Bottom,
     Both(Typed, Typed),

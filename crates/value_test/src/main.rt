@@ -1,6 +1,8 @@
 // Runs every op on the cases of standard input: a pool, a notice, then a part for each case. A case is some entries of 12 bytes, as in a table.
 // All but the last give the operands in their order: ops 1..5, with 256 added where the value is folded, or 0 for the truth value of rank a.
 // The last is the op to run; 0 gives its one operand. An answer is a truth value, or a type and its bits or bytes in hex.
+#![tactic(auto)]
+
 use libc::STDOUT_FILENO;
 use notice::{Found, Layout};
 use opcode::groups::Group;

@@ -1,4 +1,6 @@
 // The program `verdict`. Document 01, "Examples": "reads records (u32 length, u16 kind) from standard input". Only reading and writing is here; what is answered is `session::turn`.
+#![tactic(auto)]
+
 ghost use Rattle.std.specs.Prelude.{false, ◌≡◌, ℕ, ◌-◌, ◌≤◌, ◌<◌, pos, length};
 ghost use Rattle.libc.specs.Io.{Moved};
 ghost use Rattle.session.specs.State.{Stands, Ready, Reads};

@@ -1,4 +1,6 @@
 // Prints for each standard input among the framed cases what `verdict` prints on it, in hex. The session gets it in small pieces, through a buffer that a long one fills many times.
+#![tactic(auto)]
+
 ghost use Rattle.std.specs.Prelude.{◌≡◌, ◌+◌, ◌≤◌, ◌<◌, length};
 ghost use Rattle.session.specs.State.{Ready};
 ghost use Rattle.verdict_test.specs.Feeding.{Feeds};
