@@ -1,0 +1,16 @@
+use Prim.Native.Nat.{◌≤◌, ◌-◌}
+use mathlib.Core.Path.{◌≡◌, refl, ◌∙◌}
+use native.Mathlib.Omega.{arith}
+use lib.ListN.{length, drop}
+use borrow.Author.Rules.{rules}
+use Rattle.automaton.specs.Table.{absent}
+use Rattle.automaton.specs.Word.{optional}
+use Rattle.automaton.proofs.Word.{every_no, every_on, every_end}
+use Rattle.automaton.proofs.absent.Reads as absent-reads
+use Rattle.automaton.proofs.optional.Given as goal
+
+abbrev pub invariant-loop-i : goal.invariant-loop-i
+invariant-loop-i l = (l.i ≤ length l.kinds) × (optional (drop l.i l.kinds) ≡ optional l.kinds)
+
+abbrev pub decreases-loop-i : goal.decreases-loop-i
+decreases-loop-i l = length l.kinds - l.i

@@ -1,0 +1,23 @@
+use borrow.Author.Rules.{rules}
+use Prim.Native.Nat.{◌≤◌, ◌-◌}
+use mathlib.Core.Path.{◌≡◌, sym, ◌∙◌}
+use mathlib.Core.Bool.{Bool, true}
+use mathlib.Core.List.{[]}
+use native.Mathlib.Omega.{arith}
+use lib.ListN.{length, length-set}
+use Rattle.automaton.specs.Table.{tokens_of}
+use Rattle.automaton.specs.Pass.{started, pass}
+use Rattle.automaton.proofs.Word.{lev}
+use Rattle.automaton.proofs.Large.{Above, Below, above_on, below_on, goes, goes_start, goes_turn, reach_quiet, reach_end}
+use Rattle.automaton.proofs.absent.Reads as absent-reads
+use Rattle.automaton.proofs.higher.Reads as higher-reads
+use Rattle.automaton.proofs.hit_if.Reads as hit-if-reads
+use Rattle.automaton.proofs.repeats.Reads as repeats-reads
+use Rattle.automaton.proofs.wide.Reads as wide-reads
+use Rattle.automaton.proofs.shift_plain.Given as goal
+
+abbrev pub invariant-loop-i : goal.invariant-loop-i
+invariant-loop-i l = (l.i ≤ length l.kinds) × (length l.marks ≡ length l.kinds) × ((e : Bool) × (goes l.text l.kinds l.args l.marks l.c (lev l.k l.cur e l.fin) l.i ≡ pass (tokens_of l.text l.kinds l.args) l.initial.marks l.c (started l.k) [])) × Above l.marks l.top l.i × Below l.marks l.high l.i
+
+abbrev pub decreases-loop-i : goal.decreases-loop-i
+decreases-loop-i l = length l.kinds - l.i

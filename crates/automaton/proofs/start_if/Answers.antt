@@ -1,0 +1,12 @@
+use mathlib.Core.Path.{sym, ◌∙◌}
+use Rattle.octets.proofs.Theorems.{and_parts}
+use borrow.Author.Rules.{rules}
+use Rattle.automaton.proofs.start.Reads as start-reads
+use Rattle.automaton.proofs.start_if.Goals as goal
+
+pub start-requires : goal.start-requires
+start-requires c = (sym c.requires.0 ∙ (and_parts c.args.single c.args.sf c.if-single-sf.true).0, c.requires.1)
+
+pub returns-then-single-sf : goal.returns-then-single-sf
+returns-then-single-sf c =
+    let a = c.args in (c.start.ensures.0, λ ef. rw (and_parts a.single a.sf c.if-single-sf.true).1 (c.start.ensures.1 ef))

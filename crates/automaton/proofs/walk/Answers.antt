@@ -1,0 +1,44 @@
+use borrow.Author.Rules.{rules}
+use Prim.Native.Nat.{◌≤◌, ◌-◌}
+use mathlib.Core.Path.{◌≡◌, refl, sym, ap, ◌∙◌}
+use mathlib.Core.Bool.{true, false}
+use mathlib.Core.List.{map}
+use native.Mathlib.Omega.{arith}
+use lib.ListN.{length, drop}
+use Rattle.octets.specs.Octets.{fold, folded}
+use Rattle.automaton.specs.Table.{tokens_of}
+use Rattle.automaton.specs.Decide.{walk_on}
+use Rattle.automaton.proofs.Value.{seen, onward, over}
+use Rattle.octets.proofs.fold.Reads as fold-reads
+use Rattle.automaton.proofs.shift.Reads as shift-reads
+use Rattle.automaton.proofs.walk.Goals as goal
+
+pub loop-i-init : goal.loop-i-init
+loop-i-init c = (c.requires.3, c.requires.2, refl)
+
+pub shape_of-marks-then-ef-fin : goal.shape_of-marks-then-ef-fin
+shape_of-marks-then-ef-fin c = c.loop-i.invariant.1 ∙ sym c.requires.2
+
+pub returns-then-ef-fin : goal.returns-then-ef-fin
+returns-then-ef-fin c =
+    let a = c.args in
+    let l = c.loop-i in
+    seen (tokens_of a.text.now a.kinds.now a.args.now) a.sf a.ef a.empty (fold a.mark) a.value.now l.marks l.fin l.k l.i (omega arith) c.if-ef-fin.true ∙ l.invariant.2
+
+pub shift-l-requires : goal.shift-l-requires
+shift-l-requires c = (c.requires.0, c.requires.1, c.loop-i.invariant.1)
+
+pub loop-i-preserved : goal.loop-i-preserved
+loop-i-preserved c =
+    let a = c.args in
+    let l = c.loop-i in
+    (omega arith, c.marks-1.given ∙ l.invariant.1, onward (tokens_of a.text.now a.kinds.now a.args.now) a.sf a.ef a.empty (fold a.mark) a.value.now l.marks l.fin l.k l.i (omega arith) c.if-ef-fin.false c.fold.result c.fold.ensures _ c.shift-l.result c.shift-l.ensures ∙ l.invariant.2)
+
+pub shape_of-marks : goal.shape_of-marks
+shape_of-marks c = c.loop-i.invariant.1 ∙ sym c.requires.2
+
+pub returns : goal.returns
+returns c =
+    let a = c.args in
+    let l = c.loop-i in
+    over (tokens_of a.text.now a.kinds.now a.args.now) a.sf a.ef a.empty (fold a.mark) a.value.now l.marks l.fin l.k l.i (omega arith) ∙ l.invariant.2

@@ -1,0 +1,56 @@
+use borrow.Author.Rules.{rules}
+use Prim.Native.Nat.{◌≤◌, ◌-◌}
+use mathlib.Core.Path.{◌≡◌, refl, sym, ◌∙◌}
+use mathlib.Core.Bool.{true, false}
+use mathlib.Core.List.{map}
+use native.Mathlib.Omega.{arith}
+use lib.ListN.{length, drop}
+use Rattle.octets.specs.Octets.{fold, folded}
+use Rattle.automaton.specs.Table.{tokens_of}
+use Rattle.automaton.specs.Decide.{walk_on}
+use Rattle.automaton.specs.Word.{Low}
+use Rattle.automaton.proofs.Value.{seen, over}
+use Rattle.automaton.proofs.Large.{plain_on}
+use Rattle.automaton.proofs.shift_plain.Reads as shift-plain-reads
+use Rattle.octets.proofs.fold.Reads as fold-reads
+use Rattle.automaton.proofs.walk_plain.Goals as goal
+
+pub loop-i-init : goal.loop-i-init
+loop-i-init c = (omega arith, c.requires.2, c.requires.4, refl)
+
+pub shape_of-marks-then-ef-fin : goal.shape_of-marks-then-ef-fin
+shape_of-marks-then-ef-fin c =
+    let a = c.args in
+    let l = c.loop-i in
+    l.invariant.1 ∙ sym c.requires.2
+
+pub returns-then-ef-fin : goal.returns-then-ef-fin
+returns-then-ef-fin c =
+    let a = c.args in
+    let l = c.loop-i in
+    seen (tokens_of a.text.now a.kinds.now a.args.now) a.sf a.ef a.empty (fold a.mark) a.value.now l.marks l.fin l.k l.i (omega arith) c.if-ef-fin.true ∙ l.invariant.3
+
+pub shift_plain-l-requires : goal.shift_plain-l-requires
+shift_plain-l-requires c =
+    let a = c.args in
+    let l = c.loop-i in
+    (c.requires.0, c.requires.1, l.invariant.1, c.requires.3, l.invariant.2)
+
+pub loop-i-preserved : goal.loop-i-preserved
+loop-i-preserved c =
+    let a = c.args in
+    let l = c.loop-i in
+    let p = c.shift_plain-l in
+    (omega (arith, c.loop-i-test), c.marks-1.given ∙ l.invariant.1, p.ensures.1, plain_on (tokens_of a.text.now a.kinds.now a.args.now) a.sf a.ef a.empty (fold a.mark) a.value.now l.marks l.fin l.k l.i (omega (arith, c.loop-i-test)) c.if-ef-fin.false c.fold.result c.fold.ensures _ p.result p.ensures ∙ l.invariant.3)
+
+pub shape_of-marks : goal.shape_of-marks
+shape_of-marks c =
+    let a = c.args in
+    let l = c.loop-i in
+    l.invariant.1 ∙ sym c.requires.2
+
+pub returns : goal.returns
+returns c =
+    let a = c.args in
+    let l = c.loop-i in
+    over (tokens_of a.text.now a.kinds.now a.args.now) a.sf a.ef a.empty (fold a.mark) a.value.now l.marks l.fin l.k l.i (omega arith) ∙ l.invariant.3

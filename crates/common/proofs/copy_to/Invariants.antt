@@ -1,0 +1,15 @@
+-- `copy_to` meets its contract: what is left to store after i bytes makes the same of the buffer. Assumes nothing.
+use mathlib.Core.Path.{◌≡◌, refl, sym, ap, ◌∙◌}
+use Prim.Native.Nat.{◌+◌, ◌-◌, ◌≤◌}
+use native.Mathlib.Omega.{arith}
+use lib.ListN.{length, drop, length-set, drop_of_length-le}
+use lib.Seq.{sets}
+use Rattle.common.proofs.Stores.{copied_one}
+use borrow.Author.Rules.{rules}
+use Rattle.common.proofs.copy_to.Given as goal
+
+abbrev pub invariant-loop-i : goal.invariant-loop-i
+invariant-loop-i l = (l.i ≤ length l.s) × (length l.buffer ≡ length l.initial.buffer) × (sets l.buffer (l.at + l.i) (drop l.i l.s) ≡ sets l.initial.buffer l.at l.s)
+
+abbrev pub decreases-loop-i : goal.decreases-loop-i
+decreases-loop-i l = length l.s - l.i

@@ -1,0 +1,16 @@
+-- `move_up` meets its contract: the bytes from i on have moved. Assumes nothing.
+use mathlib.Core.Path.{◌≡◌, refl, ap, ◌∙◌}
+use Prim.Native.Nat.{ℕ, ◌+◌, ◌-◌, ◌≤◌}
+use native.Mathlib.Omega.{arith}
+use mathlib.Core.List.{List}
+use lib.ListN.{length, get_or, set, take, drop, length-set}
+use lib.Seq.{sets}
+use Rattle.common.proofs.Stores.{moved_one}
+use borrow.Author.Rules.{rules}
+use Rattle.common.proofs.move_up.Given as goal
+
+abbrev pub invariant-loop-i : goal.invariant-loop-i
+invariant-loop-i l = (l.at ≤ l.i) × (l.i ≤ l.end) × (length l.buffer ≡ length l.initial.buffer) × (l.buffer ≡ sets l.initial.buffer (l.i + l.by) (take (l.end - l.i) (drop l.i l.initial.buffer)))
+
+abbrev pub decreases-loop-i : goal.decreases-loop-i
+decreases-loop-i l = l.i

@@ -1,0 +1,6 @@
+use mathlib.Core.Path.{refl}
+use borrow.Author.Rules.{rules}
+use Rattle.decimal.proofs.put_bytes.Goals as goal
+
+pub returns : goal.returns
+returns c = record { stored = c.copy_to.ensures; next = refl }

@@ -1,0 +1,19 @@
+use native.Mathlib.Omega.{arith}
+use mathlib.Core.Path.{subst}
+use Rattle.translator.specs.Emit.{Reads}
+use Rattle.translator.proofs.Answering.{front_as, ready}
+use borrow.Author.Rules.{rules}
+use Rattle.grammar_test.proofs.judge.Reads as judge-reads
+use Rattle.grammar_test.proofs.put_refusal.Reads as put-refusal-reads
+use Rattle.translator.proofs.read.read.Reads as read-reads
+use Rattle.grammar_test.proofs.lexed.Goals as goal
+
+pub slice_bounds-judge-end : goal.slice_bounds-judge-end
+slice_bounds-judge-end c =
+    let rd = subst (Reads c.args.text.now _ _ _) c.n-1.given.1 c.read.ensures.0 in
+    omega (arith, rd.0)
+
+pub judge-requires : goal.judge-requires
+judge-requires c =
+    let rd = subst (Reads c.args.text.now _ _ _) c.n-1.given.1 c.read.ensures.0 in
+    rw front_as (ready (λ i. omega (arith, c.shared_slice_known-1.given i)) rd.1)

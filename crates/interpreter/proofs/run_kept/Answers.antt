@@ -1,0 +1,34 @@
+-- `interpreter::run_kept` meets its contract: 11, then the answer of the whole run. Assumes nothing.
+use mathlib.Core.Path.{◌≡◌, refl, sym, ap, ◌∙◌}
+use Prim.Native.Nat.{◌-◌}
+use lib.ListN.{length, take}
+use lib.Seq.{take_all}
+use native.Mathlib.Omega.{arith}
+use borrow.Author.Rules.{rules}
+use Rattle.notice.specs.Layout.{check_of}
+use Rattle.notice.specs.declared.Layout.{Layout}
+use Rattle.interpreter.proofs.Answers.{indexed, notice_refused, neither_refused}
+use Rattle.interpreter.proofs.run_kept.Goals as goal
+
+-- the part that is lent is the whole notice, and what the check tells of it
+whole : (s : goal.Start) → take (length s.args.notice.now - 0) s.args.notice.now ≡ s.args.notice.now
+whole s = take_all (length s.args.notice.now - 0) s.args.notice.now (omega arith)
+
+layout_is : (c : goal.After-index-layout) {l : Layout} → c.index.result ≡ l → check_of c.before.before.before.before.before.args.notice.now ≡ l
+layout_is c e = sym (ap check_of (whole (search))) ∙ sym c.index.ensures.0 ∙ e
+
+pub run_whole-requires : goal.run_whole-requires
+run_whole-requires c =
+    let s : tie.Start = search in
+    let well = layout_is (search) c.enum_told-1.given.1 in
+    (s.pre, well, indexed _ _ _ (whole s) well c.index-layout.ensures.1 refl)
+
+pub returns-in-WellFormed : goal.returns-in-WellFormed
+returns-in-WellFormed c =
+    let s : tie.Start = search in
+    c.run_whole.ensures ∙ neither_refused s.args.table.now s.args.notice.now s.pre (layout_is (search) c.enum_told-1.given.1)
+
+pub returns-in-Fault : goal.returns-in-Fault
+returns-in-Fault c =
+    let s : tie.Start = search in
+    c.refused.ensures ∙ notice_refused s.args.table.now s.args.notice.now _ s.pre (layout_is (search) c.layout-1.given.1)

@@ -1,0 +1,82 @@
+use Prim.Native.Nat.{◌≤◌, ◌<◌, ◌-◌, ◌+◌}
+use mathlib.Core.Path.{◌≡◌, refl, sym, ◌∙◌}
+use native.Mathlib.Omega.{arith}
+use lib.ListN.{length, set, length-set}
+use Rattle.lexer.proofs.Streams.{Goes, goes_first, goes_space, goes_on, lexes_long, lexes_end, lexes_bad}
+use borrow.Author.Rules.{rules}
+use Rattle.lexer.proofs.byte.is_space.Reads as is-space-reads
+use Rattle.lexer.proofs.scan.Reads as scan-reads
+use Rattle.lexer.proofs.lex.Goals as goal
+
+pub returns-then-text-gt4096 : goal.returns-then-text-gt4096
+returns-then-text-gt4096 c =
+    let w = lexes_long c.args.text.now c.args.kinds.now c.args.starts.now c.if-text-gt4096.true in (w.answer, (w.kinds, w.starts))
+
+pub loop-at-init : goal.loop-at-init
+loop-at-init c = (c.if-text-gt4096.false, goes_first c.args.text.now c.args.kinds.now c.args.starts.now, refl, refl)
+
+pub loop-at-smaller-then-is_space : goal.loop-at-smaller-then-is_space
+loop-at-smaller-then-is_space c = let g = c.loop-at.invariant.1 in omega arith
+
+pub loop-at-preserved-then-is_space : goal.loop-at-preserved-then-is_space
+loop-at-preserved-then-is_space c =
+    let l = c.loop-at in
+    let a = c.args in
+    (l.invariant.0, goes_space a.text.now a.kinds.now a.starts.now l.kinds l.starts l.n l.at l.invariant.1 (omega arith) (sym c.is_space.ensures ∙ c.if-is_space.true), l.invariant.2, l.invariant.3)
+
+pub scan-requires : goal.scan-requires
+scan-requires c = (c.loop-at.invariant.0, omega arith)
+
+pub enum_known-kind : goal.enum_known-kind
+enum_known-kind c = c.in-Bad.keys1
+
+pub bounds-kinds-n : goal.bounds-kinds-n
+bounds-kinds-n c =
+    let l = c.loop-at in
+    omega (arith, l.invariant.1.count, l.invariant.2, c.requires.0 l.invariant.0)
+
+pub overflow_cast-starts : goal.overflow_cast-starts
+overflow_cast-starts c = let g = c.loop-at.invariant.1 in omega arith
+
+pub offset_bounds-starts-n : goal.offset_bounds-starts-n
+offset_bounds-starts-n c =
+    let l = c.loop-at in
+    omega (arith, l.invariant.1.count, l.invariant.3, l.invariant.0, c.requires.1 l.invariant.0)
+
+pub bounds-starts-n : goal.bounds-starts-n
+bounds-starts-n c =
+    let l = c.loop-at in
+    omega (arith, l.invariant.1.count, l.invariant.3, c.requires.1 l.invariant.0)
+
+pub overflow_add-n : goal.overflow_add-n
+overflow_add-n c = let g = c.loop-at.invariant.1 in omega arith
+
+pub overflow_add-at-in-Good : goal.overflow_add-at-in-Good
+overflow_add-at-in-Good c = let w = next c in omega (arith, w.2, c.loop-at.invariant.0)
+
+pub loop-at-smaller : goal.loop-at-smaller
+loop-at-smaller c = let g = c.loop-at.invariant.1 in let w = next c in omega (arith, w.1, w.2)
+
+pub loop-at-preserved : goal.loop-at-preserved
+loop-at-preserved c =
+    let l = c.loop-at in
+    (l.invariant.0, (next c).0, simp length-set l.invariant.2, simp length-set l.invariant.3)
+
+pub enum_known-number : goal.enum_known-number
+enum_known-number c = c.in-Bad.keys2
+
+pub returns-in-Bad : goal.returns-in-Bad
+returns-in-Bad c =
+    let l = c.loop-at in
+    let a = c.args in
+    let f = sym c.is_space.ensures ∙ c.if-is_space.false in
+    let q = sym c.scan.ensures ∙ c.number-1.given.1 in
+    let w = lexes_bad a.text.now a.kinds.now a.starts.now l.kinds l.starts l.n l.at l.invariant.0 l.invariant.1 (omega arith) f c.number-1.given.0.0 q in
+    (w.answer, (w.kinds, w.starts))
+
+pub returns : goal.returns
+returns c =
+    let l = c.loop-at in
+    let a = c.args in
+    let w = lexes_end a.text.now a.kinds.now a.starts.now l.kinds l.starts l.n l.at l.invariant.0 l.invariant.1 (omega arith) in
+    (w.answer, (w.kinds, w.starts))

@@ -1,0 +1,45 @@
+use Prim.Native.Nat.{◌≤◌, ◌-◌, ◌+◌}
+use mathlib.Core.Path.{◌≡◌, refl, sym, ap, ◌∙◌}
+use mathlib.Core.Bool.{false}
+use native.Mathlib.Omega.{arith}
+use lib.ListN.{length, drop, length-set}
+use lib.Seq.{sets}
+use Rattle.lexer.specs.Run.{run_from, run_of, unescaped}
+use Rattle.lexer.proofs.Runs.{dropped, kept, copied, plain_stop, plain_end}
+use borrow.Author.Rules.{rules}
+use Rattle.lexer.proofs.run.ends.Reads as ends-reads
+use Rattle.lexer.proofs.run.put.Reads as put_reads
+use Rattle.lexer.proofs.run.takes.Reads as takes-reads
+use Rattle.lexer.proofs.run.copy_plain.Goals as goal
+
+pub loop-i-init : goal.loop-i-init
+loop-i-init c = (omega arith, omega arith, refl, omega arith, refl)
+
+pub returns-then-taken-ends : goal.returns-then-taken-ends
+returns-then-taken-ends c =
+    let l = c.loop-i in
+    let z = plain_stop c.args.s.now l.i (omega arith) c.args.quote l.taken (rw c.ends.ensures at c.if-taken-ends.true) in
+    (omega (arith, ap length z, l.invariant.3), (rw z at l.invariant.4))
+
+pub loop-i-preserved-then-takes : goal.loop-i-preserved-then-takes
+loop-i-preserved-then-takes c =
+    let l = c.loop-i in
+    let e = rw c.ends.ensures at c.if-taken-ends.false in
+    let d = dropped c.args.s.now l.i (omega arith) c.args.quote l.taken e (sym c.takes.ensures ∙ c.if-takes.true) in
+    (omega arith, omega arith, l.invariant.2, omega (arith, ap length d, l.invariant.3), rw d l.invariant.4)
+
+pub loop-i-preserved : goal.loop-i-preserved
+loop-i-preserved c =
+    let l = c.loop-i in
+    let e = rw c.ends.ensures at c.if-taken-ends.false in
+    let p = c.put in
+    let f = sym c.takes.ensures ∙ c.if-takes.false in
+    let d = kept c.args.s.now l.i (omega arith) c.args.quote l.taken e f in
+    let w = copied c.args.s.now l.i (omega arith) c.args.quote l.taken e p.new.0 l.part l.n f p.ensures in
+    (omega arith, omega arith, ap length p.ensures ∙ simp length-set l.invariant.2, omega (arith, ap length d, l.invariant.3), w ∙ l.invariant.4)
+
+pub returns : goal.returns
+returns c =
+    let l = c.loop-i in
+    let z = plain_end c.args.s.now l.i (omega arith) c.args.quote l.taken in
+    (omega (arith, ap length z, l.invariant.3), (rw z at l.invariant.4))

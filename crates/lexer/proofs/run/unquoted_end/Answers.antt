@@ -1,0 +1,30 @@
+use Prim.Native.Nat.{◌≤◌, ◌-◌, ◌+◌}
+use mathlib.Core.Path.{◌≡◌, sym, ◌∙◌}
+use native.Mathlib.Omega.{arith}
+use lib.Dec.{eqb}
+use lib.ListN.{length, get_or, drop}
+use Rattle.octets.proofs.Places.{neither}
+use Rattle.lexer.specs.Run.{Passes}
+use Rattle.lexer.proofs.Runs.{ends_quote, passes_first, passes_on_at}
+use borrow.Author.Rules.{rules}
+use Rattle.lexer.proofs.run.unquoted_end.Goals as goal
+
+pub loop-i-init : goal.loop-i-init
+loop-i-init c =
+    let a = c.args in
+    let z : a.at - a.at ≡ 0 = omega arith in
+    (omega arith, rw z (passes_first a.quote (drop a.at a.s.now)))
+
+pub returns-then-b-quote : goal.returns-then-b-quote
+returns-then-b-quote c = c.loop-i.invariant
+
+pub loop-i-preserved : goal.loop-i-preserved
+loop-i-preserved c =
+    let a = c.args in
+    let l = c.loop-i in
+    let b = get_or a.s.now l.i 0 in
+    let n = neither (eqb b a.quote) (eqb b 92) c.if-b-quote.false in
+    (omega arith, passes_on_at a.s.now a.at l.i l.invariant.0 a.quote (omega arith) (sym (ends_quote a.quote b c.requires) ∙ n.0) n.1 l.invariant.1)
+
+pub returns : goal.returns
+returns c = c.loop-i.invariant

@@ -1,0 +1,16 @@
+use Prim.Native.Nat.{◌≤◌, ◌-◌, ◌+◌}
+use mathlib.Core.Path.{◌≡◌, sym, ◌∙◌}
+use native.Mathlib.Omega.{arith}
+use lib.Dec.{eqb}
+use lib.ListN.{length, get_or, drop}
+use Rattle.octets.proofs.Places.{neither}
+use Rattle.lexer.specs.Run.{Passes}
+use Rattle.lexer.proofs.Runs.{ends_quote, passes_first, passes_on_at}
+use borrow.Author.Rules.{rules}
+use Rattle.lexer.proofs.run.unquoted_end.Given as goal
+
+abbrev pub invariant-loop-i : goal.invariant-loop-i
+invariant-loop-i l = (l.at ≤ l.i) × Passes l.quote (drop l.at l.s) (l.i - l.at)
+
+abbrev pub decreases-loop-i : goal.decreases-loop-i
+decreases-loop-i l = length l.s - l.i

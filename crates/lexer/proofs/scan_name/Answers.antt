@@ -1,0 +1,48 @@
+use Prim.Native.Nat.{◌-◌}
+use mathlib.Core.Bool.{true, false}
+use lib.ListN.{length, drop}
+use borrow.Author.Tests.{not-false}
+use Rattle.lexer.specs.Run.{run_of, unescaped, legal_name, is_empty}
+use mathlib.Core.Path.{◌≡◌, ◌∙◌, sym, ap}
+use Rattle.lexer.specs.Token.{scan_name}
+use Rattle.lexer.specs.Answer.{scanned_of}
+use Rattle.lexer.specs.declared.Scanned.TheVariants.{Good}
+use Rattle.lexer.proofs.Runs.{rest_later, ended_name}
+use Rattle.lexer.proofs.Scans.{name_over, name_legal}
+use borrow.Author.Rules.{rules}
+use Rattle.lexer.proofs.run.common_end.Reads as common-end-reads
+use Rattle.lexer.proofs.run.ended.Reads as ended-reads
+use Rattle.lexer.proofs.run.rest.Reads as rest-reads
+use Rattle.lexer.proofs.scan_odd_name.Reads as scan-odd-name-reads
+use Rattle.lexer.proofs.scan_name.Goals as goal
+
+pub scan_odd_name-requires : goal.scan_odd_name-requires
+scan_odd_name-requires c = rw c.rest.ensures c.common_end-end.ensures.1
+
+pub returns-then-not-ended : goal.returns-then-not-ended
+returns-then-not-ended c =
+    c.scan_odd_name.ensures ∙ ap (λ s. scanned_of (scan_name s)) c.rest.ensures
+
+-- a name of common bytes alone
+whole : (c : tie.Else1) → let s = drop c.args.at c.args.text.now in
+    let n = c.common_end-end.result - c.args.at in
+    (n ≡ length (run_of 0 s)) × (n ≡ length (unescaped false (run_of 0 s))) × (legal_name false (run_of 0 s) ≡ true)
+whole c =
+    let a = c.args in
+    let g = c.common_end-end in
+    let e = ap (λ l. is_empty (run_of 0 l)) (rest_later a.text.now a.at g.result g.ensures.0) ∙ sym c.ended.ensures ∙ not-false _ c.if-not-ended.false in
+    ended_name (drop a.at a.text.now) (g.result - a.at) g.ensures.1 e
+
+pub returns-then-n : goal.returns-then-n
+returns-then-n c =
+    let a = c.args in
+    let w = whole c in
+    let f = rw w.1 at c.if-n.true in
+    ap (λ k. Good 5 k) w.0 ∙ name_legal (drop a.at a.text.now) w.2 f
+
+pub returns : goal.returns
+returns c =
+    let a = c.args in
+    let w = whole c in
+    let f = rw w.1 at c.if-n.false in
+    name_over (drop a.at a.text.now) w.2 f

@@ -1,0 +1,13 @@
+use Rattle.lexer.proofs.Scans.{string_open, string_legal}
+use borrow.Author.Rules.{rules}
+use Rattle.lexer.proofs.run.body.Reads as body-Reads
+use Rattle.lexer.proofs.run.rest.Reads as rest-reads
+use Rattle.lexer.proofs.scan_odd_string.Goals as goal
+
+pub returns-then-after-eq0 : goal.returns-then-after-eq0
+returns-then-after-eq0 c = string_open c.args.s.now (rw (c.rest-after.ensures, c.body-bytes.ensures) at c.if-after-eq0.true)
+
+pub returns : goal.returns
+returns c =
+    let e = rw (c.rest-after.ensures, c.body-bytes.ensures) at c.if-after-eq0.false in
+    rw c.body-bytes.ensures (string_legal c.args.s.now e)

@@ -1,0 +1,45 @@
+-- `deliver` meets its contract: the bytes written and those of the tables that are left make the same of the buffer. Assumes nothing.
+use Prim.Native.Nat.{◌-◌, ◌<◌}
+use native.Mathlib.Omega.{arith}
+use lib.ListN.{length}
+use borrow.Author.Rules.{rules}
+use Rattle.many.proofs.Verdicts.{Delivering, delivering_first, delivering_on, place_left, delivered}
+use Rattle.many.proofs.deliver.Goals as goal
+
+-- there is a place for the byte
+here : (c : goal.After-verdict) → c.before.before.before.before.loop.i < length c.before.before.before.before.loop.verdicts
+here c =
+    let s = c.before.before.before.before.before.before.before.before in
+    let a = s.args in
+    let l = c.before.before.before.before.loop in
+    let e = c.before.before.end_of_lem in
+    let p = place_left a.tables.now a.notice.now a.verdicts.now l.verdicts l.i l.at l.invariant e.result (omega arith) e.ensures in
+    omega (arith, s.requires.3, l.invariant.room)
+
+pub loop-at-init : goal.loop-at-init
+loop-at-init c = let a = c.args in delivering_first a.tables.now a.notice.now a.verdicts.now
+
+pub verdict-requires : goal.verdict-requires
+verdict-requires c = let p = c.requires in (p.0, p.1)
+
+pub bounds-verdicts-i : goal.bounds-verdicts-i
+bounds-verdicts-i c = omega (arith, here c)
+
+pub overflow_add-i : goal.overflow_add-i
+overflow_add-i c = omega (arith, here c)
+
+pub loop-at-preserved : goal.loop-at-preserved
+loop-at-preserved c =
+    let a = c.args in
+    let l = c.loop-at in
+    let e = c.end_of_lem in
+    delivering_on a.tables.now a.notice.now a.verdicts.now l.verdicts l.i l.at l.invariant e.result (omega arith) e.ensures c.verdict.result c.verdict.ensures
+
+pub shape_of-verdicts : goal.shape_of-verdicts
+shape_of-verdicts c = c.loop-at.invariant.room
+
+pub returns : goal.returns
+returns c =
+    let a = c.args in
+    let l = c.loop-at in
+    delivered a.tables.now a.notice.now a.verdicts.now l.verdicts l.i l.at l.invariant (omega arith)

@@ -1,0 +1,22 @@
+-- `run_many` meets its contract: 11, or what the tables give on a notice found well-formed. Assumes nothing.
+use mathlib.Core.Path.{refl, sym, subst, ◌∙◌}
+use mathlib.Core.List.{List}
+use Prim.Native.Nat.{ℕ}
+use Rattle.notice.specs.Layout.{Indexed}
+use Rattle.notice.proofs.Stood.{stood_indexed}
+use Rattle.many.proofs.Verdicts.{many_faulty}
+use borrow.Author.Rules.{rules}
+use Rattle.many.proofs.run_many.Goals as goal
+
+pub judge-requires : goal.judge-requires
+judge-requires c =
+    let a = c.args in
+    let i = c.index-layout in
+    let well = sym i.ensures.0 ∙ c.enum_told-1.given.1 in
+    (well, subst (λ (t : List ℕ). Indexed a.notice.now t) (sym i.ensures.1) (stood_indexed a.notice.now well _ refl))
+
+pub returns-in-Fault : goal.returns-in-Fault
+returns-in-Fault c =
+    let a = c.args in
+    let g = c.layout-1.given in
+    many_faulty a.tables.now a.notice.now a.verdicts.now c.refused.result g.0.0 (sym c.index-layout.ensures.0 ∙ g.1) c.refused.ensures

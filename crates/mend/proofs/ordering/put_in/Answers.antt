@@ -1,0 +1,18 @@
+-- `put_in` meets its contract: the places after it have moved, and it is stored. Assumes nothing.
+use mathlib.Core.Path.{ap, ◌∙◌}
+use mathlib.Core.List.{List}
+use Prim.Native.Nat.{ℕ, ◌+◌, ◌-◌}
+use native.Mathlib.Omega.{arith}
+use lib.ListN.{length, set, take, drop, length-set}
+use lib.Seq.{length-sets}
+use Rattle.mend.proofs.Orders.{places_more}
+use borrow.Author.Rules.{rules}
+use Rattle.mend.proofs.ordering.put_in.Goals as goal
+
+pub returns : goal.returns
+returns c =
+    let a = c.args in
+    let p = c.requires in (
+      length-set c.make_place.new.0 a.place a.at ∙ (ap length c.make_place.ensures ∙ (length-sets a.order.now (a.place + 1) (take (a.n - a.place) (drop a.place a.order.now)) ∙ p.0)),
+      ap (λ (l : List ℕ). take (a.n + 1) (set l a.place a.at)) c.make_place.ensures ∙ places_more a.order.now a.n a.place a.at p.1 (omega (arith, p.0, p.2)),
+    )

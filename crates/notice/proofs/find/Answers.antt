@@ -1,0 +1,22 @@
+use Rattle.std.proofs.Common.{◌≡◌, sym, ap, ◌∙◌, rules}
+use Rattle.notice.specs.declared.Layout.{Layout}
+use Rattle.notice.specs.declared.Layout.TheVariants.{WellFormed}
+use Rattle.notice.specs.Layout.{check_of}
+use Rattle.notice.specs.Search.{find_by}
+use Rattle.notice.proofs.find.Goals as goal
+
+well : (c : goal.In-WellFormed) → check_of c.before.before.before.before.before.args.notice.now ≡ WellFormed
+well c = sym c.before.before.check.ensures ∙ c.enum_told.given.1
+
+pub sought-requires : goal.sought-requires
+sought-requires c = well c
+
+pub returns-in-WellFormed : goal.returns-in-WellFormed
+returns-in-WellFormed c =
+    let a = c.args in
+    c.sought.ensures ∙ ap (λ (l : Layout). find_by l a.notice.now a.name.now) (sym (well c))
+
+pub returns-in-Fault : goal.returns-in-Fault
+returns-in-Fault c =
+    let a = c.args in
+    ap (λ (l : Layout). find_by l a.notice.now a.name.now) (sym c.layout-1.given.1 ∙ c.check-layout.ensures)

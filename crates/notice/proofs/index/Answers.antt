@@ -1,0 +1,23 @@
+use Rattle.std.proofs.Common.{◌≡◌, true, false, sym, ap, ◌∙◌, rules}
+use lib.Seq.{sets}
+use Rattle.notice.specs.Layout.{header_right}
+use Rattle.notice.proofs.Checks.{by_fields, wrong_header}
+use Rattle.notice.proofs.Stood.{stood_whole, none_stood}
+use Rattle.notice.proofs.index.Goals as goal
+
+right : (c : goal.Then-header_right) → header_right c.before.before.before.args.notice.now ≡ true
+right c = sym c.before.header-right.ensures ∙ c.if1.true
+
+pub check_fields-requires : goal.check_fields-requires
+check_fields-requires c = right c
+
+pub returns-then-header_right : goal.returns-then-header_right
+returns-then-header_right c =
+    let a = c.args in
+    (c.check_fields.ensures.0 ∙ by_fields a.notice.now (right c), c.check_fields.ensures.1 ∙ ap (sets a.starts.now 0) (stood_whole a.notice.now (right c)))
+
+pub returns : goal.returns
+returns c =
+    let a = c.args in
+    let wrong : header_right a.notice.now ≡ false = sym c.header_right.ensures ∙ c.if-header_right.false in
+    (wrong_header a.notice.now wrong, ap (sets a.starts.now 0) (none_stood a.notice.now wrong))

@@ -1,0 +1,10 @@
+use Rattle.std.proofs.Common.{◌≡◌, ◌-◌, ◌≤◌, length, drop, refl, ◌∙◌, arith, rules}
+use Rattle.notice.specs.Field.{printable}
+use Rattle.notice.proofs.Names.{low_byte, high_byte, right_byte, all_right}
+use Rattle.notice.proofs.name.bytes_right.Given as goal
+
+abbrev pub invariant-loop-i : goal.invariant-loop-i
+invariant-loop-i l = (l.i ≤ length l.name) × (printable (drop l.i l.name) ≡ printable l.name)
+
+abbrev pub decreases-loop-i : goal.decreases-loop-i
+decreases-loop-i l = length l.name - l.i

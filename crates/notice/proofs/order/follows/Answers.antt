@@ -1,0 +1,104 @@
+use Rattle.std.proofs.Common.{◌≡◌, ℕ, ◌+◌, ◌-◌, ◌<◌, true, take, drop, sym, ap, ◌∙◌, ap₂, arith, rules}
+use Rattle.octets.specs.Octets.{before_of}
+use Rattle.octets.proofs.Theorems.{not_folded}
+use Rattle.notice.specs.Layout.{name_size_at, name_at, right_at}
+use Rattle.notice.specs.Key.{key_of, last_name_at}
+use Rattle.notice.proofs.Places.{Lies, lies_true, right_lies, right_name}
+use Rattle.notice.proofs.Keys.{less_before, not_after, last_name, some_last, some_key, key_here, no_key}
+use Rattle.notice.proofs.order.follows.Goals as goal
+
+-- where the key is not 0 a right field stands, with this key
+right_by : (c : goal.Start) → 0 < c.args.key → right_at c.args.notice.now c.args.at ≡ true
+right_by c h = some_key c.args.notice.now c.args.at c.args.key c.requires.1 h
+
+key_is : (c : goal.Start) → 0 < c.args.key → c.args.key ≡ key_of (name_at c.args.notice.now c.args.at)
+key_is c h = c.requires.1 ∙ key_here c.args.notice.now c.args.at (right_by c h)
+
+some : (c : goal.Else-key-eq0) → 0 < c.before.before.before.before.args.key
+some c = let f = c.if3.false in omega arith
+
+right : (c : goal.Else-key-eq0) → right_at c.before.before.before.before.args.notice.now c.before.before.before.before.args.at ≡ true
+right c = right_by c.before.before.before.before (some c)
+
+-- where the keys are equal there is a last field
+after_one : (c : goal.Else-key-eq0) → c.before.before.before.before.args.last ≡ 0 → ⊥
+after_one c =
+    let a = c.before.before.before.before.args in
+    some_last a.notice.now a.last a.at a.last-key a.key c.before.before.before.before.requires.0 (right c) (key_is c.before.before.before.before (some c)) (omega (arith, c.before.before.if1.false))
+
+lying_last : (c : goal.Else-key-eq0) → Lies c.before.before.before.before.args.notice.now c.before.before.before.before.args.last
+lying_last c = lies_true c.before.before.before.before.args.notice.now c.before.before.before.before.args.last (c.before.before.before.before.requires.0.lies (after_one c))
+
+lying : (c : goal.Else-key-eq0) → Lies c.before.before.before.before.args.notice.now c.before.before.before.before.args.at
+lying c = right_lies c.before.before.before.before.args.notice.now c.before.before.before.before.args.at (right c)
+
+pub returns-then-last_key-key : goal.returns-then-last_key-key
+returns-then-last_key-key c =
+    let a = c.args in
+    let p = c.requires in
+    let s = a.notice.now in
+    let h : 0 < a.key = omega (arith, c.if-last_key-key.true) in
+    rw (right_by c h) (less_before 8 0 (last_name_at s a.last) (name_at s a.at) p.0.right (right_name s a.at (right_by c h)).1 (omega (arith, p.0.key_is, key_is c h, c.if-last_key-key.true)))
+
+pub returns-then-key-last_key : goal.returns-then-key-last_key
+returns-then-key-last_key c =
+    let a = c.args in
+    let p = c.requires in
+    not_after a.notice.now a.last a.at a.last-key a.key p.0 p.1 c.if-key-last_key.true
+
+pub returns-then-key-eq0 : goal.returns-then-key-eq0
+returns-then-key-eq0 c =
+    let a = c.args in
+    rw (no_key a.notice.now a.at a.key c.requires.1 c.if-key-eq0.true)
+
+pub overflow_add-s : goal.overflow_add-s
+overflow_add-s c =
+    let l = lying_last c in
+    omega arith
+
+pub name_size-requires : goal.name_size-requires
+name_size-requires c =
+    let l = lying_last c in
+    omega arith
+
+pub overflow_add-s_end : goal.overflow_add-s_end
+overflow_add-s_end c =
+    let l = lying_last c in
+    omega arith
+
+pub overflow_add-t : goal.overflow_add-t
+overflow_add-t c =
+    let l = lying c in
+    omega arith
+
+pub name_size-requires-2 : goal.name_size-requires-2
+name_size-requires-2 c =
+    let l = lying c in
+    omega arith
+
+pub overflow_add-t_end : goal.overflow_add-t_end
+overflow_add-t_end c =
+    let l = lying c in
+    omega arith
+
+pub slice_bounds-before-end : goal.slice_bounds-before-end
+slice_bounds-before-end c =
+    let l = lying_last c in
+    omega arith
+
+pub slice_bounds-before-end-2 : goal.slice_bounds-before-end-2
+slice_bounds-before-end-2 c =
+    let l = lying c in
+    omega arith
+
+pub returns : goal.returns
+returns c =
+    let a = c.args in
+    let s = a.notice.now in
+    let j = a.last + 5 + c.name_size.result - (a.last + 5) in
+    let k = a.at + 5 + c.name_size-2.result - (a.at + 5) in
+    let m : j ≡ name_size_at s a.last = omega arith in
+    let n : k ≡ name_size_at s a.at = omega arith in
+    rw (right c) (c.before-2.ensures
+    ∙ ap₂ before_of (not_folded (take j (drop (a.last + 5) s)) ∙ (ap (λ (i : ℕ). take i (drop (a.last + 5) s)) m ∙ sym (last_name s a.last (after_one c))))
+    (not_folded (take k (drop (a.at + 5) s)) ∙ ap (λ (i : ℕ). take i (drop (a.at + 5) s)) n))

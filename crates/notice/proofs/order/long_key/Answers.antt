@@ -1,0 +1,30 @@
+use Rattle.std.proofs.Common.{◌≡◌, ℕ, ◌+◌, ◌-◌, List, length, take, drop, sym, ap, ◌∙◌, arith, length-drop, length-take-le, rules}
+use Rattle.notice.specs.Field.{printable}
+use Rattle.notice.proofs.Names.{by_bytes}
+use Rattle.notice.proofs.Keys.{key_start, right_key_lem, wrong_key}
+use Rattle.notice.proofs.order.long_key.Goals as goal
+
+abbrev name : (c : goal.After-words_right) → List ℕ
+name c = let a = c.before.before.before.args in take a.n (drop a.at a.notice.now)
+
+name_length : (c : goal.After-words_right) → length (name c) ≡ c.before.before.before.args.n
+name_length c =
+    let a = c.before.before.before.args in
+    length-take-le a.n (drop a.at a.notice.now) (simp length-drop (omega (arith, c.before.before.before.requires)))
+
+judged : (c : goal.After-words_right) → c.words_right.result ≡ printable (name c)
+judged c =
+    let a = c.before.before.before.args in
+    let z : a.at + a.n - a.at ≡ a.n = omega arith in
+    c.words_right.ensures ∙ ap (λ (k : ℕ). printable (take k (drop a.at a.notice.now))) z
+
+pub returns-then-words_right : goal.returns-then-words_right
+returns-then-words_right c =
+    let a = c.args in
+    let p = c.requires in
+    right_key_lem (name c) _ (λ z. omega (arith, p, name_length c)) (omega (arith, p, name_length c)) (sym (judged c) ∙ c.if-words_right.true) (c.eight.ensures ∙ key_start a.n a.at a.notice.now p.0)
+
+pub returns : goal.returns
+returns c =
+    let p = c.requires in
+    wrong_key (name c) (sym c.if-words_right.false ∙ (judged c ∙ by_bytes (name c) (λ z. omega (arith, p, name_length c)) (omega (arith, p, name_length c))))

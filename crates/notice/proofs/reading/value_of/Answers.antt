@@ -1,0 +1,5 @@
+use Rattle.std.proofs.Common.{◌∙◌, rules}
+use Rattle.notice.proofs.reading.value_of.Goals as goal
+
+pub returns : goal.returns
+returns c = c.part.ensures ∙ c.locate-p.ensures.value_is

@@ -1,0 +1,14 @@
+use Rattle.std.proofs.Common.{◌≡◌, ℕ, ◌+◌, ◌-◌, ◌≤◌, true, false, length, take, drop, sym, ap, ◌∙◌, ap₂, arith, rules}
+use Rattle.octets.specs.Octets.{before_of}
+use Rattle.octets.proofs.Theorems.{not_folded}
+use Rattle.notice.specs.Layout.{name_size_at, name_at, starts_from}
+use Rattle.notice.specs.Write.{place_in, place_for}
+use Rattle.notice.proofs.Places.{Lies, lies_true}
+use Rattle.notice.proofs.Walks.{from_header, starts_end, here, further, no_further}
+use Rattle.notice.proofs.writing.place_for.Given as goal
+
+abbrev pub invariant-loop-left : goal.invariant-loop-left
+invariant-loop-left l = (l.at ≤ length l.notice) × (place_in l.notice l.name (starts_from l.left l.notice l.at) ≡ place_for l.notice l.name)
+
+abbrev pub decreases-loop-left : goal.decreases-loop-left
+decreases-loop-left l = l.left

@@ -1,0 +1,13 @@
+use Rattle.std.proofs.Common.{w32, rules}
+use Rattle.number.proofs.Shifts.{left_is, right_is, right_zero_is}
+use Rattle.number.proofs.bits.shift_i32.Goals as goal
+
+pub returns-in-Left : goal.returns-in-Left
+returns-in-Left c = left_is w32 c.args.a c.ranges.a c.args.k c.enum_told-1.given.1
+
+pub returns-in-Right : goal.returns-in-Right
+returns-in-Right c = right_is w32 c.args.a c.ranges.a c.args.k c.enum_told-in-Right-1.given.1
+
+pub returns-in-RightZero : goal.returns-in-RightZero
+returns-in-RightZero c =
+    right_zero_is w32 c.args.a c.ranges.a c.args.k c.enum_told-in-RightZero-1.given.1 _ _ c.bits_of_i32.ensures c.i32_of_bits.ensures (record { sfits = c.i32_of_bits.type_inv })

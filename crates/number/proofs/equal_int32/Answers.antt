@@ -1,0 +1,17 @@
+use Rattle.std.proofs.Common.{refl, ◌∙◌, rules}
+use lib.Ieee.{eq}
+use Rattle.number.specs.declared.Number.TheVariants.{Int32}
+use Rattle.number.proofs.Integers.{wide_fits}
+use Rattle.number.proofs.Numbers.{two_int32}
+use Rattle.number.proofs.equal_int32.Goals as goal
+
+pub overflow_cast-x : goal.overflow_cast-x
+overflow_cast-x c = wide_fits c.args.x c.ranges.x
+
+pub overflow_cast-y : goal.overflow_cast-y
+overflow_cast-y c = wide_fits c.args.y c.ranges.y
+
+pub returns : goal.returns
+returns c =
+    let s : tie.Start = search in let x = s.args.x in let y = s.args.y in
+    c.of_bool.ensures ∙ two_int32 eq (Int32 x) (Int32 y) refl x y s.fits.x s.fits.y refl refl c.equal_i64.ensures

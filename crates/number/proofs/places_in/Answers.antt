@@ -1,0 +1,10 @@
+use Rattle.number.proofs.Numbers.{first_count, second_count}
+use Rattle.std.proofs.Common.{rules}
+use Rattle.number.proofs.places_in.Goals as goal
+
+pub returns-in-First : goal.returns-in-First
+returns-in-First c = first_count c.args.edition c.args.width c.args.b _ c.enum_told-1.given.1 c.places.ensures
+
+pub returns-in-Second : goal.returns-in-Second
+returns-in-Second c =
+    second_count c.args.edition c.args.width c.args.b _ c.enum_told-in-Second-1.given.1 c.remainder_places.ensures

@@ -1,0 +1,41 @@
+use native.Mathlib.Omega.{arith}
+use Rattle.octets.specs.Octets.{fold}
+use Rattle.octets.proofs.Laws.{rest}
+use Rattle.octets.proofs.Places.{empty_held, no_place}
+use borrow.Author.Rules.{rules}
+use Rattle.octets.proofs.searching.marked.Reads as marked-reads
+use Rattle.octets.proofs.searching.plain.Reads as plain-reads
+use Rattle.octets.proofs.contains.Goals as goal
+
+pub returns-then-p-eq0 : goal.returns-then-p-eq0
+returns-then-p-eq0 c =
+    let a = c.args in
+    empty_held (fold a.s-mark) (fold a.p-mark) a.s.now a.p.now c.if-p-eq0.true
+
+pub returns-then-s-p : goal.returns-then-s-p
+returns-then-s-p c =
+    let a = c.args in
+    no_place (fold a.s-mark) (fold a.p-mark) a.s.now a.p.now 0 (omega arith) (omega arith)
+
+pub marked-requires : goal.marked-requires
+marked-requires c =
+    let a = c.args in
+    rw (rest a.s.now 0, rest a.p.now 0) (omega arith, omega arith)
+
+pub returns-then-s_mark : goal.returns-then-s_mark
+returns-then-s_mark c =
+    let a = c.args in
+    rw c.if-s_mark.true (rw (rest a.s.now 0, rest a.p.now 0) at c.marked.ensures)
+
+pub marked-requires-then-p_mark : goal.marked-requires-then-p_mark
+marked-requires-then-p_mark c =
+    let a = c.args in
+    rw (rest a.s.now 0, rest a.p.now 0) (omega arith, omega arith)
+
+pub returns-then-p_mark : goal.returns-then-p_mark
+returns-then-p_mark c =
+    let a = c.args in
+    rw (c.if-s_mark.false, c.if-p_mark.true) (rw (rest a.s.now 0, rest a.p.now 0) at c.marked-then-p_mark.ensures)
+
+pub returns : goal.returns
+returns c = rw (c.if-s_mark.false, c.if-p_mark.false) c.plain.ensures

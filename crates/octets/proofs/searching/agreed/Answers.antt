@@ -1,0 +1,46 @@
+use Prim.Native.Nat.{◌+◌, ◌-◌, ◌≤◌}
+use mathlib.Core.Path.{◌≡◌, sym, ◌∙◌}
+use native.Mathlib.Omega.{arith}
+use lib.ListN.{length, drop}
+use borrow.Author.Tests.{eq-eqb, ne_eqb}
+use Rattle.octets.specs.Octets.{fold, folded, begins_of}
+use Rattle.octets.proofs.Places.{begins_from, begins_more, begins_stop, begins_end}
+use borrow.Author.Rules.{rules}
+use Rattle.octets.proofs.fold.Reads as fold-reads
+use Rattle.octets.proofs.searching.agreed.Goals as goal
+
+pub loop-j-init : goal.loop-j-init
+loop-j-init c =
+    let a = c.args in (
+      omega arith,
+      omega arith,
+      begins_more (fold a.s-mark) (fold a.p-mark) a.s.now a.p.now a.at 0 (omega arith) (omega arith) c.requires.2,
+    )
+
+pub returns-then-fold : goal.returns-then-fold
+returns-then-fold c =
+    let l = c.loop-j in
+    let a = c.args in
+    ne_eqb l.j (length a.p.now) (λ e. omega arith)
+    ∙ sym (begins_stop (fold a.s-mark) (fold a.p-mark) a.s.now a.p.now (a.at + l.j) l.j (omega arith) (omega arith)
+    (λ e. c.if-fold.true (c.fold.ensures ∙ e ∙ sym c.fold-in-loop-j.ensures)))
+    ∙ l.invariant.2
+
+pub loop-j-preserved : goal.loop-j-preserved
+loop-j-preserved c =
+    let l = c.loop-j in
+    let a = c.args in
+    let e : a.at + (l.j + 1) ≡ a.at + l.j + 1 = omega arith in (
+      omega arith,
+      omega arith,
+      rw e
+          (begins_more (fold a.s-mark) (fold a.p-mark) a.s.now a.p.now (a.at + l.j) l.j (omega arith) (omega arith)
+          (sym c.fold.ensures ∙ c.if-fold.false ∙ c.fold-in-loop-j.ensures) ∙ l.invariant.2),
+    )
+
+pub returns : goal.returns
+returns c =
+    let l = c.loop-j in
+    let a = c.args in
+    eq-eqb l.j (length a.p.now) (omega arith)
+    ∙ sym (begins_end (fold a.s-mark) (fold a.p-mark) a.s.now a.p.now (a.at + l.j) l.j (omega arith)) ∙ l.invariant.2

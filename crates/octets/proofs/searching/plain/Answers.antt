@@ -1,0 +1,76 @@
+use Prim.Native.Nat.{◌+◌, ◌-◌, ◌≤◌}
+use mathlib.Core.Path.{◌≡◌, refl, sym, ◌∙◌}
+use mathlib.Core.Bool.{false}
+use mathlib.Core.List.{map}
+use native.Mathlib.Omega.{arith}
+use lib.Dec.{eqb, leb}
+use lib.ListN.{length, drop}
+use Rattle.octets.specs.Octets.{fold, folded, contains_of}
+use Rattle.octets.proofs.Laws.{rest, found, passed}
+use Rattle.octets.proofs.Places.{other_first, no_place}
+use Rattle.octets.proofs.Theorems.{and_parts}
+use borrow.Author.Tests.{eq-eqb, ne_eqb, leb-true}
+use borrow.Author.Rules.{rules}
+use Rattle.octets.proofs.searching.agreed.Reads as agreed-reads
+use Rattle.octets.proofs.searching.by_borders.Reads as by-borders-reads
+use Rattle.octets.proofs.searching.left.Reads as left-reads
+use Rattle.octets.proofs.searching.plain.Goals as goal
+
+pub overflow_add-credit : goal.overflow_add-credit
+overflow_add-credit c = omega arith
+
+pub loop-i-init : goal.loop-i-init
+loop-i-init c = (omega arith, refl)
+
+pub loop-i-preserved-then-s-i : goal.loop-i-preserved-then-s-i
+loop-i-preserved-then-s-i c =
+    let l = c.loop-i in
+    let a = c.args in (
+      omega arith,
+      other_first (fold false) (fold false) a.s.now a.p.now l.i (omega arith) (omega arith)
+          c.if-s-i.true ∙ l.invariant.1,
+    )
+
+pub agreed-j-requires : goal.agreed-j-requires
+agreed-j-requires c =
+    let l = c.loop-i in
+    let a = c.args in (
+      omega arith,
+      omega arith,
+      c.if-s-i.false,
+    )
+
+pub returns-then-j-p : goal.returns-then-j-p
+returns-then-j-p c =
+    let l = c.loop-i in
+    let a = c.args in
+    found (fold false) a.s.now (folded false a.p.now) l.i (omega arith)
+    (sym c.agreed-j.ensures ∙ eq-eqb c.agreed-j.result (length a.p.now) c.if-j-p.true) ∙ l.invariant.1
+
+pub by_borders-requires : goal.by_borders-requires
+by_borders-requires c =
+    let l = c.loop-i in
+    let a = c.args in
+    let h = and_parts (eqb c.left-credit.result 0) (leb (length a.p.now) 4096) c.if-credit-p.true in
+    rw (rest a.p.now 0) (omega arith, leb-true (length a.p.now) 4096 h.1)
+
+pub returns-then-credit-p : goal.returns-then-credit-p
+returns-then-credit-p c =
+    let l = c.loop-i in
+    let a = c.args in
+    (rw (rest a.s.now l.i, rest a.p.now 0) at c.by_borders.ensures) ∙ l.invariant.1
+
+pub loop-i-preserved : goal.loop-i-preserved
+loop-i-preserved c =
+    let l = c.loop-i in
+    let a = c.args in (
+      omega arith,
+      passed (fold false) a.s.now (folded false a.p.now) l.i (omega arith)
+          (sym c.agreed-j.ensures ∙ ne_eqb c.agreed-j.result (length a.p.now) c.if-j-p.false) ∙ l.invariant.1,
+    )
+
+pub returns : goal.returns
+returns c =
+    let l = c.loop-i in
+    let a = c.args in
+    no_place (fold false) (fold false) a.s.now a.p.now l.i (omega arith) (omega arith) ∙ l.invariant.1

@@ -1,0 +1,13 @@
+-- `words::same_words` meets its contract: the bytes before i are the same, and the last eight are. Assumes nothing.
+use mathlib.Core.Path.{◌≡◌, refl, sym, ◌∙◌}
+use Prim.Native.Nat.{◌+◌, ◌-◌, ◌≤◌}
+use native.Mathlib.Omega.{arith}
+use lib.ListN.{length, take}
+use Rattle.octets.proofs.Sames.{other_word, next_word, last_word}
+use Rattle.octets.proofs.words.same_words.Given as goal
+
+abbrev pub invariant-loop-i : goal.invariant-loop-i
+invariant-loop-i l = (l.i ≤ l.last + 7) × (take l.i l.s ≡ take l.i l.t)
+
+abbrev pub decreases-loop-i : goal.decreases-loop-i
+decreases-loop-i l = l.last - l.i

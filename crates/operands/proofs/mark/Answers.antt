@@ -1,0 +1,29 @@
+use borrow.Author.Rules.{rules}
+use Prim.Native.Nat.{◌-◌}
+use native.Mathlib.Omega.{arith}
+use lib.ListN.{length, length-set}
+use Rattle.operands.proofs.Marks.{Marking, marking_starts, marking_on, marking_past, marking_ends, asking_ends}
+use Rattle.operands.proofs.called.Reads as called-reads
+use Rattle.operands.proofs.literal.takes_patterns.Reads as takes-patterns-reads
+use Rattle.operands.proofs.mark_at.Reads as mark-at-reads
+use Rattle.operands.proofs.mark.Goals as goal
+
+pub loop-i-init : goal.loop-i-init
+loop-i-init c = marking_starts _ _ _
+
+pub loop-i-preserved-then-m-lt-CALLING : goal.loop-i-preserved-then-m-lt-CALLING
+loop-i-preserved-then-m-lt-CALLING c = marking_past c.loop-i.invariant c.loop-i-test.true c.mark_at-m.ensures c.if-m-lt-CALLING.true
+
+pub loop-i-smaller : goal.loop-i-smaller
+loop-i-smaller c = simp length-set (omega (arith, c.loop-i-test.true))
+
+pub loop-i-preserved : goal.loop-i-preserved
+loop-i-preserved c =
+    marking_on c.loop-i.invariant c.loop-i-test.true c.mark_at-m.ensures c.called.ensures c.takes_patterns-asks.ensures
+
+pub shape_of-kinds : goal.shape_of-kinds
+shape_of-kinds c = c.loop-i.invariant.long
+
+pub returns : goal.returns
+returns c =
+    (asking_ends c.loop-i.invariant c.loop-i-test.false, marking_ends c.loop-i.invariant c.loop-i-test.false)

@@ -1,0 +1,9 @@
+use mathlib.Core.Path.{sym, ◌∙◌}
+use borrow.Author.Rules.{rules}
+use Rattle.postfix.proofs.mark.after.Goals as goal
+
+pub returns-then-broken : goal.returns-then-broken
+returns-then-broken c = rw (sym c.broken.ensures ∙ c.if-broken.true)
+
+pub returns : goal.returns
+returns c = rw (sym c.broken.ensures ∙ c.if-broken.false, ← c.next.ensures.0) c.kind.ensures

@@ -1,0 +1,7 @@
+use mathlib.Core.Path.{◌∙◌}
+use borrow.Author.Rules.{rules}
+use Rattle.postfix.proofs.part.group_known.Goals as goal
+
+pub returns : goal.returns
+returns c =
+    (c.knowing.ensures.0 ∙ rw (c.logic.ensures, c.forms.ensures, c.kinds.ensures, c.depth.ensures.0), c.knowing.ensures.1)

@@ -1,0 +1,12 @@
+use mathlib.Core.Path.{◌≡◌, refl, ap, ◌∙◌}
+use native.Mathlib.Omega.{arith}
+use lib.ListN.{length}
+use borrow.Author.Rules.{rules}
+use Rattle.postfix.proofs.Prefixes.{unary_length, Wrapping, wrapped_one}
+use Rattle.postfix.proofs.part.prefixed.Given as goal
+
+abbrev pub invariant-loop-n : goal.invariant-loop-n
+invariant-loop-n l = Wrapping l.marks l.at l.first l.inner l.initial.codes l.codes l.x l.n
+
+abbrev pub decreases-loop-n : goal.decreases-loop-n
+decreases-loop-n l = l.n

@@ -1,0 +1,7 @@
+use mathlib.Core.Path.{◌∙◌}
+use borrow.Author.Rules.{rules}
+use Rattle.postfix.proofs.part.unary_known.Goals as goal
+
+pub returns : goal.returns
+returns c =
+    (c.knowing.ensures.0 ∙ rw (c.gives_logic.ensures, c.forms.ensures, c.kinds.ensures, c.operand_right.ensures, c.logic.ensures, c.depth.ensures.0), c.knowing.ensures.1)

@@ -1,0 +1,25 @@
+-- `judging::staff` meets its contract: what the lookup finds is the field Staff. Assumes nothing.
+use mathlib.Core.Path.{sym, ◌∙◌}
+use native.Mathlib.Omega.{arith}
+use borrow.Author.Rules.{rules}
+use Rattle.quorum.proofs.Staff.{staff_none, staff_lies, staff_found, staff_wrong}
+use Rattle.quorum.proofs.judging.staff.Goals as goal
+
+-- ? slice-bounds-result-end-2
+-- part_result_end_2 c =
+--     let g = c.before.before.found.given in
+--     let l = staff_lies c.before.before.before.before.before.before.before.args.notice.now g.0.0 g.0.1.0 g.0.1.1.0 (sym c.before.before.before.before.lookup-along.ensures ∙ g.1) in
+--     omega arith
+
+pub returns-then-kind-len : goal.returns-then-kind-len
+returns-then-kind-len c =
+    let g = c.found-1.given in
+    staff_found c.args.notice.now g.0.0 g.0.1.0 g.0.1.1.0 (sym c.lookup_along-found.ensures ∙ g.1) c.if-kind-len.true
+
+pub returns-in-Nothing : goal.returns-in-Nothing
+returns-in-Nothing c = staff_none c.args.notice.now (sym c.lookup_along-found.ensures ∙ c.enum_told-1.given.1)
+
+pub returns-else-kind-len : goal.returns-else-kind-len
+returns-else-kind-len c =
+    let g = c.found-1.given in
+    staff_wrong c.args.notice.now g.0.0 g.0.1.0 g.0.1.1.0 (sym c.lookup_along-found.ensures ∙ g.1) c.if-kind-len.false

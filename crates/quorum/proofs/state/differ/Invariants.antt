@@ -1,0 +1,15 @@
+-- `state::differ` meets its contract: the values from i on are all different exactly if all are. Assumes nothing.
+use mathlib.Core.Path.{◌≡◌, ap, ◌∙◌}
+use mathlib.Core.List.{List}
+use Prim.Native.Nat.{ℕ, ◌+◌, ◌-◌, ◌≤◌}
+use native.Mathlib.Omega.{arith}
+use borrow.Author.Rules.{rules}
+use Rattle.quorum.proofs.Reading.{size_at_lem, twice, once, differ_end}
+use Rattle.quorum.specs.Decision.{has, different, value_at, values_from}
+use Rattle.quorum.proofs.state.differ.Given as goal
+
+abbrev pub invariant-loop-i : goal.invariant-loop-i
+invariant-loop-i l = (l.i ≤ l.n) × (different (values_from l.buffer l.i (l.n - l.i)) ≡ different (values_from l.buffer 0 l.n))
+
+abbrev pub decreases-loop-i : goal.decreases-loop-i
+decreases-loop-i l = l.n - l.i

@@ -1,0 +1,20 @@
+use native.Mathlib.Omega.{arith}
+use Rattle.octets.specs.Octets.{folded}
+use Rattle.regexp.proofs.Loops.{regex_long}
+use borrow.Author.Rules.{rules}
+use Rattle.regexp.proofs.search_short.Reads as search-short-reads
+use Rattle.regexp.proofs.search_middle.Reads as search-middle-reads
+use Rattle.regexp.proofs.search_long.Reads as search-long-reads
+use Rattle.regexp.proofs.fits_plain.Goals as goal
+
+pub returns-then-p-le32 : goal.returns-then-p-le32
+returns-then-p-le32 c = c.search_short.ensures
+
+pub returns-then-p-le256 : goal.returns-then-p-le256
+returns-then-p-le256 c = c.search_middle.ensures
+
+pub returns-then-p-le4096 : goal.returns-then-p-le4096
+returns-then-p-le4096 c = c.search_long.ensures
+
+pub returns : goal.returns
+returns c = regex_long (folded c.args.s-mark c.args.s.now) c.args.p.now (omega arith)

@@ -1,0 +1,21 @@
+use mathlib.Core.Path.{◌≡◌, refl, sym, ap, ◌∙◌}
+use mathlib.Core.List.{[]}
+use Rattle.regexp.proofs.Loops.{from_inside, table_turn, table_bad}
+use borrow.Author.Rules.{rules}
+use Rattle.regexp.proofs.hat.Reads as hat-reads
+use Rattle.regexp.proofs.past.Reads as past-reads
+use Rattle.regexp.proofs.branch.Reads as branch-reads
+use Rattle.regexp.proofs.behind.Reads as behind-reads
+use Rattle.regexp.proofs.next_branch.Goals as goal
+
+pub branch-n-requires : goal.branch-n-requires
+branch-n-requires c =
+    let a = c.args in (rw c.past.ensures (from_inside a.text.now a.i a.first c.requires.0), c.requires.1, c.requires.2, c.requires.3)
+
+pub returns-in_Branch-n : goal.returns-in_Branch-n
+returns-in_Branch-n c =
+    let a = c.args in table_turn a.text.now a.i a.first c.hat-h.result c.hat-h.ensures c.past.result c.past.ensures _ _ c.n-1.given.0.0 c.n-1.given.0.1.0 c.n-1.given.0.1.1.0 (rw c.n-1.given.1 at c.branch-n.ensures) c.behind.result c.behind.ensures
+
+pub returns-in_Bad-n : goal.returns-in_Bad-n
+returns-in_Bad-n c =
+    let a = c.args in table_bad a.text.now a.i a.first c.hat-h.result c.hat-h.ensures c.past.result c.past.ensures [] [] (rw c.enum_told-1.given.1 at c.branch-n.ensures)

@@ -1,0 +1,19 @@
+use mathlib.Core.Path.{◌≡◌, refl, sym, ap, ◌∙◌}
+use Rattle.regexp.proofs.Loops.{from_inside, turn, turn_bad}
+use borrow.Author.Rules.{rules}
+use Rattle.regexp.proofs.hat.Reads as hat-reads
+use Rattle.regexp.proofs.past.Reads as past-reads
+use Rattle.regexp.proofs.branch_end.Reads as branch-end-reads
+use Rattle.regexp.proofs.behind.Reads as behind-reads
+use Rattle.regexp.proofs.next_end.Goals as goal
+
+pub branch_end-requires : goal.branch_end-requires
+branch_end-requires c = let a = c.args in rw c.past.ensures (from_inside a.text.now a.i a.first c.requires)
+
+pub returns-in-Branch : goal.returns-in-Branch
+returns-in-Branch c =
+    let a = c.args in turn a.text.now a.i a.first c.hat-h.result c.hat-h.ensures c.past.result c.past.ensures c.n-1.given.0.0 c.n-1.given.0.1.0 c.n-1.given.0.1.1.0 (rw c.n-1.given.1 at c.branch_end.ensures) c.behind.result c.behind.ensures
+
+pub returns-in-Bad : goal.returns-in-Bad
+returns-in-Bad c =
+    let a = c.args in turn_bad a.text.now a.i a.first c.hat-h.result c.hat-h.ensures c.past.result c.past.ensures (rw c.enum_told-1.given.1 at c.branch_end.ensures)

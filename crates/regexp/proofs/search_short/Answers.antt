@@ -1,0 +1,13 @@
+use native.Mathlib.Omega.{arith}
+use Rattle.octets.specs.Octets.{folded}
+use Rattle.regexp.proofs.Loops.{regex_short}
+use borrow.Author.Rules.{rules}
+use Rattle.regexp.proofs.search.Reads as search-reads
+use Rattle.regexp.proofs.search_short.Goals as goal
+
+pub search-requires : goal.search-requires
+search-requires c = (omega (arith, c.requires), c.requires, c.requires, c.requires)
+
+pub returns : goal.returns
+returns c =
+    regex_short (folded c.args.s-mark c.args.s.now) c.args.p.now (omega (arith, c.requires)) _ c.search.ensures

@@ -1,0 +1,6 @@
+use borrow.Author.Rules.{rules}
+use Rattle.table.proofs.in_range.Reads as in-range-reads
+use Rattle.table.proofs.int32_right.Goals as goal
+
+pub returns : goal.returns
+returns c = rw c.in_range.ensures

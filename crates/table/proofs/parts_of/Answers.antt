@@ -1,0 +1,36 @@
+use mathlib.Core.Path.{◌≡◌, sym, ◌∙◌}
+use mathlib.Core.Bool.{true}
+use native.Mathlib.Omega.{arith}
+use borrow.Author.Tests.{not-true, not-false}
+use Rattle.table.specs.Check.{check_of}
+use Rattle.table.proofs.Laid.{laid}
+use Rattle.table.proofs.Theorems.{checked_layout}
+use Rattle.table.proofs.Parts.{parts_unchecked, parts_past, parts_there}
+use borrow.Author.Rules.{rules}
+use Rattle.table.proofs.check.Reads as check-reads
+use Rattle.table.proofs.count.Reads as count-reads
+use Rattle.table.proofs.no_parts.Reads as no-parts-reads
+use Rattle.table.proofs.parts_at.Reads as parts-at-reads
+use Rattle.table.proofs.parts_of.Goals as goal
+
+-- behind the first test the table has passed
+checked : (c : goal.Else-not-check) → check_of c.before.before.before.args.table.now ≡ true
+checked c = sym c.before.check.ensures ∙ not-false _ c.if1.false
+
+pub returns-then-not-check : goal.returns-then-not-check
+returns-then-not-check c =
+    let a = c.args in c.no_parts.ensures ∙ sym (parts_unchecked a.table.now a.k (sym c.check.ensures ∙ not-true _ c.if-not-check.true))
+
+pub count-requires : goal.count-requires
+count-requires c = let t = c.args.table.now in (laid t (checked_layout t (checked c))).head
+
+pub returns-then-count-k : goal.returns-then-count-k
+returns-then-count-k c =
+    let a = c.args in c.no_parts-then-count-k.ensures ∙ sym (parts_past a.table.now a.k (checked c) (omega (arith, c.count.ensures.0)))
+
+pub parts_at-requires : goal.parts_at-requires
+parts_at-requires c = (checked c, omega (arith, c.count.ensures.0))
+
+pub returns : goal.returns
+returns c =
+    let a = c.args in c.parts_at.ensures ∙ sym (parts_there a.table.now a.k (checked c) (omega (arith, c.count.ensures.0)))

@@ -1,0 +1,25 @@
+use Prim.Native.Nat.{◌≤◌, ◌-◌}
+use native.Mathlib.Omega.{arith}
+use Rattle.table.proofs.Laid.{laid, inside}
+use Rattle.table.proofs.Theorems.{checked_layout}
+use borrow.Author.Rules.{rules}
+use Rattle.cases.proofs.print_hex.Reads as print-hex-reads
+use Rattle.table.proofs.count.Reads as count-reads
+use Rattle.table.proofs.pool.Reads as pool-reads
+use Rattle.table_test.proofs.put_entry.Reads as put-entry-reads
+use Rattle.table_test.proofs.put_table.Goals as goal
+
+pub count-n-requires : goal.count-n-requires
+count-n-requires c = (laid c.args.table.now (checked_layout c.args.table.now c.requires)).head
+
+pub loop-i-init : goal.loop-i-init
+loop-i-init c = omega arith
+
+pub put_entry-requires : goal.put_entry-requires
+put_entry-requires c =
+    inside c.args.table.now (checked_layout c.args.table.now c.requires) c.loop-i.i (omega (arith, c.count-n.ensures.0))
+
+pub pool-requires : goal.pool-requires
+pool-requires c =
+    let l = laid c.args.table.now (checked_layout c.args.table.now c.requires) in
+    (l.head, omega arith)

@@ -1,0 +1,10 @@
+use native.Mathlib.Omega.{arith}
+use Rattle.translator.proofs.Making.{entry_written}
+use borrow.Author.Rules.{rules}
+use Rattle.word.proofs.write_u16.Reads as write-u16-reads
+use Rattle.word.proofs.write_u64.Reads as write-u64-reads
+use Rattle.translator.proofs.entry.put_entry.Goals as goal
+
+pub returns : goal.returns
+returns c =
+    entry_written c.args.part.now c.write_u16.new.0 c.write_u16-2.new.0 c.write_u64.new.0 c.args.e c.requires c.write_u16.ensures c.write_u16-2.ensures c.write_u64.ensures

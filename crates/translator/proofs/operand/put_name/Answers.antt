@@ -1,0 +1,22 @@
+use Prim.Native.Nat.{ℕ, ◌+◌, ◌-◌, ◌*◌, ◌≤◌, ◌<◌}
+use native.Mathlib.Omega.{arith}
+use mathlib.Core.Path.{◌≡◌, refl, sym, ap, ◌∙◌, subst}
+use lib.Seq.{sets}
+use Rattle.lexer.specs.Token.{name_at}
+use Rattle.translator.proofs.Stores.{rest_put}
+use borrow.Author.Rules.{rules}
+use Rattle.lexer.proofs.copy_name.Reads as copy-name-reads
+use Rattle.translator.proofs.operand.copy.Reads as copy-reads
+use Rattle.translator.proofs.operand.is_plain_name.Reads as is-plain-name-reads
+use Rattle.translator.proofs.operand.put_name.Goals as goal
+
+pub copy-requires : goal.copy-requires
+copy-requires c = ((c.is_plain_name.ensures c.if-is_plain_name.true c.requires.2).0, c.requires.3)
+
+pub returns-then-is_plain_name : goal.returns-then-is_plain_name
+returns-then-is_plain_name c =
+    c.copy.ensures ∙ ap (sets c.args.out.now c.args.at) (c.is_plain_name.ensures c.if-is_plain_name.true c.requires.2).1
+
+pub returns : goal.returns
+returns c =
+    rest_put c.args.out.now _ (name_at c.args.text.now c.args.place) c.args.at (omega (arith, c.requires.3)) c.copy_name.ensures.1

@@ -1,0 +1,10 @@
+use mathlib.Core.Path.{◌≡◌, refl, sym, ap, ◌∙◌, subst}
+use Rattle.operands.proofs.Theorems.{none_asked}
+use borrow.Author.Rules.{rules}
+use Rattle.operands.proofs.patterns.Reads as patterns-reads
+use Rattle.translator.proofs.read.patterns_right.Goals as goal
+
+pub returns-else-asked : goal.returns-else-asked
+returns-else-asked c =
+    let a = c.args in
+    sym (none_asked a.text.now a.marks.now a.starts.now (sym c.requires.2 ∙ c.if-asked.false))

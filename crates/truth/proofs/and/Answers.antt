@@ -1,0 +1,8 @@
+use mathlib.Core.Path.{sym, ◌∙◌}
+use Rattle.truth.proofs.Order.{and_lesser}
+use borrow.Author.Rules.{rules}
+use Rattle.truth.proofs.lesser.Reads as lesser-reads
+use Rattle.truth.proofs.and.Goals as goal
+
+pub returns : goal.returns
+returns c = c.lesser.ensures ∙ sym (and_lesser c.args.x c.args.y)

@@ -1,0 +1,16 @@
+use mathlib.Core.Path.{◌≡◌, refl, ◌∙◌}
+use Prim.Native.Nat.{◌+◌, ◌-◌, ◌≤◌}
+use native.Mathlib.Omega.{arith}
+use lib.ListN.{length, drop}
+use lib.Seq.{sets}
+use Rattle.ubf.specs.Escape.{escapes}
+use Rattle.ubf.proofs.Laws.{rest_escapes, no_escapes, escaped_one, escaped_end}
+use borrow.Author.Rules.{rules}
+use Rattle.ubf.proofs.put.put_escape.Reads as put-escape-reads
+use Rattle.ubf.proofs.put.put_escaped.Given as goal
+
+abbrev pub invariant-loop-i : goal.invariant-loop-i
+invariant-loop-i l = (l.i ≤ length l.s) × (length l.out ≡ length l.initial.out) × (l.p + length (escapes 34 (drop l.i l.s)) ≡ l.at + length (escapes 34 l.s)) × (sets l.out l.p (escapes 34 (drop l.i l.s)) ≡ sets l.initial.out l.at (escapes 34 l.s))
+
+abbrev pub decreases-loop-i : goal.decreases-loop-i
+decreases-loop-i l = length l.s - l.i

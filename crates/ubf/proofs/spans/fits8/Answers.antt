@@ -1,0 +1,7 @@
+use Rattle.ubf.proofs.spans.fits8.Goals as goal
+
+pub returns-then-negative : goal.returns-then-negative
+returns-then-negative c = rw c.if-negative.true
+
+pub returns : goal.returns
+returns c = rw c.if-negative.false

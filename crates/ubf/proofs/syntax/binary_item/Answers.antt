@@ -1,0 +1,22 @@
+use Rattle.ubf.proofs.Items.{binary_none, binary-unclosed, binary-past}
+use borrow.Author.Rules.{rules}
+use Rattle.ubf.proofs.scanning.binary_end.Reads as binary-end-reads
+use Rattle.ubf.proofs.syntax.past.Reads as past-reads
+use Rattle.ubf.proofs.syntax.binary_item.Goals as goal
+
+pub returns-then-p : goal.returns-then-p
+returns-then-p c =
+    let a = c.args in
+    rw c.past.ensures (binary_none a.text.now a.p c.requires.0 c.requires.1 c.if-p.true)
+
+pub returns-then-end-text : goal.returns-then-end-text
+returns-then-end-text c =
+    let a = c.args in
+    let e = c.binary_end-end in
+    rw c.past-then-end-text.ensures (binary-unclosed a.text.now a.p c.requires.0 c.requires.1 c.if-p.false e.result e.ensures c.if-end-text.true)
+
+pub returns : goal.returns
+returns c =
+    let a = c.args in
+    let e = c.binary_end-end in
+    rw c.past-2.ensures (binary-past a.text.now a.p c.requires.0 c.requires.1 c.if-p.false e.result e.ensures c.if-end-text.false)

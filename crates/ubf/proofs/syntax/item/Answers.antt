@@ -1,0 +1,16 @@
+use mathlib.Core.Path.{refl}
+use Rattle.ubf.proofs.Items.{mark_there}
+use borrow.Author.Rules.{rules}
+use Rattle.ubf.proofs.scanning.is_digit.Reads as is-digit-reads
+use Rattle.ubf.proofs.syntax.binary_item.Reads as binary-item-reads
+use Rattle.ubf.proofs.syntax.integer_item.Reads as integer-item-reads
+use Rattle.ubf.proofs.syntax.mark_item.Reads as mark-item-reads
+use Rattle.ubf.proofs.syntax.quoted_item.Reads as quoted-item-reads
+use Rattle.ubf.proofs.syntax.item.Goals as goal
+
+pub integer_item-requires : goal.integer_item-requires
+integer_item-requires c = (c.requires.0, rw c.is_digit.ensures at c.if-is_digit-b.true)
+
+pub mark_item-requires : goal.mark_item-requires
+mark_item-requires c =
+    (c.requires.0, refl, mark_there _ c.requires.1 c.if-b.false (rw c.is_digit.ensures at c.if-is_digit-b.false) c.if-b-eq126.false c.requires.2, c.requires.3)

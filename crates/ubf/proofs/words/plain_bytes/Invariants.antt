@@ -1,0 +1,15 @@
+use mathlib.Core.Path.{sym, ◌∙◌}
+use Prim.Native.Nat.{◌-◌, ◌≤◌}
+use native.Mathlib.Omega.{arith}
+use lib.ListN.{length}
+use Rattle.ubf.specs.Escape.{Plain}
+use Rattle.ubf.proofs.Plains.{plain_none, plain_one}
+use borrow.Author.Rules.{rules}
+use Rattle.ubf.proofs.words.needs_escape.Reads as needs-escape-reads
+use Rattle.ubf.proofs.words.plain_bytes.Given as goal
+
+abbrev pub invariant-loop-i : goal.invariant-loop-i
+invariant-loop-i l = (l.at ≤ l.i) × (l.i ≤ length l.s) × Plain l.s l.q l.at l.i
+
+abbrev pub decreases-loop-i : goal.decreases-loop-i
+decreases-loop-i l = length l.s - l.i

@@ -1,0 +1,13 @@
+use Prim.Native.Nat.{◌+◌, ◌-◌, ◌≤◌}
+use native.Mathlib.Omega.{arith}
+use lib.ListN.{length}
+use Rattle.ubf.specs.Escape.{Plain}
+use Rattle.ubf.proofs.Plains.{plain_none, plain_more}
+use Rattle.ubf.proofs.words.plain_at.Reads as plain-at-reads
+use Rattle.ubf.proofs.words.plain_words.Given as goal
+
+abbrev pub invariant-loop-i : goal.invariant-loop-i
+invariant-loop-i l = (l.at ≤ l.i) × (l.i ≤ length l.s) × Plain l.s l.q l.at l.i
+
+abbrev pub decreases-loop-i : goal.decreases-loop-i
+decreases-loop-i l = length l.s - l.i

@@ -1,0 +1,19 @@
+use native.Mathlib.Omega.{arith}
+use borrow.Author.Rules.{rules}
+use Rattle.utf8.proofs.Strings.{ascii_one, ascii_begins, at_width}
+use Rattle.utf8.proofs.advance.Goals as goal
+
+pub returns-then-ascii : goal.returns-then-ascii
+returns-then-ascii c =
+    let a = c.args in
+    ascii_begins a.s.now a.i 17 (omega arith) (c.ascii.ensures c.if-ascii.true)
+
+pub returns-then-s-i-lt128 : goal.returns-then-s-i-lt128
+returns-then-s-i-lt128 c =
+    let a = c.args in
+    ascii_begins a.s.now a.i 1 (omega arith) (ascii_one a.s.now a.i (omega arith) c.if-s-i-lt128.true)
+
+pub returns : goal.returns
+returns c =
+    let a = c.args in
+    rw c.width.ensures (at_width a.s.now a.i (omega arith))

@@ -1,0 +1,11 @@
+use mathlib.Core.Path.{ap, ◌∙◌}
+use lib.IntN.{ℤ}
+use mir.Syntax.{w64}
+use mir.ValLaws.{to_z-of_z}
+use Rattle.value.specs.Value.{int64, value}
+use borrow.Author.Rules.{rules}
+use Rattle.value.proofs.load_int64.Goals as goal
+
+pub returns : goal.returns
+returns c =
+    λ p q a. c.valued.ensures p q ∙ ap (λ (z : ℤ). value (int64 z)) (to_z-of_z w64 c.i64_of_bits.result (record { sfits = c.i64_of_bits.type_inv }) ∙ c.i64_of_bits.ensures)

@@ -1,0 +1,9 @@
+use mathlib.Core.Path.{ap, ap₂, ◌∙◌}
+use Rattle.value.specs.Value.{value_of, combine_numbers}
+use borrow.Author.Rules.{rules}
+use Rattle.value.proofs.values.combine.Goals as goal
+
+pub returns : goal.returns
+returns c =
+    let s : tie.Start = search in
+    λ p q. c.value_of_lem.ensures p q ∙ ap value_of (c.combine_numbers.ensures ∙ ap₂ (combine_numbers s.args.edition s.args.op) (c.number_of.ensures p q) (c.number_of-2.ensures p q))

@@ -1,0 +1,9 @@
+use mathlib.Core.Path.{ap₂, ◌∙◌}
+use Rattle.number.specs.Number.{order_of}
+use borrow.Author.Rules.{rules}
+use Rattle.value.proofs.values.ordered.Goals as goal
+
+pub returns : goal.returns
+returns c =
+    let s : tie.Start = search in
+    λ p q. c.order.ensures ∙ ap₂ (order_of s.args.op) (c.number_of.ensures p q) (c.number_of-2.ensures p q)

@@ -1,0 +1,15 @@
+use mir.Syntax.{w32}
+use Rattle.word.proofs.Signs.{cast_flip, cast_keep, back_flip, back_keep}
+use Rattle.word.proofs.bits_of_i32.Goals as goal
+
+pub overflow_cast-result : goal.overflow_cast-result
+overflow_cast-result c = cast_flip w32 c.args.x c.ranges.x c.if-x-lt0.true
+
+pub overflow_cast-result-else-x-lt0 : goal.overflow_cast-result-else-x-lt0
+overflow_cast-result-else-x-lt0 c = cast_keep w32 c.args.x c.ranges.x c.if-x-lt0.false
+
+pub returns-then-x-lt0 : goal.returns-then-x-lt0
+returns-then-x-lt0 c = back_flip w32 c.args.x c.ranges.x c.if-x-lt0.true
+
+pub returns-else-x-lt0 : goal.returns-else-x-lt0
+returns-else-x-lt0 c = back_keep w32 c.args.x c.ranges.x c.if-x-lt0.false

@@ -1,0 +1,10 @@
+use native.Mathlib.Omega.{arith}
+use Rattle.word.proofs.Laws.{word_parts}
+use borrow.Author.Rules.{rules}
+use Rattle.word.proofs.read_u32.Reads as read-u32-reads
+use Rattle.word.proofs.read_u64.Goals as goal
+
+pub returns : goal.returns
+returns c =
+    let a = c.args in
+    omega (arith, word_parts 4 4 a.at a.s.now, c.read_u32-low.ensures, c.read_u32-high.ensures)

@@ -1,0 +1,9 @@
+use mir.Syntax.{w32}
+use mir.ValLaws.{to_z-of_z}
+use borrow.Author.Rules.{rules}
+use Rattle.word.proofs.bits_of_i32.Reads as bits-of-i32-reads
+use Rattle.word.proofs.write_u32.Reads as write-u32-reads
+use Rattle.word.proofs.write_i32.Goals as goal
+
+pub returns : goal.returns
+returns c = rw (c.bits_of_i32.ensures, to_z-of_z w32 c.args.x c.ranges.x) at c.write_u32.ensures
