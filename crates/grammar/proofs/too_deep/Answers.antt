@@ -25,7 +25,7 @@ pub returns-then-opened-gt24 : goal.returns-then-opened-gt24
 returns-then-opened-gt24 c =
     let l = c.loop-i in
     deep_opened c.args.kinds.now l.i l.opened l.row (omega arith)
-    (rw c.Open-after.ensures at c.if-opened-gt24.true) ∙ l.invariant.3
+    (rw c.open_after-opened.ensures at c.if-opened-gt24.true) ∙ l.invariant.3
 
 pub returns-then-row-gt24 : goal.returns-then-row-gt24
 returns-then-row-gt24 c =
@@ -36,7 +36,7 @@ returns-then-row-gt24 c =
 pub loop-i-preserved : goal.loop-i-preserved
 loop-i-preserved c =
     let l = c.loop-i in
-    let e = c.Open-after.ensures in
+    let e = c.open_after-opened.ensures in
     let f = c.row_after-row.ensures in (
       omega arith,
       omega arith,

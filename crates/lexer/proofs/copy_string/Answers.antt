@@ -37,29 +37,30 @@ pub overflow_add-end : goal.overflow_add-end
 overflow_add-end c = omega (arith, (some c).0, (some c).1.0)
 
 pub slice_bounds-copy_to-count : goal.slice_bounds-copy_to-count
-slice_bounds-copy_to-count c = omega (arith, (some c).0)
+slice_bounds-copy_to-count c = omega (arith, (some c.before).0)
 
 pub slice_bounds-copy_to-start : goal.slice_bounds-copy_to-start
-slice_bounds-copy_to-start c = omega (arith, (some c).0)
+slice_bounds-copy_to-start c = omega (arith, (some c.before).0)
 
 pub slice_bounds-copy_to-end : goal.slice_bounds-copy_to-end
-slice_bounds-copy_to-end c = omega (arith, (some c).0, (some c).1.0)
+slice_bounds-copy_to-end c = omega (arith, (some c.before).0, (some c.before).1.0)
 
 pub copy_to-requires : goal.copy_to-requires
 copy_to-requires c =
     let t = c.args in
     let n = c.plain_string-n.result in
-    let w = some c in
+    let w = some c.before.before in
     omega (arith, length-take (t.at + n - (t.at + 1)) (drop (t.at + 1) t.text.now), w.0, w.2)
 
 pub overflow_sub-result : goal.overflow_sub-result
-overflow_sub-result c = omega (arith, (some c).0)
+overflow_sub-result c = omega (arith, (some c.before.before.before.before.before).0)
 
 pub returns : goal.returns
 returns c =
+    let d = c.before.before.before.before.before in
     let t = c.args in
     let n = c.plain_string-n.result in
-    let w = some c in
+    let w = some d in
     let k : t.at + n - (t.at + 1) ≡ n - 1 = omega (arith, w.0) in
     let e = rw (k, w.1.1) at c.copy_to.ensures in
     (stand_length t.text.now (t.at + 1) (n - 1) (string_at t.text.now t.at) w.1, e)

@@ -52,15 +52,15 @@ pub overflow_add-n : goal.overflow_add-n
 overflow_add-n c = let g = c.loop-at.invariant.1 in omega arith
 
 pub overflow_add-at-in-Good : goal.overflow_add-at-in-Good
-overflow_add-at-in-Good c = let w = next c in omega (arith, w.2, c.loop-at.invariant.0)
+overflow_add-at-in-Good c = let w = next c.before in omega (arith, w.2, c.loop-at.invariant.0)
 
 pub loop-at-smaller : goal.loop-at-smaller
-loop-at-smaller c = let g = c.loop-at.invariant.1 in let w = next c in omega (arith, w.1, w.2)
+loop-at-smaller c = let g = c.loop-at.invariant.1 in let w = next c.before in omega (arith, w.1, w.2)
 
 pub loop-at-preserved : goal.loop-at-preserved
 loop-at-preserved c =
     let l = c.loop-at in
-    (l.invariant.0, (next c).0, simp length-set l.invariant.2, simp length-set l.invariant.3)
+    (l.invariant.0, (next c.before).0, simp length-set l.invariant.2, simp length-set l.invariant.3)
 
 pub enum_known-number : goal.enum_known-number
 enum_known-number c = c.in-Bad.keys2

@@ -26,6 +26,6 @@ next c =
     let l = c.before.before.before.before.before.before.before.loop in
     let a = c.before.before.before.before.before.before.before.before.before.before.before.before.args in
     let g = c.kind.given.0 in
-    let f = sym c.before.before.before.before.is-space.ensures ∙ c.before.before.before.if2.false in
+    let f = sym c.before.before.before.before.is_space.ensures ∙ c.before.before.before.if2.false in
     let q = sym c.before.before.scan.ensures ∙ c.kind.given.1 in
     goes_on a.text.now a.kinds.now a.starts.now l.kinds l.starts l.n l.at l.invariant.1 (omega arith) f g.0 g.1.0 q

@@ -31,13 +31,14 @@ unquoted_end-end-requires c = λ z. quoted c (sym c.byte_at-quote.ensures ∙ z)
 
 pub returns-then-byte_at-quote : goal.returns-then-byte_at-quote
 returns-then-byte_at-quote c =
+    let d = c.before.before.before in
     let t = c.args in
     let u = c.unquoted_end-end in
     let q = c.byte_at-quote.ensures in
     let e = sym c.byte_at.ensures ∙ c.if-byte_at-quote.true ∙ q in
-    let h = is_there t.text.now u.result (λ z. quoted c (sym e ∙ z)) in
+    let h = is_there t.text.now u.result (λ z. quoted d (sym e ∙ z)) in
     let p = rw q at u.ensures.1 in
-    λ f. string_stands t.text.now t.at u.result (opened c) u.ensures.0 p h (quoted c) e
+    λ f. string_stands t.text.now t.at u.result (opened d) u.ensures.0 p h (quoted d) e
 
 pub returns : goal.returns
 returns c = λ f. absurd (f refl)

@@ -17,28 +17,29 @@ use Rattle.lexer.proofs.scan_name.Reads as scan-name-reads
 use Rattle.lexer.proofs.scan_number.Reads as scan-number-reads
 use Rattle.lexer.proofs.scan_string.Reads as scan-string-reads
 use Rattle.lexer.proofs.symbol.scan_symbol.Reads as scan-symbol-reads
+use Rattle.lexer.proofs.scan.Goals.{After-is_quote, After-starts_number}
 use Rattle.lexer.proofs.scan.Goals as goal
 
 -- what stands first, and what the tests tell of it
-abbrev from : (c : goal.After-starts_number) → List ℕ
-from c = let t = c.before.before.before.before.before.args in drop t.at t.text.now
+abbrev from : (c : After-starts_number) → List ℕ
+from c = let t = c.args in drop t.at t.text.now
 
-no_name : (c : goal.After-starts_number) → let t = c.before.before.before.before.before.args in starts_name (get_or (drop t.at t.text.now) 0 0) ≡ false
+no_name : (c : After-starts_number) → let t = c.args in starts_name (get_or (drop t.at t.text.now) 0 0) ≡ false
 no_name c =
-    let t = c.before.before.before.before.before.args in
-    ap starts_name (byte_here t.text.now t.at) ∙ sym c.before.before.starts-name.ensures ∙ c.before.if1.false
+    let t = c.args in
+    ap starts_name (byte_here t.text.now t.at) ∙ sym c.starts_name.ensures ∙ c.if-starts_name.false
 
-number : (c : goal.After-starts_number) → let t = c.before.before.before.before.before.args in
-    starts_number (get_or (drop t.at t.text.now) 0 0) (get_or (drop t.at t.text.now) 1 0) ≡ c.starts-number.result
+number : (c : After-starts_number) → let t = c.args in
+    starts_number (get_or (drop t.at t.text.now) 0 0) (get_or (drop t.at t.text.now) 1 0) ≡ c.starts_number.result
 number c =
-    let t = c.before.before.before.before.before.args in
-    rw (byte_here t.text.now t.at, get_or-drop t.at t.text.now 1 0) (sym c.starts-number.ensures)
+    let t = c.args in
+    rw (byte_here t.text.now t.at, get_or-drop t.at t.text.now 1 0) (sym c.starts_number.ensures)
 
-quote : (c : goal.After-is_quote) → let t = c.before.before.before.before.before.before.before.args in
-    is_quote (get_or (drop t.at t.text.now) 0 0) ≡ c.is-quote.result
+quote : (c : After-is_quote) → let t = c.args in
+    is_quote (get_or (drop t.at t.text.now) 0 0) ≡ c.is_quote.result
 quote c =
-    let t = c.before.before.before.before.before.before.before.args in
-    ap is_quote (byte_here t.text.now t.at) ∙ sym c.is-quote.ensures
+    let t = c.args in
+    ap is_quote (byte_here t.text.now t.at) ∙ sym c.is_quote.ensures
 
 pub returns-then-starts_name : goal.returns-then-starts_name
 returns-then-starts_name c =
@@ -48,15 +49,17 @@ returns-then-starts_name c =
 
 pub returns-then-starts_number : goal.returns-then-starts_number
 returns-then-starts_number c =
-    c.scan_number.ensures ∙ ap scanned_of (sym (is_number (from c) (no_name c) (number c ∙ c.if-starts_number.true)))
+    c.scan_number.ensures ∙ ap scanned_of (sym (is_number (from c.before.before) (no_name c.before.before) (number c.before.before ∙ c.if-starts_number.true)))
 
 pub scan_string-requires : goal.scan_string-requires
 scan_string-requires c = (omega arith, sym c.is_quote.ensures ∙ c.if-is_quote.true)
 
 pub returns-then-is_quote : goal.returns-then-is_quote
 returns-then-is_quote c =
-    c.scan_string.ensures ∙ ap scanned_of (sym (is-string (from c) (no_name c) (number c ∙ c.if-starts_number.false) (quote c ∙ c.if-is_quote.true)))
+    let d = c.before.before.before.before in
+    c.scan_string.ensures ∙ ap scanned_of (sym (is-string (from d) (no_name d) (number d ∙ c.if-starts_number.false) (quote c.before.before ∙ c.if-is_quote.true)))
 
 pub returns : goal.returns
 returns c =
-    c.scan_symbol.ensures ∙ ap scanned_of (sym (is-symbol (from c) (no_name c) (number c ∙ c.if-starts_number.false) (quote c ∙ c.if-is_quote.false)))
+    let d = c.before.before.before.before in
+    c.scan_symbol.ensures ∙ ap scanned_of (sym (is-symbol (from d) (no_name d) (number d ∙ c.if-starts_number.false) (quote c.before.before ∙ c.if-is_quote.false)))

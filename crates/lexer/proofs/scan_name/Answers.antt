@@ -36,13 +36,13 @@ whole c =
 pub returns-then-n : goal.returns-then-n
 returns-then-n c =
     let a = c.args in
-    let w = whole c in
+    let w = whole c.before in
     let f = rw w.1 at c.if-n.true in
     ap (λ k. Good 5 k) w.0 ∙ name_legal (drop a.at a.text.now) w.2 f
 
 pub returns : goal.returns
 returns c =
     let a = c.args in
-    let w = whole c in
+    let w = whole c.before in
     let f = rw w.1 at c.if-n.false in
     name_over (drop a.at a.text.now) w.2 f

@@ -4,15 +4,16 @@ use native.Mathlib.Omega.{arith}
 use lib.ListN.{length}
 use borrow.Author.Rules.{rules}
 use Rattle.many.proofs.Verdicts.{Delivering, delivering_first, delivering_on, place_left, delivered}
+use Rattle.many.proofs.deliver.Goals.{After-verdict}
 use Rattle.many.proofs.deliver.Goals as goal
 
 -- there is a place for the byte
-here : (c : goal.After-verdict) → c.before.before.before.before.loop.i < length c.before.before.before.before.loop.verdicts
+here : (c : After-verdict) → c.loop-at.i < length c.loop-at.verdicts
 here c =
     let s = c.before.before.before.before.before.before.before.before in
     let a = s.args in
-    let l = c.before.before.before.before.loop in
-    let e = c.before.before.end_of_lem in
+    let l = c.loop-at in
+    let e = c.end_of-end in
     let p = place_left a.tables.now a.notice.now a.verdicts.now l.verdicts l.i l.at l.invariant e.result (omega arith) e.ensures in
     omega (arith, s.requires.3, l.invariant.room)
 
@@ -32,7 +33,7 @@ pub loop-at-preserved : goal.loop-at-preserved
 loop-at-preserved c =
     let a = c.args in
     let l = c.loop-at in
-    let e = c.end_of_lem in
+    let e = c.end_of-end in
     delivering_on a.tables.now a.notice.now a.verdicts.now l.verdicts l.i l.at l.invariant e.result (omega arith) e.ensures c.verdict.result c.verdict.ensures
 
 pub shape_of-verdicts : goal.shape_of-verdicts

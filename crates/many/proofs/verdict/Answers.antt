@@ -13,11 +13,14 @@ returns-then-not-check c =
     byte_refused a.table.now a.notice.now (sym c.check.ensures ∙ not-true _ c.if-not-check.true)
 
 pub run_whole-ran-requires : goal.run_whole-ran-requires
-run_whole-ran-requires c = (sym c.check.ensures ∙ not-false _ c.if-not-check.false, c.requires.0, c.requires.1)
+run_whole-ran-requires c =
+    let s = c.before.before.before.before in
+    (sym c.check.ensures ∙ not-false _ c.if-not-check.false, s.requires.0, s.requires.1)
 
 pub returns : goal.returns
 returns c =
-    let a = c.args in
+    let s = c.before.before.before.before.before.before in
+    let a = s.args in
     let r = c.run_whole-ran in
     let checked = sym c.check.ensures ∙ not-false _ c.if-not-check.false in
-    c.number.ensures ∙ byte_ran a.table.now a.notice.now r.result (r.ensures ∙ neither_refused a.table.now a.notice.now checked c.requires.0) (ap (λ (x : Ran). x.number) r.ensures)
+    c.number.ensures ∙ byte_ran a.table.now a.notice.now r.result (r.ensures ∙ neither_refused a.table.now a.notice.now checked s.requires.0) (ap (λ (x : Ran). x.number) r.ensures)

@@ -8,4 +8,6 @@ use borrow.Author.Rules.{rules}
 use Rattle.mixed.proofs.equal.Goals as goal
 
 pub returns : goal.returns
-returns c = c.sides-s.ensures.same ∙ ap (λ (y : ℤ). eq (exactly y) c.args.x) (to_z-of_z w64 c.args.z c.ranges.z)
+returns c =
+    let q = c.before in let s = q.before in
+    q.sides-s.ensures.same ∙ ap (λ (y : ℤ). eq (exactly y) s.args.x) (to_z-of_z w64 s.args.z s.ranges.z)

@@ -3,10 +3,11 @@ use Rattle.notice.specs.declared.Layout.{Layout}
 use Rattle.notice.specs.declared.Layout.TheVariants.{WellFormed}
 use Rattle.notice.specs.Layout.{check_of}
 use Rattle.notice.specs.Search.{find_by}
+use Rattle.notice.proofs.find.Goals.{In-WellFormed}
 use Rattle.notice.proofs.find.Goals as goal
 
-well : (c : goal.In-WellFormed) → check_of c.before.before.before.before.before.args.notice.now ≡ WellFormed
-well c = sym c.before.before.check.ensures ∙ c.enum_told.given.1
+well : (c : In-WellFormed) → check_of c.args.notice.now ≡ WellFormed
+well c = sym c.check-layout.ensures ∙ c.enum_told-1.given.1
 
 pub sought-requires : goal.sought-requires
 sought-requires c = well c
@@ -14,7 +15,7 @@ sought-requires c = well c
 pub returns-in-WellFormed : goal.returns-in-WellFormed
 returns-in-WellFormed c =
     let a = c.args in
-    c.sought.ensures ∙ ap (λ (l : Layout). find_by l a.notice.now a.name.now) (sym (well c))
+    c.sought.ensures ∙ ap (λ (l : Layout). find_by l a.notice.now a.name.now) (sym (well c.before))
 
 pub returns-in-Fault : goal.returns-in-Fault
 returns-in-Fault c =

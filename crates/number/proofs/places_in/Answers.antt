@@ -3,8 +3,11 @@ use Rattle.std.proofs.Common.{rules}
 use Rattle.number.proofs.places_in.Goals as goal
 
 pub returns-in-First : goal.returns-in-First
-returns-in-First c = first_count c.args.edition c.args.width c.args.b _ c.enum_told-1.given.1 c.places.ensures
+returns-in-First c =
+    let t = c.before in let s = t.before.before in
+    first_count s.args.edition s.args.width s.args.b _ t.enum_told-1.given.1 c.places.ensures
 
 pub returns-in-Second : goal.returns-in-Second
 returns-in-Second c =
-    second_count c.args.edition c.args.width c.args.b _ c.enum_told-in-Second-1.given.1 c.remainder_places.ensures
+    let t = c.before in let s = t.before.before in
+    second_count s.args.edition s.args.width s.args.b _ t.enum_told-in-Second-1.given.1 c.remainder_places.ensures

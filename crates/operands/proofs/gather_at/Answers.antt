@@ -11,21 +11,23 @@ use Rattle.operands.proofs.gather_at.Goals as goal
 
 pub returns-then-not-is_operand : goal.returns-then-not-is_operand
 returns-then-not-is_operand c =
-    let a = c.args in
+    let b = c.before.before.before.before.before.before.before.before in
+    let a = b.args in
     let ms = a.marks.now in
     let e = c.is_operand.ensures in
     let t = not-true _ c.if-not-is_operand.true in
     let place : ℕ → ℕ = place_at a.starts.now in
     let size : ℕ → ℕ = size_at a.text.now ms a.starts.now in
-    (none_counted ms a.i a.n c.requires.1 e place t, (none_stored ms a.i a.n c.requires.1 e place a.places.now t, none_stored ms a.i a.n c.requires.1 e size a.sizes.now t))
+    (none_counted ms a.i a.n b.requires.1 e place t, (none_stored ms a.i a.n b.requires.1 e place a.places.now t, none_stored ms a.i a.n b.requires.1 e size a.sizes.now t))
 
 pub returns : goal.returns
 returns c =
-    let a = c.args in
+    let b = c.before.before.before.before.before.before.before.before.before.before.before.before.before.before.before.before.before.before in
+    let a = b.args in
     let ms = a.marks.now in
     let e = c.is_operand.ensures in
     let t = not-false _ c.if-not-is_operand.false in
-    let at = c.place-at.ensures in
+    let at = c.place_at.ensures in
     let place : ℕ → ℕ = place_at a.starts.now in
     let size : ℕ → ℕ = size_at a.text.now ms a.starts.now in
-    (one_counted ms a.i a.n c.requires.1 e place t, (one_stored ms a.i a.n c.requires.1 e place a.places.now t c.put.ensures at, one_stored ms a.i a.n c.requires.1 e size a.sizes.now t c.put-2.ensures (size_here a.text.now ms a.starts.now a.i c.requires.1 at c.size.ensures)))
+    (one_counted ms a.i a.n b.requires.1 e place t, (one_stored ms a.i a.n b.requires.1 e place a.places.now t c.put.ensures at, one_stored ms a.i a.n b.requires.1 e size a.sizes.now t c.put-2.ensures (size_here a.text.now ms a.starts.now a.i b.requires.1 at c.size.ensures)))

@@ -17,4 +17,5 @@ pub returns-then-p-le4096 : goal.returns-then-p-le4096
 returns-then-p-le4096 c = c.search_long.ensures
 
 pub returns : goal.returns
-returns c = regex_long (folded c.args.s-mark c.args.s.now) c.args.p.now (omega arith)
+returns c =
+    let z = c.before.before.before.before.before in regex_long (folded z.args.s_mark z.args.s.now) z.args.p.now (omega arith)

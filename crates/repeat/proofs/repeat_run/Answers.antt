@@ -6,11 +6,12 @@ use borrow.Author.Tests.{not-true, not-false}
 use Rattle.table.specs.Check.{check_of}
 use Rattle.interpreter.proofs.Answers.{indexed}
 use Rattle.repeat.proofs.Small.{nothing, no_notice, whole}
+use Rattle.repeat.proofs.repeat_run.Goals.{Else-not-check}
 use Rattle.repeat.proofs.repeat_run.Goals as goal
 
 -- where the table's check passes
-passed : (c : goal.Else-not-check) → check_of c.before.before.before.before.args.table.now ≡ true
-passed c = sym c.before.check.ensures ∙ not-false _ c.if1.false
+passed : (c : Else-not-check) → check_of c.args.table.now ≡ true
+passed c = sym c.check.ensures ∙ not-false _ c.if-not-check.false
 
 pub returns-then-not-check : goal.returns-then-not-check
 returns-then-not-check c =

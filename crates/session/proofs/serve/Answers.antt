@@ -17,23 +17,24 @@ use Rattle.record.proofs.next_record.Reads as next-record-reads
 use Rattle.record.proofs.put_error_line.Reads as put-error-line-reads
 use Rattle.record.proofs.waits.Reads as waits-reads
 use Rattle.session.proofs.answer.Reads as answer-reads
+use Rattle.session.proofs.serve.Goals.{After-next_record-found, In-Whole}
 use Rattle.session.proofs.serve.Goals as goal
 
 -- the record reader's finding at the stretch's own bytes
-found : (c : goal.After-next_record-found) → c.next-record.result ≡ record_of (drop c.before.before.before.loop.at c.before.before.before.before.before.before.before.args.input.now)
-found c = c.next-record.ensures ∙ ap record_of (to_end c.before.before.before.before.before.before.before.args.input.now c.before.before.before.loop.at)
+found : (c : After-next_record-found) → c.next_record-found.result ≡ record_of (drop c.loop-left.at c.args.input.now)
+found c = c.next_record-found.ensures ∙ ap record_of (to_end c.args.input.now c.loop-left.at)
 
 -- the whole record that was taken
-whole : (c : goal.In-Whole) → record_of (drop c.before.before.before.before.before.before.before.before.loop.at c.before.before.before.before.before.before.before.before.before.before.before.before.args.input.now) ≡ Whole c.before.found.given.0.0 c.before.found.given.0.1.0
-whole c = sym (found c.before.before.before.before.before) ∙ c.before.found.given.1
+whole : (c : In-Whole) → record_of (drop c.loop-left.at c.args.input.now) ≡ Whole c.found-1.given.0.0 c.found-1.given.0.1.0
+whole c = sym (found c.before.before.before.before.before) ∙ c.found-1.given.1
 
-lies : (c : goal.In-Whole) → (6 ≤ c.before.found.given.0.1.0) × (c.before.before.before.before.before.before.before.before.loop.at + c.before.found.given.0.1.0 ≤ length c.before.before.before.before.before.before.before.before.before.before.before.before.args.input.now)
+lies : (c : In-Whole) → (6 ≤ c.found-1.given.0.1.0) × (c.loop-left.at + c.found-1.given.0.1.0 ≤ length c.args.input.now)
 lies c =
-    let s = c.before.before.before.before.before.before.before.before.before.before.before.before.args.input.now in
-    let at = c.before.before.before.before.before.before.before.before.loop.at in
-    let l = whole_lies (drop at s) c.before.found.given.0.0 c.before.found.given.0.1.0 (whole c) in
+    let s = c.args.input.now in
+    let at = c.loop-left.at in
+    let l = whole_lies (drop at s) c.found-1.given.0.0 c.found-1.given.0.1.0 (whole c) in
     let d = length-drop at s in
-    (l.0, omega (arith, l.2, c.before.before.before.before.before.before.before.before.loop.invariant.placed))
+    (l.0, omega (arith, l.2, c.loop-left.invariant.placed))
 
 pub loop-left-init : goal.loop-left-init
 loop-left-init c =
@@ -57,7 +58,7 @@ shape_of-out-then-waits c = c.loop-left.invariant.same_out
 pub returns-then-waits : goal.returns-then-waits
 returns-then-waits c =
     along_waits c.loop-left.invariant c.loop-left-test.true
-    (ap (λ (r : Record). waits_of r c.args.last) (sym (found c)) ∙ sym c.waits.ensures ∙ c.if-waits.true)
+    (ap (λ (r : Record). waits_of r c.args.last) (sym (found c.before.before)) ∙ sym c.waits.ensures ∙ c.if-waits.true)
 
 pub put_error_line-end-requires : goal.put_error_line-end-requires
 put_error_line-end-requires c = omega (arith, c.loop-left.invariant.room)
@@ -71,12 +72,12 @@ shape_of-out-in_default c = c.put_error_line-end.auto.0 ∙ c.loop-left.invarian
 pub returns-in_default : goal.returns-in_default
 returns-in_default c =
     along_error c.loop-left.invariant _ c.put_error_line-end.result c.loop-left-test.true
-    (ap (λ (r : Record). waits_of r c.args.last) (sym (found c)) ∙ sym c.waits.ensures ∙ c.if-waits.false)
-    (not_whole (tag_of the_type) (λ k n. refl) (record_of (drop c.loop-left.at c.args.input.now)) c.next_record-found.result c.in_default.keys2 (found c))
+    (ap (λ (r : Record). waits_of r c.args.last) (sym (found c.before.before.before.before.before.before.before)) ∙ sym c.waits.ensures ∙ c.if-waits.false)
+    (not_whole (tag_of the_type) (λ k n. refl) (record_of (drop c.loop-left.at c.args.input.now)) c.next_record-found.result c.in_default.keys2 (found c.before.before.before.before.before.before.before))
     c.put_error_line-end.auto.0 c.put_error_line-end.ensures.1 c.put_error_line-end.ensures.0
 
 pub overflow_add-next : goal.overflow_add-next
-overflow_add-next c = omega (arith, lies c, c.well-formed)
+overflow_add-next c = omega (arith, lies c, c.well_formed)
 
 pub slice_bounds-answer-count : goal.slice_bounds-answer-count
 slice_bounds-answer-count c = omega arith
@@ -89,8 +90,9 @@ slice_bounds-answer-end c = omega (arith, lies c)
 
 pub answer-done-requires : goal.answer-done-requires
 answer-done-requires c =
-    let n = between_length c.args.input.now c.loop-left.at c.found-1.given.0.1.0 (lies c).1 in
-    (omega (arith, lies c, n), c.loop-left.invariant.within, c.loop-left.invariant.sound, omega (arith, c.loop-left.invariant.room, c.loop-left-test.true))
+    let k = c.before.before.before in
+    let n = between_length c.args.input.now c.loop-left.at k.found-1.given.0.1.0 (lies k).1 in
+    (omega (arith, lies k, n), c.loop-left.invariant.within, c.loop-left.invariant.sound, omega (arith, c.loop-left.invariant.room, c.loop-left-test.true))
 
 pub overflow_sub-left : goal.overflow_sub-left
 overflow_sub-left c = omega arith
@@ -100,10 +102,11 @@ loop-left-smaller c = omega arith
 
 pub loop-left-preserved : goal.loop-left-preserved
 loop-left-preserved c =
+    let k = c.before.before.before.before.before.before.before.before in
     let a = c.answer-done in
     let at = c.loop-left.at in
-    let size = c.found-1.given.0.1.0 in
-    along_more _ _ _ c.found-1.given.0.0 size a.result c.loop-left.invariant c.loop-left-test.true (whole c) (lies c).1
+    let size = k.found-1.given.0.1.0 in
+    along_more _ _ _ k.found-1.given.0.0 size a.result c.loop-left.invariant c.loop-left-test.true (whole k) (lies k).1
     (between c.args.input.now at size) a.auto.1.1.0 a.auto.1.1.1.1.0 a.ensures
 
 pub shape_of-table : goal.shape_of-table

@@ -7,13 +7,14 @@ use Rattle.store.specs.Layout.{records_of, places_in, written}
 use Rattle.store.specs.Calls.{lowest_free, rec, add_refusal}
 use Rattle.store.proofs.Answers.{appendable, number_is, same_bytes, new_bytes}
 use borrow.Author.Rules.{rules}
+use Rattle.store.proofs.add.Goals.{Else-a-ne0}
 use Rattle.store.proofs.add.Goals as goal
 
-accepted : (c : goal.Else-a-ne0) → add_refusal c.before.before.before.before.before.before.args.store.now c.before.before.before.before.before.before.args.table.now ≡ 0
-accepted c = sym (ap (λ (a : Added). a.refusal) c.before.before.judge.ensures) ∙ c.if1.false
+accepted : (c : Else-a-ne0) → add_refusal c.args.store.now c.args.table.now ≡ 0
+accepted c = sym (ap (λ (a : Added). a.refusal) c.judge-a.ensures) ∙ c.if-a-ne0.false
 
-lowest : (c : goal.Else-a-ne0) → c.before.before.judge.result.number ≡ lowest_free (places_in c.before.before.before.before.before.before.args.store.now)
-lowest c = ap (λ (a : Added). a.number) c.before.before.judge.ensures ∙ number_is c.before.before.before.before.before.before.args.store.now c.before.before.before.before.before.before.args.table.now (accepted c)
+lowest : (c : Else-a-ne0) → c.judge-a.result.number ≡ lowest_free (places_in c.args.store.now)
+lowest c = ap (λ (a : Added). a.number) c.judge-a.ensures ∙ number_is c.args.store.now c.args.table.now (accepted c)
 
 pub returns-then-a-ne0 : goal.returns-then-a-ne0
 returns-then-a-ne0 c =
@@ -24,7 +25,7 @@ returns-then-a-ne0 c =
 pub append-requires : goal.append-requires
 append-requires c =
     let a = c.args in
-    rw (sym (lowest c)) at (appendable a.store.now a.table.now (accepted c))
+    rw (sym (lowest c.before)) at (appendable a.store.now a.table.now (accepted c.before))
 
 pub returns : goal.returns
 returns c =
@@ -32,5 +33,5 @@ returns c =
     let t = c.args.table.now in
     record {
       answer = c.judge-a.ensures;
-      bytes = c.append.ensures ∙ ap (λ (k : ℕ). written (records_of s ++ (rec k t ∷ [])) s) (lowest c) ∙ new_bytes s t (accepted c);
+      bytes = c.append.ensures ∙ ap (λ (k : ℕ). written (records_of s ++ (rec k t ∷ [])) s) (lowest c.before.before.before.before) ∙ new_bytes s t (accepted c.before.before.before.before);
     }

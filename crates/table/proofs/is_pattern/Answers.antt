@@ -14,7 +14,7 @@ pub returns-in-60 : goal.returns-in-60
 returns-in-60 c =
     λ test e.
     let a = c.args in
-    c.well-formed.ensures ∙ ap (λ (t : List ℕ → Bool). t a.p.now) (the_test a.number 60 well_formed test c.in_default.keys1 refl e)
+    c.well_formed.ensures ∙ ap (λ (t : List ℕ → Bool). t a.p.now) (the_test a.number 60 well_formed test c.in_default.keys1 refl e)
 
 pub returns-in-61 : goal.returns-in-61
 returns-in-61 c =

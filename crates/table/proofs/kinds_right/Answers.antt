@@ -37,14 +37,14 @@ placed_right-requires c =
     let d = laid t c.requires.0 in
     let w = d.whole in
     let h : l.i < count_of t = omega (arith, c.requires.1) in
-    (omega arith, omega arith, pass_before t l.wanted l.i l.c l.invariant.0 h _ c.pool-strings.ensures, c.Group-of.ensures)
+    (omega arith, omega arith, pass_before t l.wanted l.i l.c l.invariant.0 h _ c.pool-strings.ensures, c.group_of-g.ensures)
 
 pub returns-then-not-placed_right : goal.returns-then-not-placed_right
 returns-then-not-placed_right c =
     let t = c.args.table.now in
     let l = c.loop-i in
     let h : l.i < count_of t = omega (arith, c.requires.1) in
-    pass_wrong t l.wanted l.i l.c l.invariant.0 h _ _ c.pool-strings.ensures (right_by_lem _ _ l.i _ _ _ _ c.entry_at-e.ensures c.Group-of.ensures c.placed_right.ensures) (not-true _ c.if-not-placed_right.true)
+    pass_wrong t l.wanted l.i l.c l.invariant.0 h _ _ c.pool-strings.ensures (right_by_lem _ _ l.i _ _ _ _ c.entry_at-e.ensures c.group_of-g.ensures c.placed_right.ensures) (not-true _ c.if-not-placed_right.true)
 
 pub lands_right-requires : goal.lands_right-requires
 lands_right-requires c =
@@ -55,7 +55,7 @@ returns-then-not-lands_right c =
     let t = c.args.table.now in
     let l = c.loop-i in
     let h : l.i < count_of t = omega (arith, c.requires.1) in
-    pass_lost t l.wanted l.i l.c l.invariant.0 h _ _ (landed_by _ _ _ _ _ l.i l.c _ _ _ c.entry_at-e.ensures c.requires.1 c.Group-of.ensures c.lands_right.ensures) (not-true _ c.if-not-lands_right.true)
+    pass_lost t l.wanted l.i l.c l.invariant.0 h _ _ (landed_by _ _ _ _ _ l.i l.c _ _ _ c.entry_at-e.ensures c.requires.1 c.group_of-g.ensures c.lands_right.ensures) (not-true _ c.if-not-lands_right.true)
 
 pub returns-then-c-eq0 : goal.returns-then-c-eq0
 returns-then-c-eq0 c =
@@ -63,7 +63,7 @@ returns-then-c-eq0 c =
     let l = c.loop-i in
     let h : l.i < count_of t = omega (arith, c.requires.1) in
     let f = c.flow-c in
-    pass-stuck t l.wanted l.i l.c l.invariant.0 h f.result (flow_by_lem _ _ _ _ _ c.entry_at-e.ensures c.Group-of.ensures f.ensures) c.if-c-eq0.true
+    pass-stuck t l.wanted l.i l.c l.invariant.0 h f.result (flow_by_lem _ _ _ _ _ c.entry_at-e.ensures c.group_of-g.ensures f.ensures) c.if-c-eq0.true
 
 pub loop-i-preserved : goal.loop-i-preserved
 loop-i-preserved c =
@@ -71,7 +71,7 @@ loop-i-preserved c =
     let l = c.loop-i in
     let h : l.i < count_of t = omega (arith, c.requires.1) in
     let f = c.flow-c in
-    (pass-more t l.wanted l.i l.c l.invariant.0 h f.result (flow_by_lem _ _ _ _ _ c.entry_at-e.ensures c.Group-of.ensures f.ensures) (sym c.meets.ensures ∙ not-false _ c.if-not-meets.false) _ _ c.pool-strings.ensures (right_by_lem _ _ l.i _ _ _ _ c.entry_at-e.ensures c.Group-of.ensures c.placed_right.ensures) (not-false _ c.if-not-placed_right.false) c.if-c-eq0.false _ _ (landed_by _ _ _ _ _ l.i l.c _ _ _ c.entry_at-e.ensures c.requires.1 c.Group-of.ensures c.lands_right.ensures) (not-false _ c.if-not-lands_right.false), search rules)
+    (pass-more t l.wanted l.i l.c l.invariant.0 h f.result (flow_by_lem _ _ _ _ _ c.entry_at-e.ensures c.group_of-g.ensures f.ensures) (sym c.meets.ensures ∙ not-false _ c.if-not-meets.false) _ _ c.pool-strings.ensures (right_by_lem _ _ l.i _ _ _ _ c.entry_at-e.ensures c.group_of-g.ensures c.placed_right.ensures) (not-false _ c.if-not-placed_right.false) c.if-c-eq0.false _ _ (landed_by _ _ _ _ _ l.i l.c _ _ _ c.entry_at-e.ensures c.requires.1 c.group_of-g.ensures c.lands_right.ensures) (not-false _ c.if-not-lands_right.false), search rules)
 
 pub returns : goal.returns
 returns c =

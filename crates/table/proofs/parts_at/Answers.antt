@@ -8,14 +8,15 @@ use Rattle.table.proofs.a_at.Reads as a-at-reads
 use Rattle.table.proofs.b_at.Reads as b-at-reads
 use Rattle.table.proofs.count.Reads as count-reads
 use Rattle.table.proofs.op_at.Reads as op-at-reads
+use Rattle.table.proofs.parts_at.Goals.{After-count}
 use Rattle.table.proofs.parts_at.Goals as goal
 
 -- a string's or a name's bytes end early
-small : (c : goal.After-count) → 10 + 12 * c.count.result + c.before.before.b_at.result + c.before.before.before.a_at.result ≤ most_bytes
+small : (c : After-count) → 10 + 12 * c.count.result + c.b_at-b.result + c.a_at-a.result ≤ most_bytes
 small c =
-    let a = c.before.before.before.before.before.before.args in
-    let p = c.before.before.before.before.before.before.requires in
-    parts_small a.table.now a.k _ _ _ c.before.before.before.before.op-at.ensures c.before.before.before.a_at.ensures c.before.before.b_at.ensures _ c.count.ensures.0 c.before.if1.true
+    let a = c.args in
+    let p = c.requires in
+    parts_small a.table.now a.k _ _ _ c.op_at-op.ensures c.a_at-a.ensures c.b_at-b.ensures _ c.count.ensures.0 c.if-op.true
     (checked_layout a.table.now p.0) (checked_entry a.table.now p.0 a.k p.1).right
 
 pub op_at-op-requires : goal.op_at-op-requires

@@ -11,11 +11,12 @@ use Rattle.table.proofs.check.Reads as check-reads
 use Rattle.table.proofs.count.Reads as count-reads
 use Rattle.table.proofs.no_parts.Reads as no-parts-reads
 use Rattle.table.proofs.parts_at.Reads as parts-at-reads
+use Rattle.table.proofs.parts_of.Goals.{Else-not-check}
 use Rattle.table.proofs.parts_of.Goals as goal
 
 -- behind the first test the table has passed
-checked : (c : goal.Else-not-check) → check_of c.before.before.before.args.table.now ≡ true
-checked c = sym c.before.check.ensures ∙ not-false _ c.if1.false
+checked : (c : Else-not-check) → check_of c.args.table.now ≡ true
+checked c = sym c.check.ensures ∙ not-false _ c.if-not-check.false
 
 pub returns-then-not-check : goal.returns-then-not-check
 returns-then-not-check c =
@@ -26,11 +27,11 @@ count-requires c = let t = c.args.table.now in (laid t (checked_layout t (checke
 
 pub returns-then-count-k : goal.returns-then-count-k
 returns-then-count-k c =
-    let a = c.args in c.no_parts-then-count-k.ensures ∙ sym (parts_past a.table.now a.k (checked c) (omega (arith, c.count.ensures.0)))
+    let a = c.args in c.no_parts-then-count-k.ensures ∙ sym (parts_past a.table.now a.k (checked c.before.before.before) (omega (arith, c.count.ensures.0)))
 
 pub parts_at-requires : goal.parts_at-requires
-parts_at-requires c = (checked c, omega (arith, c.count.ensures.0))
+parts_at-requires c = (checked c.before.before, omega (arith, c.count.ensures.0))
 
 pub returns : goal.returns
 returns c =
-    let a = c.args in c.parts_at.ensures ∙ sym (parts_there a.table.now a.k (checked c) (omega (arith, c.count.ensures.0)))
+    let a = c.args in c.parts_at.ensures ∙ sym (parts_there a.table.now a.k (checked c.before.before.before) (omega (arith, c.count.ensures.0)))

@@ -9,17 +9,19 @@ use Rattle.utf8.proofs.width.Goals as goal
 
 pub returns-then-is_two : goal.returns-then-is_two
 returns-then-is_two c =
-    let s = c.args.s.now in
-    let i = c.args.i in
+    let a = c.before.before.before.before.before.before in
+    let s = a.args.s.now in
+    let i = a.args.i in
     let t : is_two (get_or s i 0) (get_or s (i + 1) 0) ≡ true = cc (c.byte_at.ensures, c.is_two.ensures, c.if-is_two.true) in
-    sym (width_two (get_or s i 0) (get_or s (i + 1) 0) (get_or s (i + 2) 0) (get_or s (i + 3) 0) true c.requires.1 c.if-b-lt224.true t)
+    sym (width_two (get_or s i 0) (get_or s (i + 1) 0) (get_or s (i + 2) 0) (get_or s (i + 3) 0) true a.requires.1 c.if-b-lt224.true t)
 
 pub returns-then-b-lt224 : goal.returns-then-b-lt224
 returns-then-b-lt224 c =
-    let s = c.args.s.now in
-    let i = c.args.i in
+    let a = c.before.before.before.before.before.before in
+    let s = a.args.s.now in
+    let i = a.args.i in
     let t : is_two (get_or s i 0) (get_or s (i + 1) 0) ≡ false = cc (c.byte_at.ensures, c.is_two.ensures, c.if-is_two.false) in
-    sym (width_two (get_or s i 0) (get_or s (i + 1) 0) (get_or s (i + 2) 0) (get_or s (i + 3) 0) false c.requires.1 c.if-b-lt224.true t)
+    sym (width_two (get_or s i 0) (get_or s (i + 1) 0) (get_or s (i + 2) 0) (get_or s (i + 3) 0) false a.requires.1 c.if-b-lt224.true t)
 
 pub returns-then-s-i-lt4 : goal.returns-then-s-i-lt4
 returns-then-s-i-lt4 c =

@@ -6,21 +6,22 @@ use Rattle.notice.specs.Layout.{check_of, count_of}
 use Rattle.notice.proofs.Stood.{stood_indexed}
 use Rattle.value.proofs.FieldValues.{found_right}
 use borrow.Author.Rules.{rules}
+use Rattle.value_test.proofs.load_name.Goals.{In-WellFormed}
 use Rattle.value_test.proofs.load_name.Goals as goal
 
-well : (c : goal.In-WellFormed) → check_of c.before.before.before.before.before.before.before.before.args.notice.now ≡ WellFormed
-well c = sym c.before.before.index.ensures.0 ∙ c.enum_told.given.1
+well : (c : In-WellFormed) → check_of c.args.notice.now ≡ WellFormed
+well c = sym c.index-layout.ensures.0 ∙ c.enum_told-1.given.1
 
 pub find_name-found-requires : goal.find_name-found-requires
 find_name-found-requires c =
     let i : tie.After-index = search in
     let a : tie.Start = search in
     let s = a.args.notice.now in
-    (well c, ap (take (count_of s)) i.index.ensures.1 ∙ stood_indexed s (well c) _ refl, omega arith)
+    (well c.before, ap (take (count_of s)) i.index.ensures.1 ∙ stood_indexed s (well c.before) _ refl, omega arith)
 
 pub field-requires : goal.field-requires
 field-requires c =
     let a : tie.Start = search in
     let k : tie.After-shared-slice-known2 = search in
     let f : tie.After-find-name = search in
-    found_right a.args.notice.now _ _ _ _ (λ i. (k.shared-slice-known2.given i).fits) (well (search)) (sym f.find-name.ensures ∙ c.found-1.given.1)
+    found_right a.args.notice.now _ _ _ _ (λ i. (k.shared-slice-known2.given i).fits) (well (search)) (sym f.find_name.ensures ∙ c.found-1.given.1)

@@ -7,4 +7,6 @@ use Rattle.session.proofs.turn.Reads as turn-reads
 use Rattle.verdict.proofs.answer.Goals as goal
 
 pub returns : goal.returns
-returns c = answers h c.requires.1 c.turn-after.ensures
+returns c =
+    let s = c.before.before.before.before.before.before.before.before.before.before.before.before.before in
+    answers h s.requires.1 c.turn-after.ensures

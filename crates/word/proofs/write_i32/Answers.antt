@@ -6,4 +6,6 @@ use Rattle.word.proofs.write_u32.Reads as write-u32-reads
 use Rattle.word.proofs.write_i32.Goals as goal
 
 pub returns : goal.returns
-returns c = rw (c.bits_of_i32.ensures, to_z-of_z w32 c.args.x c.ranges.x) at c.write_u32.ensures
+returns c =
+    let s = c.before.before.before.before.before.before in
+    rw (c.bits_of_i32.ensures, to_z-of_z w32 s.args.x s.ranges.x) at c.write_u32.ensures

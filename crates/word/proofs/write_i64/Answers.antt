@@ -6,4 +6,6 @@ use Rattle.word.proofs.write_u64.Reads as write-u64-reads
 use Rattle.word.proofs.write_i64.Goals as goal
 
 pub returns : goal.returns
-returns c = rw (c.bits_of_i64.ensures, to_z-of_z w64 c.args.x c.ranges.x) at c.write_u64.ensures
+returns c =
+    let s = c.before.before.before.before.before.before in
+    rw (c.bits_of_i64.ensures, to_z-of_z w64 s.args.x s.ranges.x) at c.write_u64.ensures

@@ -10,32 +10,33 @@ use Rattle.lexer.proofs.real.exponent_digits.Reads as exponent-digits-reads
 use Rattle.lexer.proofs.real.scale.Reads as scale-reads
 use Rattle.lexer.proofs.real.sign_end.Reads as sign-end-reads
 use Rattle.lexer.proofs.run.rest.Reads as rest-reads
+use Rattle.lexer.proofs.real.real_fits.Goals.{After-exponent_digits-d}
 use Rattle.lexer.proofs.real.real_fits.Goals as goal
 
 -- how many digits the exponent has
-count : (c : goal.After-exponent_digits-d)
-    → c.exponent-digits.result.end ≡ c.before.sign-end.result + length (exponent_digits (exponent_part c.before.before.before.before.args.run.now))
+count : (c : After-exponent_digits-d)
+    → c.exponent_digits-d.result.end ≡ c.sign_end-n.result + length (exponent_digits (exponent_part c.args.run.now))
 count c =
-    let run = c.before.before.before.before.args.run.now in
-    let e = c.before.before.rest.ensures ∙ ap (λ (k : ℕ). drop k run) c.before.before.before.before.requires.1 ∙ from_exponent run in
-    let n = rw e at c.before.sign-end.ensures.0 in
-    let d = rw e at c.exponent-digits.ensures.0 in
+    let run = c.args.run.now in
+    let e = c.rest-part.ensures ∙ ap (λ (k : ℕ). drop k run) c.requires.1 ∙ from_exponent run in
+    let n = rw e at c.sign_end-n.ensures.0 in
+    let d = rw e at c.exponent_digits-d.ensures.0 in
     omega (arith, n, d)
 
 pub returns-then-n-d : goal.returns-then-n-d
 returns-then-n-d c =
-    let n = count c in
+    let n = count c.before.before in
     rw (lt-leb (length (exponent_digits (exponent_part c.args.run.now))) 3 (omega (arith, n, c.if-n-d.true)))
 
 pub scale-e-requires : goal.scale-e-requires
 scale-e-requires c =
     let p = c.requires in
-    (omega (arith, count c, c.if-n-d.false), p.0, p.1)
+    (omega (arith, count c.before.before, c.if-n-d.false), p.0, p.1)
 
 pub returns : goal.returns
 returns c =
     let run = c.args.run.now in
     let p = c.requires in
-    let n = count c in
+    let n = count c.before.before.before.before.before in
     let h = le-leb (length (exponent_digits (exponent_part run))) 3 (omega (arith, n, c.if-n-d.false)) in
     rw (h, c.scale-e.ensures.0, p.2, fifteen_capped (real_digits run) (real_decimal run))

@@ -2,17 +2,18 @@ use Rattle.std.proofs.Common.{◌≡◌, ℕ, ◌+◌, ◌-◌, ◌≤◌, true,
 use Rattle.word.specs.Word.{word_bytes, Bytes}
 use Rattle.notice.specs.Field.{printable}
 use Rattle.notice.proofs.Names.{overlap, start_wrong, next_right, whole_word, word_bytes_lem, end_word}
+use Rattle.notice.proofs.name.words_right.Goals.{After-shared_slice_known-1, After-word_right}
 use Rattle.notice.proofs.name.words_right.Goals as goal
 
-bytes : (c : goal.After-shared_slice_known-1) → Bytes c.before.args.name.now
-bytes c i = (c.shared-slice-known.given i).fits
+bytes : (c : After-shared_slice_known-1) → Bytes c.args.name.now
+bytes c i = (c.shared_slice_known-1.given i).fits
 
 -- a turn's word, after the bytes that are right
-word_is : (c : goal.After-word_right) → c.word-right.result ≡ printable (take (c.before.before.before.loop.i + 8) c.before.before.before.before.before.args.name.now)
+word_is : (c : After-word_right) → c.word_right.result ≡ printable (take (c.loop-i.i + 8) c.args.name.now)
 word_is c =
-    let s = c.before.before.before.before.before.args.name.now in
-    let i = c.before.before.before.loop in
-    whole_word c.before.read_u64.result c.word-right.result c.before.read_u64.type-inv c.word-right.ensures ∙ (ap (λ (x : ℕ). printable (word_bytes 8 x)) c.before.read_u64.ensures
+    let s = c.args.name.now in
+    let i = c.loop-i in
+    whole_word c.read_u64.result c.word_right.result c.read_u64.type_inv c.word_right.ensures ∙ (ap (λ (x : ℕ). printable (word_bytes 8 x)) c.read_u64.ensures
     ∙ (word_bytes_lem 8 i.i s (bytes c.before.before.before.before) (omega arith) ∙ next_right i.i 8 s i.invariant.1))
 
 pub loop-i-init : goal.loop-i-init
@@ -25,14 +26,14 @@ pub loop-i-smaller : goal.loop-i-smaller
 loop-i-smaller c = omega arith
 
 pub loop-i-preserved : goal.loop-i-preserved
-loop-i-preserved c = (omega arith, sym (word_is c) ∙ c.if-word_right.true)
+loop-i-preserved c = (omega arith, sym (word_is c.before) ∙ c.if-word_right.true)
 
 pub returns-else-word_right : goal.returns-else-word_right
-returns-else-word_right c = start_wrong (c.loop-i.i + 8) c.args.name.now (sym (word_is c) ∙ c.if-word_right.false)
+returns-else-word_right c = start_wrong (c.loop-i.i + 8) c.args.name.now (sym (word_is c.before) ∙ c.if-word_right.false)
 
 pub returns : goal.returns
 returns c =
     let s = c.args.name.now in
     let i = c.loop-i in
     whole_word c.read_u64-2.result c.word_right-2.result c.read_u64-2.type_inv c.word_right-2.ensures ∙ (ap (λ (x : ℕ). printable (word_bytes 8 x)) c.read_u64-2.ensures
-    ∙ (end_word 8 (length s - 8) s (bytes c) (omega arith) ∙ overlap i.i (length s - 8) s (omega arith) i.invariant.1))
+    ∙ (end_word 8 (length s - 8) s (bytes c.before.before.before.before) (omega arith) ∙ overlap i.i (length s - 8) s (omega arith) i.invariant.1))

@@ -1,10 +1,11 @@
 use Rattle.std.proofs.Common.{arith, rules}
 use Rattle.notice.proofs.Places.{Lies, right_lies, right_name}
 use Rattle.notice.proofs.Searches.{head_below, head_above}
+use Rattle.notice.proofs.search.stands_to.Goals.{After-shared_slice_known-2-1}
 use Rattle.notice.proofs.search.stands_to.Goals as goal
 
-lying : (c : goal.After-shared_slice_known-2-1) → Lies c.before.before.args.notice.now c.before.before.args.at
-lying c = right_lies c.before.before.args.notice.now c.before.before.args.at c.before.before.requires.0
+lying : (c : After-shared_slice_known-2-1) → Lies c.args.notice.now c.args.at
+lying c = right_lies c.args.notice.now c.args.at c.requires.0
 
 pub overflow_add-head : goal.overflow_add-head
 overflow_add-head c = let l = lying c in omega arith
@@ -12,7 +13,7 @@ overflow_add-head c = let l = lying c in omega arith
 pub bounds-notice-at : goal.bounds-notice-at
 bounds-notice-at c =
     let a = c.args in
-    let l = lying c in
+    let l = lying c.before in
     let n = (right_name a.notice.now a.at c.requires.0).0 in
     omega arith
 

@@ -5,10 +5,11 @@ use Rattle.notice.specs.Layout.{name_size_at, name_at, starts_from}
 use Rattle.notice.specs.Write.{place_in, place_for}
 use Rattle.notice.proofs.Places.{Lies, lies_true}
 use Rattle.notice.proofs.Walks.{from_header, starts_end, here, further, no_further}
+use Rattle.notice.proofs.writing.place_for.Goals.{Then-lies}
 use Rattle.notice.proofs.writing.place_for.Goals as goal
 
-lying : (c : goal.Then-lies) → Lies c.before.before.before.before.before.before.before.args.notice.now c.before.before.before.loop.at
-lying c = lies_true c.before.before.before.before.before.before.before.args.notice.now c.before.before.before.loop.at (sym c.before.lies.ensures ∙ c.if1.true)
+lying : (c : Then-lies) → Lies c.args.notice.now c.loop-left.at
+lying c = lies_true c.args.notice.now c.loop-left.at (sym c.lies.ensures ∙ c.if-lies.true)
 
 pub loop-left-init : goal.loop-left-init
 loop-left-init c =
@@ -22,7 +23,7 @@ name_size-requires c =
 
 pub slice_bounds-before-end : goal.slice_bounds-before-end
 slice_bounds-before-end c =
-    let l = lying c in
+    let l = lying c.before in
     omega arith
 
 pub returns-then-before : goal.returns-then-before
@@ -38,7 +39,7 @@ returns-then-before c =
 
 pub field_size-requires : goal.field_size-requires
 field_size-requires c =
-    let l = lying c in
+    let l = lying c.before.before.before.before in
     omega arith
 
 pub loop-left-preserved : goal.loop-left-preserved

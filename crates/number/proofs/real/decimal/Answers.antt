@@ -1,24 +1,27 @@
 use Rattle.std.proofs.Common.{◌≡◌, Bool, true, false, ◌∙◌, rules}
 use Rattle.number.specs.Real.{decimal_of, signed_real}
 use Rattle.number.proofs.Literals.{many_digits, far_exponent, in_limits_lem}
+use Rattle.number.proofs.real.decimal.Goals.{After-scaled-x}
 use Rattle.number.proofs.real.decimal.Goals as goal
 
-literal : (c : goal.After-scaled-x) (t : Bool) → let s = c.before.before.before in
-    s.args.negative ≡ t → signed_real t c.scaled.result ≡ decimal_of s.args.digits s.args.exponent s.args.down s.args.negative
+literal : (c : After-scaled-x) (t : Bool) → let s = c.before.before.before in
+    s.args.negative ≡ t → signed_real t c.scaled-x.result ≡ decimal_of s.args.digits s.args.exponent s.args.down s.args.negative
 literal c t n =
     let i = c.before in let s = i.before.before in
-    in_limits_lem s.args.digits s.args.exponent s.args.down s.args.negative t c.scaled.result i.before.if1.false i.if2.false n c.scaled.ensures
+    in_limits_lem s.args.digits s.args.exponent s.args.down s.args.negative t c.scaled-x.result i.if-digits-gt999999999999999.false i.if-exponent-gt22.false n c.scaled-x.ensures
 
 pub returns-then-digits-gt999999999999999 : goal.returns-then-digits-gt999999999999999
 returns-then-digits-gt999999999999999 c =
-    c.no_number.ensures ∙ many_digits c.args.digits c.args.exponent c.args.down c.args.negative c.if-digits-gt999999999999999.true
+    let i = c.before in let s = i.before in
+    c.no_number.ensures ∙ many_digits s.args.digits s.args.exponent s.args.down s.args.negative i.if-digits-gt999999999999999.true
 
 pub returns-then-exponent-gt22 : goal.returns-then-exponent-gt22
 returns-then-exponent-gt22 c =
-    c.no_number-then-exponent-gt22.ensures ∙ far_exponent c.args.digits c.args.exponent c.args.down c.args.negative c.if-exponent-gt22.true
+    let i = c.before in let s = i.before.before in
+    c.no_number-then-exponent-gt22.ensures ∙ far_exponent s.args.digits s.args.exponent s.args.down s.args.negative i.if-exponent-gt22.true
 
 pub returns-then-negative : goal.returns-then-negative
-returns-then-negative c = literal c true c.if-negative.true
+returns-then-negative c = literal c.before true c.if-negative.true
 
 pub returns-else-negative : goal.returns-else-negative
-returns-else-negative c = literal c false c.if-negative.false
+returns-else-negative c = literal c.before false c.if-negative.false

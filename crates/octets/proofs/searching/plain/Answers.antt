@@ -24,8 +24,10 @@ loop-i-init c = (omega arith, refl)
 
 pub loop-i-preserved-then-s-i : goal.loop-i-preserved-then-s-i
 loop-i-preserved-then-s-i c =
-    let l = c.loop-i in
-    let a = c.args in (
+    let b = c.before in
+    let o = b.before.before in
+    let l = o.loop-i in
+    let a = o.args in (
       omega arith,
       other_first (fold false) (fold false) a.s.now a.p.now l.i (omega arith) (omega arith)
           c.if-s-i.true ∙ l.invariant.1,
@@ -33,8 +35,10 @@ loop-i-preserved-then-s-i c =
 
 pub agreed-j-requires : goal.agreed-j-requires
 agreed-j-requires c =
-    let l = c.loop-i in
-    let a = c.args in (
+    let b = c.before in
+    let o = b.before.before in
+    let l = o.loop-i in
+    let a = o.args in (
       omega arith,
       omega arith,
       c.if-s-i.false,
@@ -42,28 +46,36 @@ agreed-j-requires c =
 
 pub returns-then-j-p : goal.returns-then-j-p
 returns-then-j-p c =
-    let l = c.loop-i in
-    let a = c.args in
+    let b = c.before.before.before in
+    let o = b.before.before in
+    let l = o.loop-i in
+    let a = o.args in
     found (fold false) a.s.now (folded false a.p.now) l.i (omega arith)
     (sym c.agreed-j.ensures ∙ eq-eqb c.agreed-j.result (length a.p.now) c.if-j-p.true) ∙ l.invariant.1
 
 pub by_borders-requires : goal.by_borders-requires
 by_borders-requires c =
-    let l = c.loop-i in
-    let a = c.args in
+    let b = c.before.before.before.before.before.before.before in
+    let o = b.before.before in
+    let l = o.loop-i in
+    let a = o.args in
     let h = and_parts (eqb c.left-credit.result 0) (leb (length a.p.now) 4096) c.if-credit-p.true in
     rw (rest a.p.now 0) (omega arith, leb-true (length a.p.now) 4096 h.1)
 
 pub returns-then-credit-p : goal.returns-then-credit-p
 returns-then-credit-p c =
-    let l = c.loop-i in
-    let a = c.args in
+    let b = c.before.before.before.before.before.before.before.before in
+    let o = b.before.before in
+    let l = o.loop-i in
+    let a = o.args in
     (rw (rest a.s.now l.i, rest a.p.now 0) at c.by_borders.ensures) ∙ l.invariant.1
 
 pub loop-i-preserved : goal.loop-i-preserved
 loop-i-preserved c =
-    let l = c.loop-i in
-    let a = c.args in (
+    let b = c.before.before.before.before.before in
+    let o = b.before.before in
+    let l = o.loop-i in
+    let a = o.args in (
       omega arith,
       passed (fold false) a.s.now (folded false a.p.now) l.i (omega arith)
           (sym c.agreed-j.ensures ∙ ne_eqb c.agreed-j.result (length a.p.now) c.if-j-p.false) ∙ l.invariant.1,

@@ -7,20 +7,21 @@ use lib.ListN.{take}
 use Rattle.word.specs.Word.{Bytes}
 use Rattle.octets.proofs.Sames.{less_alike, more_alike}
 use Rattle.octets.proofs.Leads.{all_alike}
+use Rattle.octets.proofs.words.before_words.Goals.{After-loop-i, After-shorter-tail, At-loop-i}
 use Rattle.octets.proofs.words.before_words.Goals as goal
 
-bytes_s : (c : goal.At-loop-i) → Bytes c.before.before.before.before.args.s.now
-bytes_s c i = (c.before.before.before.shared-slice-known.given i).fits
+bytes_s : (c : At-loop-i) → Bytes c.args.s.now
+bytes_s c i = (c.shared_slice_known-1.given i).fits
 
-bytes_t : (c : goal.At-loop-i) → Bytes c.before.before.before.before.args.t.now
-bytes_t c i = (c.before.before.shared-slice-known2.given i).fits
+bytes_t : (c : At-loop-i) → Bytes c.args.t.now
+bytes_t c i = (c.shared_slice_known-2-1.given i).fits
 
 -- the last word starts behind no byte that was not told
-before_last : (c : goal.After-loop-i) → take (c.before.before.shorter.result - 8) c.before.before.before.before.before.args.s.now ≡ take (c.before.before.shorter.result - 8) c.before.before.before.before.before.args.t.now
-before_last c = less_alike c.before.before.before.before.before.args.s.now c.before.before.before.before.before.args.t.now (c.before.before.shorter.result - 8) c.before.loop.i (omega (arith, c.loop-test.false)) c.before.loop.invariant.1
+before_last : (c : After-loop-i) → take (c.shorter-tail.result - 8) c.args.s.now ≡ take (c.shorter-tail.result - 8) c.args.t.now
+before_last c = less_alike c.args.s.now c.args.t.now (c.shorter-tail.result - 8) c.loop-i.i (omega (arith, c.loop-i-test.false)) c.loop-i.invariant.1
 
-long : (c : goal.After-shorter-tail) → 8 ≤ c.shorter.result
-long c = ⊎_elim (λ e. omega (arith, e, c.before.before.before.requires.0)) (λ e. omega (arith, e, c.before.before.before.requires.1)) c.shorter.ensures.2
+long : (c : After-shorter-tail) → 8 ≤ c.shorter-tail.result
+long c = ⊎_elim (λ e. omega (arith, e, c.requires.0)) (λ e. omega (arith, e, c.requires.1)) c.shorter-tail.ensures.2
 
 pub shorter-tail-requires : goal.shorter-tail-requires
 shorter-tail-requires c = tt
@@ -32,22 +33,22 @@ pub loop-i-init : goal.loop-i-init
 loop-i-init c = (omega arith, refl)
 
 pub read_u64-requires : goal.read_u64-requires
-read_u64-requires c = omega (arith, c.loop-i-test.true, c.shorter-tail.ensures.0, long c)
+read_u64-requires c = omega (arith, c.loop-i-test.true, c.shorter-tail.ensures.0, long c.before.before)
 
 pub read_u64-requires-in-loop-i : goal.read_u64-requires-in-loop-i
-read_u64-requires-in-loop-i c = omega (arith, c.loop-i-test.true, c.shorter-tail.ensures.1, long c)
+read_u64-requires-in-loop-i c = omega (arith, c.loop-i-test.true, c.shorter-tail.ensures.1, long c.before.before.before)
 
 pub by_word-requires : goal.by_word-requires
 by_word-requires c =
     (
-  omega (arith, c.loop-i-test.true, c.shorter-tail.ensures.0, long c),
-  omega (arith, c.loop-i-test.true, c.shorter-tail.ensures.1, long c),
+  omega (arith, c.loop-i-test.true, c.shorter-tail.ensures.0, long c.before.before.before.before.before),
+  omega (arith, c.loop-i-test.true, c.shorter-tail.ensures.1, long c.before.before.before.before.before),
   c.loop-i.invariant.1,
   λ e. c.if-read_u64.true (c.read_u64.ensures ∙ (e ∙ sym c.read_u64-in-loop-i.ensures)),
 )
 
 pub returns-then-read_u64 : goal.returns-then-read_u64
-returns-then-read_u64 c = c.by_word_lem.ensures
+returns-then-read_u64 c = c.by_word.ensures
 
 pub overflow_add-i : goal.overflow_add-i
 overflow_add-i c = omega (arith, c.loop-i-test.true, c.shorter-tail.ensures.0)
@@ -60,21 +61,21 @@ loop-i-preserved c =
     let a = c.args in
     let e = sym c.read_u64.ensures ∙ (c.if-read_u64.false ∙ c.read_u64-in-loop-i.ensures) in (
       omega (arith, c.loop-i-test.true),
-      more_alike a.s.now a.t.now (bytes_s c) (bytes_t c) 8 c.loop-i.i (omega (arith, c.loop-i-test.true, c.shorter-tail.ensures.0, long c)) (omega (arith, c.loop-i-test.true, c.shorter-tail.ensures.1, long c)) e c.loop-i.invariant.1,
+      more_alike a.s.now a.t.now (bytes_s c.before.before.before.before) (bytes_t c.before.before.before.before) 8 c.loop-i.i (omega (arith, c.loop-i-test.true, c.shorter-tail.ensures.0, long c.before.before.before.before.before)) (omega (arith, c.loop-i-test.true, c.shorter-tail.ensures.1, long c.before.before.before.before.before)) e c.loop-i.invariant.1,
     )
 
 pub read_u64-requires-2 : goal.read_u64-requires-2
-read_u64-requires-2 c = omega (arith, c.shorter-tail.ensures.0, long c)
+read_u64-requires-2 c = omega (arith, c.shorter-tail.ensures.0, long c.before.before)
 
 pub read_u64-requires-3 : goal.read_u64-requires-3
-read_u64-requires-3 c = omega (arith, c.shorter-tail.ensures.1, long c)
+read_u64-requires-3 c = omega (arith, c.shorter-tail.ensures.1, long c.before.before.before)
 
 pub by_word-requires-then-read_u64-2 : goal.by_word-requires-then-read_u64-2
 by_word-requires-then-read_u64-2 c =
     (
-  omega (arith, c.shorter-tail.ensures.0, long c),
-  omega (arith, c.shorter-tail.ensures.1, long c),
-  before_last c,
+  omega (arith, c.shorter-tail.ensures.0, long c.before.before.before.before.before),
+  omega (arith, c.shorter-tail.ensures.1, long c.before.before.before.before.before),
+  before_last c.before.before.before,
   λ e. c.if-read_u64-2.true (c.read_u64-2.ensures ∙ (e ∙ sym c.read_u64-3.ensures)),
 )
 
@@ -86,8 +87,8 @@ returns c =
     let a = c.args in
     let n = c.shorter-tail.result in
     let r = c.shorter-tail.ensures in
-    let l = long c in
+    let l = long c.before.before.before.before.before in
     let z : n - 8 + 8 ≡ n = omega (arith, l) in
     let e = sym c.read_u64-2.ensures ∙ (c.if-read_u64-2.false ∙ c.read_u64-3.ensures) in
-    let w = more_alike a.s.now a.t.now (bytes_s c) (bytes_t c) 8 (n - 8) (omega (arith, l, r.0)) (omega (arith, l, r.1)) e (before_last c) in
+    let w = more_alike a.s.now a.t.now (bytes_s c.before.before.before.before) (bytes_t c.before.before.before.before) 8 (n - 8) (omega (arith, l, r.0)) (omega (arith, l, r.1)) e (before_last c.before.before.before) in
     all_alike n a.s.now a.t.now r.0 r.1 r.2 (rw z at w)

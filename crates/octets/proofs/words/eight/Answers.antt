@@ -8,10 +8,11 @@ use Rattle.word.proofs.Laws.{fits7}
 use Rattle.octets.specs.Octets.{lead}
 use Rattle.octets.proofs.Leads.{lead_more, lead_all}
 use borrow.Author.Rules.{rules}
+use Rattle.octets.proofs.words.eight.Goals.{After-shared_slice_known-1}
 use Rattle.octets.proofs.words.eight.Goals as goal
 
-byte : (c : goal.After-shared_slice_known-1) → get_or c.before.before.before.args.s.now (c.before.before.before.args.at + c.before.before.loop.i) 0 < 256
-byte c = (c.shared-slice-known.given (c.before.before.before.args.at + c.before.before.loop.i)).fits
+byte : (c : After-shared_slice_known-1) → get_or c.args.s.now (c.args.at + c.loop-i.i) 0 < 256
+byte c = (c.shared_slice_known-1.given (c.args.at + c.loop-i.i)).fits
 
 pub loop-i-init : goal.loop-i-init
 loop-i-init c =

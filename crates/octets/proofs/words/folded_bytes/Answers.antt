@@ -19,7 +19,7 @@ pub returns-then-fold : goal.returns-then-fold
 returns-then-fold c =
     let a = c.args in
     let l = c.loop-i in
-    same_stop (fold true) (fold a.t-mark) a.s.now a.t.now l.i (omega arith) (omega arith)
+    same_stop (fold true) (fold a.t_mark) a.s.now a.t.now l.i (omega arith) (omega arith)
     (λ e. c.if-fold.true (c.fold.ensures ∙ e ∙ sym c.fold-in-loop-i.ensures)) ∙ l.invariant.1
 
 pub overflow_add-i : goal.overflow_add-i
@@ -33,7 +33,7 @@ loop-i-preserved c =
     let a = c.args in
     let l = c.loop-i in (
       omega arith,
-      same_more (fold true) (fold a.t-mark) a.s.now a.t.now l.i (omega arith) (omega arith)
+      same_more (fold true) (fold a.t_mark) a.s.now a.t.now l.i (omega arith) (omega arith)
           (sym c.fold.ensures ∙ c.if-fold.false ∙ c.fold-in-loop-i.ensures) ∙ l.invariant.1,
     )
 
@@ -41,4 +41,4 @@ pub returns : goal.returns
 returns c =
     let a = c.args in
     let l = c.loop-i in
-    same_end (fold true) (fold a.t-mark) a.s.now a.t.now l.i (omega arith) (omega arith) ∙ l.invariant.1
+    same_end (fold true) (fold a.t_mark) a.s.now a.t.now l.i (omega arith) (omega arith) ∙ l.invariant.1

@@ -5,7 +5,7 @@ use Rattle.regexp.proofs.well_formed.Reads as well-formed-reads-2
 use Rattle.operands.proofs.literal.is_pattern.Goals as goal
 
 pub returns-then-function-eq-WILDCARD : goal.returns-then-function-eq-WILDCARD
-returns-then-function-eq-WILDCARD c = rw (eq-eqb _ _ c.if-function-eq-WILDCARD.taken, c.well-formed.ensures)
+returns-then-function-eq-WILDCARD c = rw (eq-eqb _ _ c.if-function-eq-WILDCARD.taken, c.well_formed.ensures)
 
 pub returns-then-function-eq-REGEX : goal.returns-then-function-eq-REGEX
 returns-then-function-eq-REGEX c =

@@ -13,24 +13,24 @@ use Rattle.pattern.proofs.wildcard.only_runs.Reads as only-runs-reads
 use Rattle.pattern.proofs.wildcard.fits.Goals as goal
 
 pub loop-v-init : goal.loop-v-init
-loop-v-init c = let a = c.args in match_start (folded a.s-mark a.s.now) (folded a.p-mark a.p.now)
+loop-v-init c = let a = c.args in match_start (folded a.s_mark a.s.now) (folded a.p_mark a.p.now)
 
 pub loop-v-smaller-then-next-gt0 : goal.loop-v-smaller-then-next-gt0
 loop-v-smaller-then-next-gt0 c =
     let a = c.args in
     let l = c.loop-v in
-    let x = folded a.s-mark a.s.now in
-    let t = folded a.p-mark a.p.now in
-    let k = match-on x t l.i l.v l.behind l.base l.invariant c.fold.result c.item_takes-next.result (rw c.fold.ensures (here a.s-mark a.s.now l.v (omega arith))) c.item_takes-next.ensures (omega arith) in
-    lighter_on (length a.s.now) (length a.p.now) l.base l.i c.item_takes-next.result k.0 (rw (length-map a.p.now (fold a.p-mark)) at k.1)
+    let x = folded a.s_mark a.s.now in
+    let t = folded a.p_mark a.p.now in
+    let k = match-on x t l.i l.v l.behind l.base l.invariant c.fold.result c.item_takes-next.result (rw c.fold.ensures (here a.s_mark a.s.now l.v (omega arith))) c.item_takes-next.ensures (omega arith) in
+    lighter_on (length a.s.now) (length a.p.now) l.base l.i c.item_takes-next.result k.0 (rw (length-map a.p.now (fold a.p_mark)) at k.1)
 
 pub loop-v-preserved-then-next-gt0 : goal.loop-v-preserved-then-next-gt0
 loop-v-preserved-then-next-gt0 c =
     let a = c.args in
     let l = c.loop-v in
-    let x = folded a.s-mark a.s.now in
-    let t = folded a.p-mark a.p.now in
-    match-taken x t l.i l.v l.behind l.base l.invariant c.fold.result c.item_takes-next.result (rw c.fold.ensures (here a.s-mark a.s.now l.v (omega arith))) c.item_takes-next.ensures (omega arith)
+    let x = folded a.s_mark a.s.now in
+    let t = folded a.p_mark a.p.now in
+    match-taken x t l.i l.v l.behind l.base l.invariant c.fold.result c.item_takes-next.result (rw c.fold.ensures (here a.s_mark a.s.now l.v (omega arith))) c.item_takes-next.ensures (omega arith)
 
 pub overflow_add-i : goal.overflow_add-i
 overflow_add-i c =
@@ -50,17 +50,17 @@ pub loop-v-preserved-then-begins : goal.loop-v-preserved-then-begins
 loop-v-preserved-then-begins c =
     let a = c.args in
     let l = c.loop-v in
-    let x = folded a.s-mark a.s.now in
-    let t = folded a.p-mark a.p.now in
-    match_run x t l.i l.v l.behind l.base l.invariant (sign_same a.p-mark a.p.now l.i 42 run_sign ∙ sym c.begins.ensures ∙ c.if-begins.true)
+    let x = folded a.s_mark a.s.now in
+    let t = folded a.p_mark a.p.now in
+    match_run x t l.i l.v l.behind l.base l.invariant (sign_same a.p_mark a.p.now l.i 42 run_sign ∙ sym c.begins.ensures ∙ c.if-begins.true)
 
 pub returns-then-behind-eq0 : goal.returns-then-behind-eq0
 returns-then-behind-eq0 c =
     let a = c.args in
     let l = c.loop-v in
-    let x = folded a.s-mark a.s.now in
-    let t = folded a.p-mark a.p.now in
-    match-failed x t l.i l.v l.behind l.base l.invariant c.fold.result c.item_takes-next.result (rw c.fold.ensures (here a.s-mark a.s.now l.v (omega arith))) c.item_takes-next.ensures (omega arith) (sign_same a.p-mark a.p.now l.i 42 run_sign ∙ sym c.begins.ensures ∙ c.if-begins.false) c.if-behind-eq0.true
+    let x = folded a.s_mark a.s.now in
+    let t = folded a.p_mark a.p.now in
+    match-failed x t l.i l.v l.behind l.base l.invariant c.fold.result c.item_takes-next.result (rw c.fold.ensures (here a.s_mark a.s.now l.v (omega arith))) c.item_takes-next.ensures (omega arith) (sign_same a.p_mark a.p.now l.i 42 run_sign ∙ sym c.begins.ensures ∙ c.if-begins.false) c.if-behind-eq0.true
 
 pub overflow_add-base : goal.overflow_add-base
 overflow_add-base c =
@@ -78,14 +78,14 @@ pub loop-v-preserved : goal.loop-v-preserved
 loop-v-preserved c =
     let a = c.args in
     let l = c.loop-v in
-    let x = folded a.s-mark a.s.now in
-    let t = folded a.p-mark a.p.now in
-    match_back x t l.i l.v l.behind l.base l.invariant c.fold.result c.item_takes-next.result (rw c.fold.ensures (here a.s-mark a.s.now l.v (omega arith))) c.item_takes-next.ensures (omega arith) (sign_same a.p-mark a.p.now l.i 42 run_sign ∙ sym c.begins.ensures ∙ c.if-begins.false) c.if-behind-eq0.false
+    let x = folded a.s_mark a.s.now in
+    let t = folded a.p_mark a.p.now in
+    match_back x t l.i l.v l.behind l.base l.invariant c.fold.result c.item_takes-next.result (rw c.fold.ensures (here a.s_mark a.s.now l.v (omega arith))) c.item_takes-next.ensures (omega arith) (sign_same a.p_mark a.p.now l.i 42 run_sign ∙ sym c.begins.ensures ∙ c.if-begins.false) c.if-behind-eq0.false
 
 pub returns : goal.returns
 returns c =
     let a = c.args in
     let l = c.loop-v in
-    let x = folded a.s-mark a.s.now in
-    let t = folded a.p-mark a.p.now in
-    c.only_runs.ensures ∙ sym (runs_folded a.p-mark a.p.now l.i) ∙ match_end x t l.i l.v l.behind l.base l.invariant (rw (length-map a.s.now (fold a.s-mark)) (omega arith))
+    let x = folded a.s_mark a.s.now in
+    let t = folded a.p_mark a.p.now in
+    c.only_runs.ensures ∙ sym (runs_folded a.p_mark a.p.now l.i) ∙ match_end x t l.i l.v l.behind l.base l.invariant (rw (length-map a.s.now (fold a.s_mark)) (omega arith))

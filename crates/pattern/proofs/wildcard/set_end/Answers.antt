@@ -19,7 +19,7 @@ pub returns-then-begins : goal.returns-then-begins
 returns-then-begins c =
     let a = c.args in
     let f = not_folded a.p.now in
-    c.end_of_lem.ensures ∙ ap set_end_of (rw f at c.set_test.ensures) ∙ set_end_out a.p.now a.i 0 (sym c.begins.ensures ∙ c.if-begins.true)
+    c.end_of.ensures ∙ ap set_end_of (rw f at c.set_test.ensures) ∙ set_end_out a.p.now a.i 0 (sym c.begins.ensures ∙ c.if-begins.true)
 
 pub returns : goal.returns
 returns c =

@@ -12,4 +12,4 @@ returns-then-before-ne-CLOSE c =
 
 pub returns : goal.returns
 returns c =
-    rw (← c.before-2.ensures, sym c.broken.ensures ∙ c.if-broken.false, ← c.next-next.ensures.0, eq-eqb _ _ c.if-before-ne-CLOSE.false, ← c.end-end.ensures.0, ← c.known-a.ensures, ← c.call_Known.ensures.0, ← c.call_code.ensures) (c.pack.ensures, c.leave.ensures)
+    rw (← c.before-2.ensures, sym c.broken.ensures ∙ c.if-broken.false, ← c.next-next.ensures.0, eq-eqb _ _ c.if-before-ne-CLOSE.false, ← c.end-end.ensures.0, ← c.known-a.ensures, ← c.call_known.ensures.0, ← c.call_code.ensures) (c.pack.ensures, c.leave.ensures)

@@ -3,7 +3,7 @@ use borrow.Author.Rules.{rules}
 use Rattle.postfix.proofs.part.leave_skip.Goals as goal
 
 pub returns-then-k-eq-AND : goal.returns-then-k-eq-AND
-returns-then-k-eq-AND c = rw (eq-eqb _ _ c.if-k-eq-AND.true, ← c.code_of_lem.ensures) c.leave.ensures
+returns-then-k-eq-AND c = rw (eq-eqb _ _ c.if-k-eq-AND.true, ← c.code_of.ensures) c.leave.ensures
 
 pub returns-then-k-eq-OR : goal.returns-then-k-eq-OR
 returns-then-k-eq-OR c =

@@ -28,7 +28,9 @@ slice_bounds-run_by-end c =
     omega (arith, h.head.least, h.head.fits, c.size_of-size.ensures)
 
 pub run_by-requires : goal.run_by-requires
-run_by-requires c = (rw c.size_of-size.ensures (holding c.args.buffer.now c.requires.0).table, c.requires.1)
+run_by-requires c =
+    let s = c.before.before.before.before.before in
+    (rw c.size_of-size.ensures (holding s.args.buffer.now s.requires.0).table, s.requires.1)
 
 pub returns : goal.returns
 returns c =

@@ -5,11 +5,11 @@ use borrow.Author.Rules.{rules}
 use Rattle.quorum.proofs.Staff.{staff_none, staff_lies, staff_found, staff_wrong}
 use Rattle.quorum.proofs.judging.staff.Goals as goal
 
--- ? slice-bounds-result-end-2
--- part_result_end_2 c =
---     let g = c.before.before.found.given in
---     let l = staff_lies c.before.before.before.before.before.before.before.args.notice.now g.0.0 g.0.1.0 g.0.1.1.0 (sym c.before.before.before.before.lookup-along.ensures ∙ g.1) in
---     omega arith
+pub slice_bounds-result-end-then-kind-len : goal.slice_bounds-result-end-then-kind-len
+slice_bounds-result-end-then-kind-len c =
+    let g = c.found-1.given in
+    let l = staff_lies c.args.notice.now g.0.0 g.0.1.0 g.0.1.1.0 (sym c.lookup_along-found.ensures ∙ g.1) in
+    omega arith
 
 pub returns-then-kind-len : goal.returns-then-kind-len
 returns-then-kind-len c =

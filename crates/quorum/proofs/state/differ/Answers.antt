@@ -18,8 +18,9 @@ overflow_add-i c = omega (arith, c.loop-i.invariant.0, c.requires.few)
 
 pub value-requires : goal.value-requires
 value-requires c =
-    let z = size_at_lem c.args.buffer.now c.requires c.loop-i.i (omega arith) in
-    (c.requires.long, omega (arith, c.requires.few), z.1)
+    let s = c.before.before.before in
+    let z = size_at_lem s.args.buffer.now s.requires c.loop-i.i (omega arith) in
+    (s.requires.long, omega (arith, s.requires.few), z.1)
 
 pub has-requires : goal.has-requires
 has-requires c =
@@ -36,12 +37,12 @@ later c =
 pub returns-then-has : goal.returns-then-has
 returns-then-has c =
     let a = c.args in
-    twice a.buffer.now a.n c.loop-i.i (omega arith) c.has.result (later c) c.if-has.true ∙ c.loop-i.invariant.1
+    twice a.buffer.now a.n c.loop-i.i (omega arith) c.has.result (later c.before) c.if-has.true ∙ c.loop-i.invariant.1
 
 pub loop-i-preserved : goal.loop-i-preserved
 loop-i-preserved c =
     let a = c.args in
-    (omega arith, once a.buffer.now a.n c.loop-i.i (omega arith) c.has.result (later c) c.if-has.false ∙ c.loop-i.invariant.1)
+    (omega arith, once a.buffer.now a.n c.loop-i.i (omega arith) c.has.result (later c.before) c.if-has.false ∙ c.loop-i.invariant.1)
 
 pub returns : goal.returns
 returns c = differ_end c.args.buffer.now c.args.n c.loop-i.i (omega arith) ∙ c.loop-i.invariant.1

@@ -9,13 +9,14 @@ use Rattle.store.specs.Layout.{header_right}
 use Rattle.store.proofs.Parses.{Stands, stands_parts, header_parts, no_header}
 use Rattle.store.proofs.Stores.{Walk, walk_starts, walk_stops, walk_goes, walk_ends}
 use borrow.Author.Rules.{rules}
+use Rattle.store.proofs.records.index.Goals.{Else-not-header_right, Else-not-stands}
 use Rattle.store.proofs.records.index.Goals as goal
 
-header : (c : goal.Else-not-header_right) → header_right c.before.before.before.args.store.now ≡ true
-header c = sym c.before.header-right.ensures ∙ not-false _ c.if1.false
+header : (c : Else-not-header_right) → header_right c.args.store.now ≡ true
+header c = sym c.header_right.ensures ∙ not-false _ c.if-not-header_right.false
 
-stood : (c : goal.Else-not-stands) → Stands c.before.before.before.before.loop.starts c.before.before.before.before.before.before.before.before.before.before.args.store.now (4 + c.before.before.before.before.before.before.read_u32.result) c.before.before.before.before.loop.at
-stood c = stands_parts _ _ _ _ (sym c.before.stands.ensures ∙ not-false _ c.if2.false)
+stood : (c : Else-not-stands) → Stands c.loop-left.starts c.args.store.now (4 + c.read_u32.result) c.loop-left.at
+stood c = stands_parts _ _ _ _ (sym c.stands.ensures ∙ not-false _ c.if-not-stands.false)
 
 pub returns-then-not-header_right : goal.returns-then-not-header_right
 returns-then-not-header_right c =
@@ -25,11 +26,11 @@ pub read_u32-requires : goal.read_u32-requires
 read_u32-requires c = let h = header_parts _ (header c) in omega (arith, h.long)
 
 pub read_u16-left-requires : goal.read_u16-left-requires
-read_u16-left-requires c = let h = header_parts _ (header c) in omega (arith, h.long)
+read_u16-left-requires c = let h = header_parts _ (header c.before) in omega (arith, h.long)
 
 pub loop-left-init : goal.loop-left-init
 loop-left-init c =
-    walk_starts c.args.store.now c.args.starts.now _ _ (header c) c.requires (ap (λ (n : ℕ). 4 + n) c.read_u32.ensures) c.read_u16-left.ensures
+    walk_starts c.args.store.now c.args.starts.now _ _ (header c.before.before) c.requires (ap (λ (n : ℕ). 4 + n) c.read_u32.ensures) c.read_u16-left.ensures
 
 pub stands-requires : goal.stands-requires
 stands-requires c = let w = c.loop-left.invariant in (w.fits, w.short)
@@ -43,23 +44,23 @@ pub read_u16-requires : goal.read_u16-requires
 read_u16-requires c = let w = stood c in let f = c.loop-left.invariant.fits in omega (arith, w.here, f)
 
 pub overflow_sub-number : goal.overflow_sub-number
-overflow_sub-number c = let w = stood c in omega (arith, w.low, c.read_u16.ensures)
+overflow_sub-number c = let w = stood c.before in omega (arith, w.low, c.read_u16.ensures)
 
 pub overflow_cast-starts : goal.overflow_cast-starts
-overflow_cast-starts c = let w = stood c in let f = c.loop-left.invariant in omega (arith, w.here, f.fits, f.small)
+overflow_cast-starts c = let w = stood c.before in let f = c.loop-left.invariant in omega (arith, w.here, f.fits, f.small)
 
 pub offset_bounds-starts-number : goal.offset_bounds-starts-number
-offset_bounds-starts-number c = let w = stood c in omega (arith, w.high, c.read_u16.ensures)
+offset_bounds-starts-number c = let w = stood c.before in omega (arith, w.high, c.read_u16.ensures)
 
 pub bounds-starts-number : goal.bounds-starts-number
-bounds-starts-number c = let w = stood c in omega (arith, w.low, w.high, c.read_u16.ensures)
+bounds-starts-number c = let w = stood c.before in omega (arith, w.low, w.high, c.read_u16.ensures)
 
 pub read_u16-requires-in-loop-left : goal.read_u16-requires-in-loop-left
-read_u16-requires-in-loop-left c = let w = stood c in let f = c.loop-left.invariant.fits in omega (arith, w.here, f)
+read_u16-requires-in-loop-left c = let w = stood c.before in let f = c.loop-left.invariant.fits in omega (arith, w.here, f)
 
 pub overflow_add-at-in-loop-left-2 : goal.overflow_add-at-in-loop-left-2
 overflow_add-at-in-loop-left-2 c =
-    let w = stood c in let f = c.loop-left.invariant in omega (arith, w.within, f.fits, f.small, c.read_u16-in-loop-left.ensures)
+    let w = stood c.before.before in let f = c.loop-left.invariant in omega (arith, w.within, f.fits, f.small, c.read_u16-in-loop-left.ensures)
 
 pub loop-left-preserved : goal.loop-left-preserved
 loop-left-preserved c =

@@ -9,7 +9,7 @@ place_in-requires c =
     ((λ h. omega (arith, length-replicate {A = ℕ} 512 0, h, c.if-text-le512.true)), (λ h. omega (arith, length-replicate {A = ℕ} 512 0, h, c.if-text-le512.true)))
 
 pub returns-then-text-le512 : goal.returns-then-text-le512
-returns-then-text-le512 c = c.IsPlace-in.ensures
+returns-then-text-le512 c = c.place_in.ensures
 
 pub place_in-requires-2 : goal.place_in-requires-2
 place_in-requires-2 c =

@@ -9,47 +9,48 @@ use Rattle.notice.specs.Write.{place_among}
 use Rattle.ubf.specs.Span.{name_in, SpanIn, row_in, row_fields, Rising}
 use Rattle.ubf.specs.declared.spans.Span.{Span}
 use Rattle.ubf.proofs.Arranged.{place_within, Sofar, row_lies, rising_rows, repeated_here, sofar_start, sofar_more, arranged, not_arranged}
+use Rattle.ubf.proofs.ordering.arrange.Goals.{After-place_for-at, After-repeated_at, After-span_at-s, In-loop-left}
 use Rattle.ubf.proofs.ordering.arrange.Goals as goal
 
 -- the row that is put in order now, and the rows after it
-lies : (c : goal.After-span_at-s) → SpanIn c.before.before.before.before.before.before.args.text.now c.span-at.result
+lies : (c : After-span_at-s) → SpanIn c.args.text.now c.span_at-s.result
 lies c =
-    let a = c.before.before.before.before.before.before.args in
-    let p = c.before.before.before.before.before.before.requires in
-    subst (SpanIn a.text.now) (sym c.span-at.ensures) (row_lies a.text.now a.rows.now a.count p.0 p.1 p.3 (c.before.before.loop.left - 1) (omega (arith, c.before.before.loop.invariant.0, c.before.loop-test.true)))
+    let a = c.args in
+    let p = c.requires in
+    subst (SpanIn a.text.now) (sym c.span_at-s.ensures) (row_lies a.text.now a.rows.now a.count p.0 p.1 p.3 (c.loop-left.left - 1) (omega (arith, c.loop-left.invariant.0, c.loop-left-test.true)))
 
-rises : (c : goal.In-loop-left) → Rising c.before.before.before.before.before.args.text.now c.before.before.before.before.before.args.rows.now c.before.loop.order (64 - c.before.before.before.before.before.args.count + c.before.loop.left)
+rises : (c : In-loop-left) → Rising c.args.text.now c.args.rows.now c.loop-left.order (64 - c.args.count + c.loop-left.left)
 rises c =
-    let a = c.before.before.before.before.before.args in
-    let p = c.before.before.before.before.before.requires in
-    let l = c.before.loop in
-    rising_rows a.text.now a.rows.now a.count p.0 p.1 p.3 l.order l.invariant.1 l.left l.invariant.2 (omega (arith, c.loop-test.true)) l.invariant.0
+    let a = c.args in
+    let p = c.requires in
+    let l = c.loop-left in
+    rising_rows a.text.now a.rows.now a.count p.0 p.1 p.3 l.order l.invariant.1 l.left l.invariant.2 (omega (arith, c.loop-left-test.true)) l.invariant.0
 
 -- its place
-placed : (c : goal.After-place_for-at)
-    → c.place-for.result ≡ 64 - c.before.before.before.before.before.before.before.before.args.count + c.before.before.before.before.loop.left + place_among (name_in c.before.before.before.before.before.before.before.before.args.text.now (row_in c.before.before.before.before.before.before.before.before.args.rows.now (c.before.before.before.before.loop.left - 1))) (row_fields c.before.before.before.before.before.before.before.before.args.text.now c.before.before.before.before.before.before.before.before.args.rows.now (drop (64 - c.before.before.before.before.before.before.before.before.args.count + c.before.before.before.before.loop.left) c.before.before.before.before.loop.order))
+placed : (c : After-place_for-at)
+    → c.place_for-at.result ≡ 64 - c.args.count + c.loop-left.left + place_among (name_in c.args.text.now (row_in c.args.rows.now (c.loop-left.left - 1))) (row_fields c.args.text.now c.args.rows.now (drop (64 - c.args.count + c.loop-left.left) c.loop-left.order))
 placed c =
-    let a = c.before.before.before.before.before.before.before.before.args in
-    let l = c.before.before.before.before.loop in
+    let a = c.args in
+    let l = c.loop-left in
     let f = 64 - a.count + l.left in
-    c.place-for.ensures ∙ ap (λ (s : Span). f + place_among (name_in a.text.now s) (row_fields a.text.now a.rows.now (drop f l.order))) c.before.before.span-at.ensures
+    c.place_for-at.ensures ∙ ap (λ (s : Span). f + place_among (name_in a.text.now s) (row_fields a.text.now a.rows.now (drop f l.order))) c.span_at-s.ensures
 
-within : (c : goal.After-place_for-at) → (64 - c.before.before.before.before.before.before.before.before.args.count + c.before.before.before.before.loop.left ≤ c.place-for.result) × (c.place-for.result ≤ 64)
+within : (c : After-place_for-at) → (64 - c.args.count + c.loop-left.left ≤ c.place_for-at.result) × (c.place_for-at.result ≤ 64)
 within c =
-    let a = c.before.before.before.before.before.before.before.before.args in
-    let l = c.before.before.before.before.loop in
+    let a = c.args in
+    let l = c.loop-left in
     let f = 64 - a.count + l.left in
     let w = place_within a.text.now a.rows.now l.order f (rises c.before.before.before) (name_in a.text.now (row_in a.rows.now (l.left - 1))) in
     omega (arith, placed c)
 
 -- whether its name is among those after it
-named : (c : goal.After-repeated_at)
-    → c.repeated_at.result ≡ has_name (name_in c.before.before.before.before.before.before.before.before.before.before.args.text.now (row_in c.before.before.before.before.before.before.before.before.before.before.args.rows.now (c.before.before.before.before.before.before.loop.left - 1))) (row_fields c.before.before.before.before.before.before.before.before.before.before.args.text.now c.before.before.before.before.before.before.before.before.before.before.args.rows.now (drop (64 - c.before.before.before.before.before.before.before.before.before.before.args.count + c.before.before.before.before.before.before.loop.left) c.before.before.before.before.before.before.loop.order))
+named : (c : After-repeated_at)
+    → c.repeated_at.result ≡ has_name (name_in c.args.text.now (row_in c.args.rows.now (c.loop-left.left - 1))) (row_fields c.args.text.now c.args.rows.now (drop (64 - c.args.count + c.loop-left.left) c.loop-left.order))
 named c =
-    let a = c.before.before.before.before.before.before.before.before.before.before.args in
-    let l = c.before.before.before.before.before.before.loop in
+    let a = c.args in
+    let l = c.loop-left in
     let f = 64 - a.count + l.left in
-    c.repeated_at.ensures ∙ ap (λ (s : Span). has_name (name_in a.text.now s) (row_fields a.text.now a.rows.now (drop f l.order))) c.before.before.before.before.span-at.ensures
+    c.repeated_at.ensures ∙ ap (λ (s : Span). has_name (name_in a.text.now s) (row_fields a.text.now a.rows.now (drop f l.order))) c.span_at-s.ensures
 
 pub loop-left-init : goal.loop-left-init
 loop-left-init c =
@@ -70,10 +71,10 @@ pub span_at-s-requires : goal.span_at-s-requires
 span_at-s-requires c = omega (arith, c.requires.0, c.requires.1, c.loop-left.invariant.0, c.loop-left-test.true)
 
 pub place_for-at-requires : goal.place_for-at-requires
-place_for-at-requires c = (lies c, rises c)
+place_for-at-requires c = (lies c.before, rises c.before.before)
 
 pub repeated_at-requires : goal.repeated_at-requires
-repeated_at-requires c = (lies c, rises c, c.place_for-at.ensures)
+repeated_at-requires c = (lies c.before.before.before, rises c.before.before.before.before, c.place_for-at.ensures)
 
 pub shape_of-order-then-repeated_at : goal.shape_of-order-then-repeated_at
 shape_of-order-then-repeated_at c = c.loop-left.invariant.1 ∙ sym c.requires.2
@@ -84,13 +85,14 @@ returns-then-repeated_at c =
     let p = c.requires in
     let l = c.loop-left in
     not_arranged a.text.now a.rows.now a.count p.0 p.1 p.3 l.order
-    (repeated_here a.text.now a.rows.now a.count p.0 p.1 p.3 l.order l.invariant.1 l.left l.invariant.2 (omega (arith, c.loop-left-test.true)) l.invariant.0 (sym c.if-repeated_at.true ∙ named c))
+    (repeated_here a.text.now a.rows.now a.count p.0 p.1 p.3 l.order l.invariant.1 l.left l.invariant.2 (omega (arith, c.loop-left-test.true)) l.invariant.0 (sym c.if-repeated_at.true ∙ named c.before))
 
 pub overflow_sub-first-in-loop-left : goal.overflow_sub-first-in-loop-left
 overflow_sub-first-in-loop-left c = omega (arith, c.loop-left-test.true)
 
 pub move_down-requires : goal.move_down-requires
-move_down-requires c = let w = within c in (omega arith, omega (arith, w), omega (arith, w, c.loop-left.invariant.1))
+move_down-requires c =
+    let w = within c.before.before.before.before in (omega arith, omega (arith, w), omega (arith, w, c.loop-left.invariant.1))
 
 pub overflow_sub-order : goal.overflow_sub-order
 overflow_sub-order c = omega (arith, c.loop-left-test.true)
@@ -99,10 +101,11 @@ pub overflow_cast-order : goal.overflow_cast-order
 overflow_cast-order c = omega (arith, c.requires.0, c.loop-left.invariant.0)
 
 pub overflow_sub-order-in-loop-left : goal.overflow_sub-order-in-loop-left
-overflow_sub-order-in-loop-left c = omega (arith, c.loop-left-test.true, within c)
+overflow_sub-order-in-loop-left c = omega (arith, c.loop-left-test.true, within c.before.before.before.before.before.before.before)
 
 pub bounds-order-at : goal.bounds-order-at
-bounds-order-at c = omega (arith, c.loop-left-test.true, within c, c.move_down.auto.0, c.loop-left.invariant.1)
+bounds-order-at c =
+    omega (arith, c.loop-left-test.true, within c.before.before.before.before.before.before.before, c.move_down.auto.0, c.loop-left.invariant.1)
 
 pub overflow_sub-left-in-loop-left : goal.overflow_sub-left-in-loop-left
 overflow_sub-left-in-loop-left c = omega (arith, c.loop-left-test.true)
@@ -116,7 +119,7 @@ loop-left-preserved c =
     let p = c.requires in
     let l = c.loop-left in
     let at = c.place_for-at.result in
-    let t = sofar_more a.text.now a.rows.now a.count p.0 p.1 p.3 l.order l.invariant.1 l.left l.invariant.2 (omega (arith, c.loop-left-test.true)) l.invariant.0 at (placed c) (sym c.if-repeated_at.false ∙ named c) in
+    let t = sofar_more a.text.now a.rows.now a.count p.0 p.1 p.3 l.order l.invariant.1 l.left l.invariant.2 (omega (arith, c.loop-left-test.true)) l.invariant.0 at (placed c.before.before.before.before.before.before.before) (sym c.if-repeated_at.false ∙ named c.before.before.before.before.before) in
     (omega (arith, l.invariant.0), simp length-set (omega (arith, c.move_down.auto.0, l.invariant.1)), subst (λ (o : List ℕ). Sofar a.text.now a.rows.now a.count (set o (at - 1) (l.left - 1)) (l.left - 1)) (sym c.move_down.ensures) t)
 
 pub shape_of-order : goal.shape_of-order

@@ -30,13 +30,13 @@ put_data-requires c =
     (c.requires.0, omega (arith, l, c.put_part.auto.0, c.write_u16-2.auto.0, c.write_u16.auto.0, c.requires.3))
 
 pub overflow_add-result : goal.overflow_add-result
-overflow_add-result c = omega (arith, c.well-formed, c.requires.3)
+overflow_add-result c = omega (arith, c.well_formed, c.requires.3)
 
 pub overflow_add-result-2 : goal.overflow_add-result-2
-overflow_add-result-2 c = omega (arith, c.well-formed, c.requires.3)
+overflow_add-result-2 c = omega (arith, c.well_formed, c.requires.3)
 
 pub overflow_add-result-3 : goal.overflow_add-result-3
-overflow_add-result-3 c = omega (arith, c.well-formed, c.requires.3)
+overflow_add-result-3 c = omega (arith, c.well_formed, c.requires.3)
 
 pub shape_of-buffer : goal.shape_of-buffer
 shape_of-buffer c =

@@ -5,10 +5,11 @@ use borrow.Author.Tests.{not-true, not-false}
 use lib.ListN.{length}
 use Rattle.ubf.specs.Span.{name_in, FieldFound, WithinTuple}
 use Rattle.ubf.proofs.Within.{name_comes, field_comes, within_next, Follows, follows_none, follows_more, follows_end}
+use Rattle.ubf.proofs.repeats.among.Goals.{After-field_at-t}
 use Rattle.ubf.proofs.repeats.among.Goals as goal
 
-field : (c : goal.After-field_at-t) → FieldFound c.before.before.before.before.before.args.text.now c.before.before.before.loop.i c.field_at.result
-field c = field_comes c.before.before.before.before.before.args.text.now c.before.before.before.loop.i c.before.before.before.loop.invariant.0 c.field_at.result c.field_at.ensures
+field : (c : After-field_at-t) → FieldFound c.args.text.now c.loop-s.i c.field_at-t.result
+field c = field_comes c.args.text.now c.loop-s.i c.loop-s.invariant.0 c.field_at-t.result c.field_at-t.ensures
 
 pub loop-s-init : goal.loop-s-init
 loop-s-init c = let a = c.args in (c.requires.0, follows_none a.text.now a.at (name_in a.text.now a.s))
@@ -24,14 +25,14 @@ pub name_same-found-requires : goal.name_same-found-requires
 name_same-found-requires c = ((field c).lies, c.requires.1)
 
 pub loop-s-smaller : goal.loop-s-smaller
-loop-s-smaller c = let f = field c in omega (arith, f.later, f.near)
+loop-s-smaller c = let f = field c.before in omega (arith, f.later, f.near)
 
 pub loop-s-preserved : goal.loop-s-preserved
 loop-s-preserved c =
     let a = c.args in
     let l = c.loop-s in
     let s = c.field_at-t.result in
-    let f = field c in
+    let f = field c.before in
     (within_next a.text.now l.i l.invariant.0 s f, follows_more a.text.now a.at (name_in a.text.now a.s) l.i l.found c.name_same-found.result s f c.name_same-found.ensures l.invariant.1)
 
 pub returns : goal.returns

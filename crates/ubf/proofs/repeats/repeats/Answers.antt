@@ -5,10 +5,11 @@ use borrow.Author.Tests.{not-true, not-false}
 use lib.ListN.{length}
 use Rattle.ubf.specs.Span.{FieldFound}
 use Rattle.ubf.proofs.Within.{name_comes, field_comes, within_next, Passed, brace_comes, passed_none, passed_more, passed_repeated, passed_all}
+use Rattle.ubf.proofs.repeats.repeats.Goals.{After-field_at-s}
 use Rattle.ubf.proofs.repeats.repeats.Goals as goal
 
-field : (c : goal.After-field_at-s) → FieldFound c.before.before.before.before.before.before.before.args.text.now c.before.before.before.loop.i c.field_at.result
-field c = field_comes c.before.before.before.before.before.before.before.args.text.now c.before.before.before.loop.i c.before.before.before.loop.invariant.within c.field_at.result c.field_at.ensures
+field : (c : After-field_at-s) → FieldFound c.args.text.now c.loop-s.i c.field_at-s.result
+field c = field_comes c.args.text.now c.loop-s.i c.loop-s.invariant.within c.field_at-s.result c.field_at-s.ensures
 
 pub blanks-requires : goal.blanks-requires
 blanks-requires c = omega arith
@@ -38,14 +39,14 @@ among-requires c =
 
 pub returns-then-among : goal.returns-then-among
 returns-then-among c =
-    passed_repeated c.args.text.now c.loop-s.i c.loop-s.invariant c.field_at-s.result (field c) c.among.result c.among.ensures c.if-among.true
+    passed_repeated c.args.text.now c.loop-s.i c.loop-s.invariant c.field_at-s.result (field c.before.before) c.among.result c.among.ensures c.if-among.true
 
 pub loop-s-smaller : goal.loop-s-smaller
-loop-s-smaller c = let f = field c in omega (arith, f.later, f.near)
+loop-s-smaller c = let f = field c.before.before in omega (arith, f.later, f.near)
 
 pub loop-s-preserved : goal.loop-s-preserved
 loop-s-preserved c =
-    passed_more c.args.text.now c.loop-s.i c.loop-s.invariant c.field_at-s.result (field c) c.among.result c.among.ensures c.if-among.false
+    passed_more c.args.text.now c.loop-s.i c.loop-s.invariant c.field_at-s.result (field c.before.before) c.among.result c.among.ensures c.if-among.false
 
 pub returns : goal.returns
 returns c =

@@ -7,19 +7,20 @@ use lib.ListN.{length, get_or}
 use Rattle.ubf.proofs.Scans.{Opens, opens_none, opens_to, opens_two, opens_close, opens_cut, opens_wrong, stop_backslash}
 use Rattle.ubf.proofs.scanning.escape_right.Reads as escape-right-reads
 use Rattle.ubf.proofs.words.plain_to.Reads as plain-to-reads
+use Rattle.ubf.proofs.scanning.string_at.Goals.{Else-not-escape_right}
 use Rattle.ubf.proofs.scanning.string_at.Goals as goal
 
 -- after an escape
-next : (c : goal.Else-not-escape_right) → Opens c.before.before.before.before.before.before.before.before.before.args.text.now c.before.before.before.before.before.before.before.before.before.args.at 34 (c.before.before.before.before.before.plain-to.result + 2) (c.before.before.before.before.before.before.before.loop.escapes + 1)
+next : (c : Else-not-escape_right) → Opens c.args.text.now c.args.at 34 (c.plain_to-end.result + 2) (c.loop-i.escapes + 1)
 next c =
-    let text = c.before.before.before.before.before.before.before.before.before.args.text.now in
-    let at = c.before.before.before.before.before.before.before.before.before.args.at in
-    let l = c.before.before.before.before.before.before.before.loop in
-    let end = c.before.before.before.before.before.plain-to.result in
-    let r = c.before.before.before.before.before.plain-to.ensures in
+    let text = c.args.text.now in
+    let at = c.args.at in
+    let l = c.loop-i in
+    let end = c.plain_to-end.result in
+    let r = c.plain_to-end.ensures in
     let o = opens_to text at 34 l.i l.escapes end l.invariant r in
-    let h : end < length text = omega (arith, r.near, c.before.before.before.before.if1.false) in
-    opens_two text at 34 end l.escapes o (λ e. omega arith) h (stop_backslash 34 (get_or text end 0) (r.stops h) c.before.before.if2.false) (sym c.before.escape-right.ensures ∙ not-false _ c.if3.false)
+    let h : end < length text = omega (arith, r.near, c.if-end-text.false) in
+    opens_two text at 34 end l.escapes o (λ e. omega arith) h (stop_backslash 34 (get_or text end 0) (r.stops h) c.if-text-end-eq34.false) (sym c.escape_right.ensures ∙ not-false _ c.if-not-escape_right.false)
 
 pub loop-i-init : goal.loop-i-init
 loop-i-init c = let a = c.args in opens_none a.text.now a.at 34 c.requires

@@ -14,8 +14,8 @@ returns-then-end-text c =
 pub slice_bounds-same-count : goal.slice_bounds-same-count
 slice_bounds-same-count c = omega (arith, (c.quoted_at-end.ensures.closes (omega arith)).after)
 
--- ? slice-bounds-same-start
--- part-same-start c = omega (arith, (c.before.quoted-at.ensures.closes (omega arith)).after)
+pub slice_bounds-same-start : goal.slice_bounds-same-start
+slice_bounds-same-start c = omega (arith, (c.quoted_at-end.ensures.closes (omega arith)).after)
 
 pub returns-then-not-tagged-fits8 : goal.returns-then-not-tagged-fits8
 returns-then-not-tagged-fits8 c =

@@ -7,16 +7,20 @@ use Rattle.ubf.proofs.syntax.past.Reads as past-reads
 use Rattle.ubf.proofs.syntax.quoted_item.Goals as goal
 
 pub quoted_at-end-requires : goal.quoted_at-end-requires
-quoted_at-end-requires c = (omega (arith, c.requires.0), delimiter_not c.args.q 92 c.requires.2 refl)
+quoted_at-end-requires c =
+    let s = c.before.before in
+    (omega (arith, s.requires.0), delimiter_not s.args.q 92 s.requires.2 refl)
 
 pub returns-then-end-text : goal.returns-then-end-text
 returns-then-end-text c =
-    let a = c.args in
+    let s = c.before.before.before.before.before in
+    let a = s.args in
     let q = c.quoted_at-end in
-    rw c.past.ensures (quoted_unclosed a.text.now a.p c.requires.0 a.q q.result.end q.result.escapes c.requires.1 c.requires.2 q.ensures c.if-end-text.true)
+    rw c.past.ensures (quoted_unclosed a.text.now a.p s.requires.0 a.q q.result.end q.result.escapes s.requires.1 s.requires.2 q.ensures c.if-end-text.true)
 
 pub returns : goal.returns
 returns c =
-    let a = c.args in
+    let s = c.before.before.before.before.before in
+    let a = s.args in
     let q = c.quoted_at-end in
-    rw c.past-2.ensures (quoted_past a.text.now a.p c.requires.0 a.q q.result.end q.result.escapes c.requires.1 c.requires.2 q.ensures c.if-end-text.false)
+    rw c.past-2.ensures (quoted_past a.text.now a.p s.requires.0 a.q q.result.end q.result.escapes s.requires.1 s.requires.2 q.ensures c.if-end-text.false)

@@ -13,4 +13,4 @@ returns-in-Size c = rw c.enum_told-in-Size-1.given.1 c.size.ensures
 pub returns-in-Complement : goal.returns-in-Complement
 returns-in-Complement c =
     let a = c.args in let p = a.pool.now in let q = a.notice.now in
-    rw c.enum_told-in-Complement-1.given.1 (c.value_of_lem.ensures p q ∙ ap value_of (c.complement.ensures ∙ ap complement_of (c.number_of.ensures p q)))
+    rw c.enum_told-in-Complement-1.given.1 (c.value_of.ensures p q ∙ ap value_of (c.complement.ensures ∙ ap complement_of (c.number_of.ensures p q)))
