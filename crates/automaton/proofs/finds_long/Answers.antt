@@ -19,7 +19,7 @@ use Rattle.automaton.proofs.finds_long.Goals as goal
 
 pub returns-then-ef-l : goal.returns-then-ef-l
 returns-then-ef-l c =
-    let z = c.before.before.before.before.before.before.before.before.before.before.before.before.before.before.before in
+    let z = c.before.before.before.before.before.before.before.before.before.before.before.before.before.before.before.before in
     let a = z.args in
     let n = length a.kinds.now in
     let e = c.clear.ensures ∙ ap (λ (m : ℕ). replicate m false) z.requires.2 in
@@ -27,18 +27,18 @@ returns-then-ef-l c =
 
 pub lead-x-requires : goal.lead-x-requires
 lead-x-requires c =
-    let z = c.before.before.before.before.before.before.before.before.before.before.before.before.before.before.before.before.before.before.before.before.before in (z.requires.0, z.requires.1, c.marks-2-1.given ∙ c.marks-1.given ∙ z.requires.2)
+    let z = c.before.before.before.before.before.before.before.before.before.before.before.before.before.before.before.before.before.before.before.before.before.before in (z.requires.0, z.requires.1, c.marks-2-1.given ∙ c.marks-1.given ∙ z.requires.2)
 
 pub overflow_add-from : goal.overflow_add-from
 overflow_add-from c = record { fits = omega (arith, c.well_formed, c.requires.3) }
 
 pub walk_told-requires : goal.walk_told-requires
 walk_told-requires c =
-    let z = c.before.before.before.before.before.before.before.before.before.before.before.before.before.before.before.before.before.before.before.before.before.before.before.before.before in (z.requires.0, z.requires.1, c.marks-3-1.given ∙ c.marks-2-1.given ∙ c.marks-1.given ∙ z.requires.2, c.plain-single.ensures, omega (arith, z.requires.3))
+    let z = c.before.before.before.before.before.before.before.before.before.before.before.before.before.before.before.before.before.before.before.before.before.before.before.before.before.before in (z.requires.0, z.requires.1, c.marks-3-1.given ∙ c.marks-2-1.given ∙ c.marks-1.given ∙ z.requires.2, c.plain-single.ensures, omega (arith, z.requires.3))
 
 pub returns : goal.returns
 returns c =
-    let z = c.before.before.before.before.before.before.before.before.before.before.before.before.before.before.before.before.before.before.before.before.before.before.before.before.before.before.before.before in
+    let z = c.before.before.before.before.before.before.before.before.before.before.before.before.before.before.before.before.before.before.before.before.before.before.before.before.before.before.before.before.before in
     let a = z.args in
     let n = length a.kinds.now in
     let e = c.clear.ensures ∙ ap (λ (m : ℕ). replicate m false) z.requires.2 in

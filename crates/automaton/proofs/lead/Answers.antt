@@ -12,7 +12,7 @@ use Rattle.automaton.proofs.lead.Goals as goal
 
 pub returns : goal.returns
 returns c =
-    let z = c.before.before.before.before.before.before.before.before.before.before.before.before.before.before in
+    let z = c.before.before.before.before.before.before.before.before.before.before.before.before.before.before.before in
     let a = z.args in
     let n = length a.kinds.now in
     let e = c.marks-2-1.given ∙ c.marks-1.given ∙ z.requires.2 in

@@ -18,27 +18,27 @@ use Rattle.automaton.proofs.shift_plain.Goals as goal
 
 pub loop-i-init : goal.loop-i-init
 loop-i-init c =
-    let z = c.before.before.before.before in
+    let z = c.before.before.before.before.before in
     let a = z.args in
     (omega arith, z.requires.2, (true, goes_start a.text.now a.kinds.now a.args.now a.c a.marks.now a.k), λ j p q. z.requires.4 j q, λ j p q. absurd (omega arith))
 
 pub shape_of-marks-then-cur-fin : goal.shape_of-marks-then-cur-fin
 shape_of-marks-then-cur-fin c =
-    let z = c.before.before.before.before.before.before.before in
+    let z = c.before.before.before.before.before.before.before.before in
     let a = z.args in
     let l = c.loop-i in
     l.invariant.1 ∙ sym z.requires.2
 
 pub returns-then-cur-fin : goal.returns-then-cur-fin
 returns-then-cur-fin c =
-    let z = c.before.before.before.before.before.before.before in
+    let z = c.before.before.before.before.before.before.before.before in
     let a = z.args in
     let l = c.loop-i in
     reach_quiet a.text.now a.kinds.now a.args.now a.c a.k a.marks.now l.marks l.invariant.1 a.top l.high l.i l.cur l.invariant.2.0 l.fin l.invariant.2.1 l.invariant.3 l.invariant.4 z.requires.3 z.requires.1 c.if-cur-fin.true
 
 pub bounds-args-i : goal.bounds-args-i
 bounds-args-i c =
-    let z = c.before.before.before.before.before.before.before.before.before in
+    let z = c.before.before.before.before.before.before.before.before.before.before in
     let a = z.args in
     let l = c.loop-i in
     omega (arith, z.requires.1, c.loop-i-test)
@@ -51,7 +51,7 @@ bounds-marks-i-in-loop-i c = omega (arith, c.loop-i.invariant.1, c.loop-i-test)
 
 pub loop-i-preserved : goal.loop-i-preserved
 loop-i-preserved c =
-    let z = c.before.before.before.before.before.before.before.before.before.before.before.before.before.before.before in
+    let z = c.before.before.before.before.before.before.before.before.before.before.before.before.before.before.before.before in
     let a = z.args in
     let l = c.loop-i in
     let h = c.loop-i-test in (
@@ -64,14 +64,14 @@ loop-i-preserved c =
 
 pub shape_of-marks : goal.shape_of-marks
 shape_of-marks c =
-    let z = c.before.before.before.before.before.before in
+    let z = c.before.before.before.before.before.before.before in
     let a = z.args in
     let l = c.loop-i in
     l.invariant.1 ∙ sym z.requires.2
 
 pub returns : goal.returns
 returns c =
-    let z = c.before.before.before.before.before.before in
+    let z = c.before.before.before.before.before.before.before in
     let a = z.args in
     let l = c.loop-i in
     reach_end a.text.now a.kinds.now a.args.now a.c a.k a.marks.now l.marks l.invariant.1 a.top l.high l.i l.cur l.invariant.2.0 l.fin l.invariant.2.1 l.invariant.3 l.invariant.4 (omega (arith, c.loop-i-test))

@@ -12,7 +12,7 @@ use Rattle.automaton.proofs.start.Goals as goal
 
 pub returns : goal.returns
 returns c =
-    let z = c.before.before.before.before.before.before.before.before.before.before.before.before in
+    let z = c.before.before.before.before.before.before.before.before.before.before.before.before.before in
     let a = z.args in
     let w = c.wide-at in
     let e = get_d_any a.text.now w.result 0 256 (omega (arith, c.if-text-at.false)) ∙ ap (λ (i : ℕ). get_or a.text.now i 256) w.ensures.0 in

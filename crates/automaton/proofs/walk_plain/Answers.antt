@@ -16,32 +16,33 @@ use Rattle.octets.proofs.fold.Reads as fold-reads
 use Rattle.automaton.proofs.walk_plain.Goals as goal
 
 pub loop-i-init : goal.loop-i-init
-loop-i-init c = let z = c.before.before.before.before.before in (omega arith, z.requires.2, z.requires.4, refl)
+loop-i-init c =
+    let z = c.before.before.before.before.before.before in (omega arith, z.requires.2, z.requires.4, refl)
 
 pub shape_of-marks-then-ef-fin : goal.shape_of-marks-then-ef-fin
 shape_of-marks-then-ef-fin c =
-    let z = c.before.before.before.before.before.before.before.before in
+    let z = c.before.before.before.before.before.before.before.before.before in
     let a = z.args in
     let l = c.loop-i in
     l.invariant.1 ∙ sym z.requires.2
 
 pub returns-then-ef-fin : goal.returns-then-ef-fin
 returns-then-ef-fin c =
-    let z = c.before.before.before.before.before.before.before.before in
+    let z = c.before.before.before.before.before.before.before.before.before in
     let a = z.args in
     let l = c.loop-i in
     seen (tokens_of a.text.now a.kinds.now a.args.now) a.sf a.ef a.empty (fold a.mark) a.value.now l.marks l.fin l.k l.i (omega arith) c.if-ef-fin.true ∙ l.invariant.3
 
 pub shift_plain-l-requires : goal.shift_plain-l-requires
 shift_plain-l-requires c =
-    let z = c.before.before.before.before.before.before.before.before.before.before.before in
+    let z = c.before.before.before.before.before.before.before.before.before.before.before.before in
     let a = z.args in
     let l = c.loop-i in
     (z.requires.0, z.requires.1, l.invariant.1, z.requires.3, l.invariant.2)
 
 pub loop-i-preserved : goal.loop-i-preserved
 loop-i-preserved c =
-    let z = c.before.before.before.before.before.before.before.before.before.before.before.before.before.before in
+    let z = c.before.before.before.before.before.before.before.before.before.before.before.before.before.before.before in
     let a = z.args in
     let l = c.loop-i in
     let p = c.shift_plain-l in
@@ -49,14 +50,14 @@ loop-i-preserved c =
 
 pub shape_of-marks : goal.shape_of-marks
 shape_of-marks c =
-    let z = c.before.before.before.before.before.before.before in
+    let z = c.before.before.before.before.before.before.before.before in
     let a = z.args in
     let l = c.loop-i in
     l.invariant.1 ∙ sym z.requires.2
 
 pub returns : goal.returns
 returns c =
-    let z = c.before.before.before.before.before.before.before in
+    let z = c.before.before.before.before.before.before.before.before in
     let a = z.args in
     let l = c.loop-i in
     over (tokens_of a.text.now a.kinds.now a.args.now) a.sf a.ef a.empty (fold a.mark) a.value.now l.marks l.fin l.k l.i (omega arith) ∙ l.invariant.3

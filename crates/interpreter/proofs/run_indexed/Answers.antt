@@ -31,12 +31,14 @@ use Rattle.interpreter.specs.Run.{skips}
 use Rattle.interpreter.specs.Machine.{limit_of}
 use Rattle.interpreter.proofs.Visits.{Visiting, below, Tallied, name_fits_lem, name_found, name_missing, load_fits, load_known, unary_fits_lem, unary_law, unary_known_lem, binary_fits_lem, binary_law, binary_known_lem, combine_law, many_fits_lem, many_law, skip_fits, skip_room, skip_taken, skip_kept, no_unknown, tally_start, tally_more}
 use Rattle.interpreter.proofs.Places.{Placed, placed, behind, more_at, early_at, inside_at, noting, onward, skipping, counted, answer}
-use Rattle.interpreter.proofs.run_indexed.Goals.{After-a_to-in-Many, After-find_name-found, After-group_of-group, After-many_of-k, After-shared_slice_known-2-1, In-And, In-At, In-Change, In-Combine, In-Equality, In-Int32, In-Int64, In-Name, In-Not, In-Or, In-Order, In-Real64, In-SkipIfFalse, In-SkipIfTrue, In-Test, In-Text, In-Unknown, In-Xor, In-loop-next, Start}
+use Rattle.interpreter.proofs.run_indexed.Lts as lts
+use Rattle.interpreter.proofs.run_indexed.Tie as tie
+use Rattle.interpreter.proofs.run_indexed.Reads as reads
 use Rattle.interpreter.proofs.run_indexed.Goals as goal
 
 -- a turn: the loop's variables at its head, what the loop's test says, that the entry's place is small, and that the entry lies in the table
 abbrev Turn : Type 0
-Turn = In-loop-next
+Turn = lts.In-loop tie.the-claims reads.Pre reads.Post goal.the-invariant-loop-j goal.the-decreases-loop-j goal.the-invariant-loop-next goal.the-decreases-loop-next
 
 abbrev Head : Turn → Type 0
 Head c =
@@ -81,7 +83,7 @@ Visit c o =
     let l = c.before.loop in
     Visiting a.table.now c.before.before.before.pool.result.now a.notice.now c.before.before.before.before.before.count.result a.budget l.stack l.invariant.entry l.depth l.passed (limit_of c.before.before.before.before.before.count.result a.budget l.passed) l.invariant.undecided o
 
-visit : (d : After-group_of-group) {g : Group} → d.group_of-group.result ≡ g → Visit d.before.before (op_by g (op_of d.op_from-number.result))
+visit : (d : lts.After-group_of tie.the-claims reads.Pre reads.Post goal.the-invariant-loop-j goal.the-decreases-loop-j goal.the-invariant-loop-next goal.the-decreases-loop-next) {g : Group} → d.group_of-group.result ≡ g → Visit d.before.before (op_by g (op_of d.op_from-number.result))
 visit d e =
     let o = op_of d.op_from-number.result in
     record {
@@ -91,70 +93,70 @@ visit d e =
       op = ap op_of (sym (d.op_from-number.ensures _ (head d.before.before).starts)) ∙ grouped o ∙ ap (λ (g : Group). op_by g o) (sym d.group_of-group.ensures ∙ e);
     }
 
-int32 : (g : In-Int32) → Visit g.before.before.before.before (Op.Load Load.Int32)
+int32 : (g : lts.After-enum_told tie.the-claims reads.Pre reads.Post goal.the-invariant-loop-j goal.the-decreases-loop-j goal.the-invariant-loop-next goal.the-decreases-loop-next) → Visit g.before.before.before.before (Op.Load Load.Int32)
 int32 g = visit g.before.before g.enum_told-1.given.1
 
-int64 : (g : In-Int64) → Visit g.before.before.before.before (Op.Load Load.Int64)
+int64 : (g : lts.After-enum_told2 tie.the-claims reads.Pre reads.Post goal.the-invariant-loop-j goal.the-decreases-loop-j goal.the-invariant-loop-next goal.the-decreases-loop-next) → Visit g.before.before.before.before (Op.Load Load.Int64)
 int64 g = visit g.before.before g.enum_told-in-Int64-1.given.1
 
-real64 : (g : In-Real64) → Visit g.before.before.before.before (Op.Load Load.Real64)
+real64 : (g : lts.After-enum_told3 tie.the-claims reads.Pre reads.Post goal.the-invariant-loop-j goal.the-decreases-loop-j goal.the-invariant-loop-next goal.the-decreases-loop-next) → Visit g.before.before.before.before (Op.Load Load.Real64)
 real64 g = visit g.before.before g.enum_told-in-Real64-1.given.1
 
-text : (g : In-Text) → Visit g.before.before.before.before (Op.Load Load.Text)
+text : (g : lts.After-enum_told4 tie.the-claims reads.Pre reads.Post goal.the-invariant-loop-j goal.the-decreases-loop-j goal.the-invariant-loop-next goal.the-decreases-loop-next) → Visit g.before.before.before.before (Op.Load Load.Text)
 text g = visit g.before.before g.enum_told-in-Text-1.given.1
 
-name : (g : In-Name) → Visit g.before.before.before.before (Op.Load Load.Name)
+name : (g : lts.After-enum_told5 tie.the-claims reads.Pre reads.Post goal.the-invariant-loop-j goal.the-decreases-loop-j goal.the-invariant-loop-next goal.the-decreases-loop-next) → Visit g.before.before.before.before (Op.Load Load.Name)
 name g = visit g.before.before g.enum_told-in-Name-1.given.1
 
-change : (g : In-Change) → Visit g.before.before.before.before (Op.Unary (Unary.Change (change_in (op_of g.op_from-number.result))))
+change : (g : lts.After-enum_told7 tie.the-claims reads.Pre reads.Post goal.the-invariant-loop-j goal.the-decreases-loop-j goal.the-invariant-loop-next goal.the-decreases-loop-next) → Visit g.before.before.before.before (Op.Unary (Unary.Change (change_in (op_of g.op_from-number.result))))
 change g = visit g.before.before g.enum_told-in-Change-1.given.1
 
-combine : (g : In-Combine) → Visit g.before.before.before.before (Op.Binary (Binary.Combine (combine_in (op_of g.op_from-number.result))))
+combine : (g : lts.After-enum_told8 tie.the-claims reads.Pre reads.Post goal.the-invariant-loop-j goal.the-decreases-loop-j goal.the-invariant-loop-next goal.the-decreases-loop-next) → Visit g.before.before.before.before (Op.Binary (Binary.Combine (combine_in (op_of g.op_from-number.result))))
 combine g = visit g.before.before g.enum_told-in-Combine-1.given.1
 
-equality : (g : In-Equality) → Visit g.before.before.before.before (Op.Binary (Binary.Compare (equality_by (is_not_equal (op_of g.op_from-number.result)))))
+equality : (g : lts.After-enum_told9 tie.the-claims reads.Pre reads.Post goal.the-invariant-loop-j goal.the-decreases-loop-j goal.the-invariant-loop-next goal.the-decreases-loop-next) → Visit g.before.before.before.before (Op.Binary (Binary.Compare (equality_by (is_not_equal (op_of g.op_from-number.result)))))
 equality g = visit g.before.before g.enum_told-in-Equality-1.given.1
 
-order : (g : In-Order) → Visit g.before.before.before.before (Op.Binary (Binary.Compare (Compare.Order (order_in (op_of g.op_from-number.result)))))
+order : (g : lts.After-enum_told10 tie.the-claims reads.Pre reads.Post goal.the-invariant-loop-j goal.the-decreases-loop-j goal.the-invariant-loop-next goal.the-decreases-loop-next) → Visit g.before.before.before.before (Op.Binary (Binary.Compare (Compare.Order (order_in (op_of g.op_from-number.result)))))
 order g = visit g.before.before g.enum_told-in-Order-1.given.1
 
-not : (g : In-Not) → Visit g.before.before.before.before (Op.Unary Unary.Not)
+not : (g : lts.After-enum_told11 tie.the-claims reads.Pre reads.Post goal.the-invariant-loop-j goal.the-decreases-loop-j goal.the-invariant-loop-next goal.the-decreases-loop-next) → Visit g.before.before.before.before (Op.Unary Unary.Not)
 not g = visit g.before.before g.enum_told-in-Not-1.given.1
 
-and : (g : In-And) → Visit g.before.before.before.before (Op.Binary (Binary.Connect Connective.And))
+and : (g : lts.After-enum_told12 tie.the-claims reads.Pre reads.Post goal.the-invariant-loop-j goal.the-decreases-loop-j goal.the-invariant-loop-next goal.the-decreases-loop-next) → Visit g.before.before.before.before (Op.Binary (Binary.Connect Connective.And))
 and g = visit g.before.before g.enum_told-in-And-1.given.1
 
-xor : (g : In-Xor) → Visit g.before.before.before.before (Op.Binary (Binary.Connect Connective.Xor))
+xor : (g : lts.After-enum_told13 tie.the-claims reads.Pre reads.Post goal.the-invariant-loop-j goal.the-decreases-loop-j goal.the-invariant-loop-next goal.the-decreases-loop-next) → Visit g.before.before.before.before (Op.Binary (Binary.Connect Connective.Xor))
 xor g = visit g.before.before g.enum_told-in-Xor-1.given.1
 
-or : (g : In-Or) → Visit g.before.before.before.before (Op.Binary (Binary.Connect Connective.Or))
+or : (g : lts.After-enum_told14 tie.the-claims reads.Pre reads.Post goal.the-invariant-loop-j goal.the-decreases-loop-j goal.the-invariant-loop-next goal.the-decreases-loop-next) → Visit g.before.before.before.before (Op.Binary (Binary.Connect Connective.Or))
 or g = visit g.before.before g.enum_told-in-Or-1.given.1
 
-skip_if_false : (g : In-SkipIfFalse) → Visit g.before.before.before.before (Op.Skip Skip.IfFalse)
+skip_if_false : (g : lts.After-enum_told15 tie.the-claims reads.Pre reads.Post goal.the-invariant-loop-j goal.the-decreases-loop-j goal.the-invariant-loop-next goal.the-decreases-loop-next) → Visit g.before.before.before.before (Op.Skip Skip.IfFalse)
 skip_if_false g = visit g.before.before g.enum_told-in-SkipIfFalse-1.given.1
 
-skip_if_true : (g : In-SkipIfTrue) → Visit g.before.before.before.before (Op.Skip Skip.IfTrue)
+skip_if_true : (g : lts.After-enum_told16 tie.the-claims reads.Pre reads.Post goal.the-invariant-loop-j goal.the-decreases-loop-j goal.the-invariant-loop-next goal.the-decreases-loop-next) → Visit g.before.before.before.before (Op.Skip Skip.IfTrue)
 skip_if_true g = visit g.before.before g.enum_told-in-SkipIfTrue-1.given.1
 
-test : (g : In-Test) → Visit g.before.before.before.before (Op.Unary (Unary.Test (test_in (op_of g.op_from-number.result))))
+test : (g : lts.After-enum_told17 tie.the-claims reads.Pre reads.Post goal.the-invariant-loop-j goal.the-decreases-loop-j goal.the-invariant-loop-next goal.the-decreases-loop-next) → Visit g.before.before.before.before (Op.Unary (Unary.Test (test_in (op_of g.op_from-number.result))))
 test g = visit g.before.before g.enum_told-in-Test-1.given.1
 
-many : (g : After-many_of-k) → Visit g.before.before.before.before.before (Op.Many g.many_of-k.result)
+many : (g : lts.After-many_of tie.the-claims reads.Pre reads.Post goal.the-invariant-loop-j goal.the-decreases-loop-j goal.the-invariant-loop-next goal.the-decreases-loop-next) → Visit g.before.before.before.before.before (Op.Many g.many_of-k.result)
 many g = rw g.many_of-k.ensures (visit g.before.before.before g.enum_told-in-Many-1.given.1)
 
-unknown : (g : In-Unknown) → Visit g.before.before.before.before (Op.Unknown)
+unknown : (g : lts.After-enum_told19 tie.the-claims reads.Pre reads.Post goal.the-invariant-loop-j goal.the-decreases-loop-j goal.the-invariant-loop-next goal.the-decreases-loop-next) → Visit g.before.before.before.before (Op.Unknown)
 unknown g = visit g.before.before g.enum_told-in-Unknown-1.given.1
 
 -- the field found has its kind's size and lies in the notice
-right : (g : In-At) → let f = g.found-1.given.0 in (size_right f.0 f.1.1.0 ≡ true) × (f.1.0 + f.1.1.0 ≤ length (notice_at g.before.before.before.before.before.before.before.before.before.before))
+right : (g : lts.After-known_told tie.the-claims reads.Pre reads.Post goal.the-invariant-loop-j goal.the-decreases-loop-j goal.the-invariant-loop-next goal.the-decreases-loop-next) → let f = g.found-1.given.0 in (size_right f.0 f.1.1.0 ≡ true) × (f.1.0 + f.1.1.0 ≤ length (notice_at g.before.before.before.before.before.before.before.before.before.before))
 right g =
-    let s : Start = search in
-    let k : After-shared_slice_known-2-1 = search in
-    let l : After-find_name-found = search in
+    let s : lts.Start tie.the-claims reads.Pre reads.Post goal.the-invariant-loop-j goal.the-decreases-loop-j goal.the-invariant-loop-next goal.the-decreases-loop-next = search in
+    let k : lts.After-shared_slice_known2 tie.the-claims reads.Pre reads.Post goal.the-invariant-loop-j goal.the-decreases-loop-j goal.the-invariant-loop-next goal.the-decreases-loop-next = search in
+    let l : lts.After-find_name tie.the-claims reads.Pre reads.Post goal.the-invariant-loop-j goal.the-decreases-loop-j goal.the-invariant-loop-next goal.the-decreases-loop-next = search in
     found_right s.args.notice.now _ _ _ _ (λ i. (k.shared-slice-known2.given i).fits) s.pre.1 (sym l.find_name.ensures ∙ g.found-1.given.1)
 
 -- the later operands, once their number is read
-later : (g : After-a_to-in-Many) → let d = g.loop-next.depth in (g.a_to-in-Many.result + 1 ≤ d) × (d ≤ 32)
+later : (g : lts.After-a_to5 tie.the-claims reads.Pre reads.Post goal.the-invariant-loop-j goal.the-decreases-loop-j goal.the-invariant-loop-next goal.the-decreases-loop-next) → let d = g.loop-next.depth in (g.a_to-in-Many.result + 1 ≤ d) × (d ≤ 32)
 later g = many_fits_lem (many (search)) (g.a_to-in-Many.ensures _ (end_is (search)))
 
 pub count-n-requires : goal.count-n-requires
@@ -173,7 +175,7 @@ pub loop-next-init : goal.loop-next-init
 loop-next-init c = placed _ _ _ c.requires.0 c.count-n.ensures.0 c.pool-pool.ensures c.limit-end.ensures
 
 pub op_from-number-requires : goal.op_from-number-requires
-op_from-number-requires c = inside c
+op_from-number-requires c = inside c.before
 
 pub overflow_add-next : goal.overflow_add-next
 overflow_add-next c = omega (arith, early (search))
@@ -286,7 +288,7 @@ pub overflow_add-depth-in-Name : goal.overflow_add-depth-in-Name
 overflow_add-depth-in-Name c = omega (arith, load_fits (name (search)))
 
 pub field-requires : goal.field-requires
-field-requires c = right c
+field-requires c = right c.before
 
 pub offset_bounds-stack-i : goal.offset_bounds-stack-i
 offset_bounds-stack-i c = omega (arith, load_fits (name (search)))
@@ -299,7 +301,7 @@ loop-next-smaller-in-At c = omega (arith, early (search))
 
 pub loop-next-preserved-in-At : goal.loop-next-preserved-in-At
 loop-next-preserved-in-At c =
-    let g : tie.After-find-name invariant_loop2 decreases_loop2 invariant_loop decreases_loop = search in onward (head (search)) (name_found (name (search)) (g.before.before.a-to2.ensures _ (end_is (search))) (g.before.b-to5.ensures _ (end_is (search))) g.find_name.ensures c.field.result c.found-1.given.1 (right c.before).0 (c.field.ensures _))
+    let g : tie.After-find-name invariant_loop2 decreases_loop2 invariant_loop decreases_loop = search in onward (head (search)) (name_found (name (search)) (g.before.before.a-to2.ensures _ (end_is (search))) (g.before.b-to5.ensures _ (end_is (search))) g.find_name.ensures c.field.result c.found-1.given.1 (right c.before.before).0 (c.field.ensures _))
 
 pub missing-r-requires : goal.missing-r-requires
 missing-r-requires c = tt
@@ -797,7 +799,7 @@ pub loop-next-smaller : goal.loop-next-smaller
 loop-next-smaller c = omega (arith, early (search))
 
 pub loop-next-preserved : goal.loop-next-preserved
-loop-next-preserved c = absurd (no_unknown (unknown c))
+loop-next-preserved c = absurd (no_unknown (unknown c.before))
 
 pub overflow_sub-at : goal.overflow_sub-at
 overflow_sub-at c = omega (arith, counted c.loop-next.invariant)

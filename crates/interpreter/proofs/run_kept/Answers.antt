@@ -8,14 +8,16 @@ use borrow.Author.Rules.{rules}
 use Rattle.notice.specs.Layout.{check_of}
 use Rattle.notice.specs.declared.Layout.{Layout}
 use Rattle.interpreter.proofs.Answers.{indexed, notice_refused, neither_refused}
-use Rattle.interpreter.proofs.run_kept.Goals.{After-index-layout, Start}
+use Rattle.interpreter.proofs.run_kept.Lts as lts
+use Rattle.interpreter.proofs.run_kept.Tie as tie
+use Rattle.interpreter.proofs.run_kept.Reads as reads
 use Rattle.interpreter.proofs.run_kept.Goals as goal
 
 -- the part that is lent is the whole notice, and what the check tells of it
-whole : (s : Start) → take (length s.args.notice.now - 0) s.args.notice.now ≡ s.args.notice.now
+whole : (s : lts.Start tie.the-claims reads.Pre reads.Post) → take (length s.args.notice.now - 0) s.args.notice.now ≡ s.args.notice.now
 whole s = take_all (length s.args.notice.now - 0) s.args.notice.now (omega arith)
 
-layout_is : (c : After-index-layout) {l : Layout} → c.index-layout.result ≡ l → check_of c.args.notice.now ≡ l
+layout_is : (c : lts.After-index tie.the-claims reads.Pre reads.Post) {l : Layout} → c.index-layout.result ≡ l → check_of c.args.notice.now ≡ l
 layout_is c e = sym (ap check_of (whole (search))) ∙ sym c.index-layout.ensures.0 ∙ e
 
 pub run_whole-requires : goal.run_whole-requires

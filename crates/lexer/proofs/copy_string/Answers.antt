@@ -57,7 +57,7 @@ overflow_sub-result c = omega (arith, (some c.before.before.before.before.before
 
 pub returns : goal.returns
 returns c =
-    let d = c.before.before.before.before.before in
+    let d = c.before.before.before.before.before.before in
     let t = c.args in
     let n = c.plain_string-n.result in
     let w = some d in

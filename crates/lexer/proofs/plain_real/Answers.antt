@@ -14,12 +14,12 @@ use Rattle.lexer.proofs.plain_real.Goals as goal
 
 pub overflow_add-point : goal.overflow_add-point
 overflow_add-point c =
-    let t = c.before in
+    let t = c.before.before in
     omega (arith, t.requires.3.0, digits_fit 10 t.args.at t.args.text.now, t.requires.0, t.requires.1)
 
 pub returns-then-at-point : goal.returns-then-at-point
 returns-then-at-point c =
-    let t = c.before.before.before.before.before.before.before in
+    let t = c.before.before.before.before.before.before.before.before in
     let a = t.args in
     let g = c.digits-all in
     let v = g.result.value in

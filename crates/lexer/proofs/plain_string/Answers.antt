@@ -31,7 +31,7 @@ unquoted_end-end-requires c = λ z. quoted c (sym c.byte_at-quote.ensures ∙ z)
 
 pub returns-then-byte_at-quote : goal.returns-then-byte_at-quote
 returns-then-byte_at-quote c =
-    let d = c.before.before.before in
+    let d = c.before.before.before.before in
     let t = c.args in
     let u = c.unquoted_end-end in
     let q = c.byte_at-quote.ensures in

@@ -17,25 +17,27 @@ use Rattle.lexer.proofs.scan_name.Reads as scan-name-reads
 use Rattle.lexer.proofs.scan_number.Reads as scan-number-reads
 use Rattle.lexer.proofs.scan_string.Reads as scan-string-reads
 use Rattle.lexer.proofs.symbol.scan_symbol.Reads as scan-symbol-reads
-use Rattle.lexer.proofs.scan.Goals.{After-is_quote, After-starts_number}
+use Rattle.lexer.proofs.scan.Lts as lts
+use Rattle.lexer.proofs.scan.Tie as tie
+use Rattle.lexer.proofs.scan.Reads as reads
 use Rattle.lexer.proofs.scan.Goals as goal
 
 -- what stands first, and what the tests tell of it
-abbrev from : (c : After-starts_number) → List ℕ
+abbrev from : (c : lts.After-starts_number tie.the-claims reads.Pre reads.Post) → List ℕ
 from c = let t = c.args in drop t.at t.text.now
 
-no_name : (c : After-starts_number) → let t = c.args in starts_name (get_or (drop t.at t.text.now) 0 0) ≡ false
+no_name : (c : lts.After-starts_number tie.the-claims reads.Pre reads.Post) → let t = c.args in starts_name (get_or (drop t.at t.text.now) 0 0) ≡ false
 no_name c =
     let t = c.args in
     ap starts_name (byte_here t.text.now t.at) ∙ sym c.starts_name.ensures ∙ c.if-starts_name.false
 
-number : (c : After-starts_number) → let t = c.args in
+number : (c : lts.After-starts_number tie.the-claims reads.Pre reads.Post) → let t = c.args in
     starts_number (get_or (drop t.at t.text.now) 0 0) (get_or (drop t.at t.text.now) 1 0) ≡ c.starts_number.result
 number c =
     let t = c.args in
     rw (byte_here t.text.now t.at, get_or-drop t.at t.text.now 1 0) (sym c.starts_number.ensures)
 
-quote : (c : After-is_quote) → let t = c.args in
+quote : (c : lts.After-is_quote tie.the-claims reads.Pre reads.Post) → let t = c.args in
     is_quote (get_or (drop t.at t.text.now) 0 0) ≡ c.is_quote.result
 quote c =
     let t = c.args in
@@ -49,17 +51,17 @@ returns-then-starts_name c =
 
 pub returns-then-starts_number : goal.returns-then-starts_number
 returns-then-starts_number c =
-    c.scan_number.ensures ∙ ap scanned_of (sym (is_number (from c.before.before) (no_name c.before.before) (number c.before.before ∙ c.if-starts_number.true)))
+    c.scan_number.ensures ∙ ap scanned_of (sym (is_number (from c.before.before.before) (no_name c.before.before.before) (number c.before.before.before ∙ c.if-starts_number.true)))
 
 pub scan_string-requires : goal.scan_string-requires
 scan_string-requires c = (omega arith, sym c.is_quote.ensures ∙ c.if-is_quote.true)
 
 pub returns-then-is_quote : goal.returns-then-is_quote
 returns-then-is_quote c =
-    let d = c.before.before.before.before in
-    c.scan_string.ensures ∙ ap scanned_of (sym (is-string (from d) (no_name d) (number d ∙ c.if-starts_number.false) (quote c.before.before ∙ c.if-is_quote.true)))
+    let d = c.before.before.before.before.before in
+    c.scan_string.ensures ∙ ap scanned_of (sym (is-string (from d) (no_name d) (number d ∙ c.if-starts_number.false) (quote c.before.before.before ∙ c.if-is_quote.true)))
 
 pub returns : goal.returns
 returns c =
-    let d = c.before.before.before.before in
-    c.scan_symbol.ensures ∙ ap scanned_of (sym (is-symbol (from d) (no_name d) (number d ∙ c.if-starts_number.false) (quote c.before.before ∙ c.if-is_quote.false)))
+    let d = c.before.before.before.before.before in
+    c.scan_symbol.ensures ∙ ap scanned_of (sym (is-symbol (from d) (no_name d) (number d ∙ c.if-starts_number.false) (quote c.before.before.before ∙ c.if-is_quote.false)))

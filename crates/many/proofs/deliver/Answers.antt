@@ -4,11 +4,13 @@ use native.Mathlib.Omega.{arith}
 use lib.ListN.{length}
 use borrow.Author.Rules.{rules}
 use Rattle.many.proofs.Verdicts.{Delivering, delivering_first, delivering_on, place_left, delivered}
-use Rattle.many.proofs.deliver.Goals.{After-verdict}
+use Rattle.many.proofs.deliver.Lts as lts
+use Rattle.many.proofs.deliver.Tie as tie
+use Rattle.many.proofs.deliver.Reads as reads
 use Rattle.many.proofs.deliver.Goals as goal
 
 -- there is a place for the byte
-here : (c : After-verdict) → c.loop-at.i < length c.loop-at.verdicts
+here : (c : lts.After-verdict tie.the-claims reads.Pre reads.Post goal.the-invariant-loop-at goal.the-decreases-loop-at) → c.loop-at.i < length c.loop-at.verdicts
 here c =
     let s = c.before.before.before.before.before.before.before.before in
     let a = s.args in
@@ -24,10 +26,10 @@ pub verdict-requires : goal.verdict-requires
 verdict-requires c = let p = c.requires in (p.0, p.1)
 
 pub bounds-verdicts-i : goal.bounds-verdicts-i
-bounds-verdicts-i c = omega (arith, here c)
+bounds-verdicts-i c = omega (arith, here c.before)
 
 pub overflow_add-i : goal.overflow_add-i
-overflow_add-i c = omega (arith, here c)
+overflow_add-i c = omega (arith, here c.before)
 
 pub loop-at-preserved : goal.loop-at-preserved
 loop-at-preserved c =

@@ -7,14 +7,14 @@ use Rattle.many.proofs.judge.Goals as goal
 
 pub returns-then-n-gt64 : goal.returns-then-n-gt64
 returns-then-n-gt64 c =
-    let s = c.before.before.before.before.before.before in
+    let s = c.before.before.before.before.before.before.before in
     let a = s.args in
     let n = c.count-n in
     many_over a.tables.now a.notice.now a.verdicts.now c.refused.result s.requires.0 (counted_over a.tables.now n.result n.ensures (omega arith)) c.refused.ensures
 
 pub returns-then-verdicts-n : goal.returns-then-verdicts-n
 returns-then-verdicts-n c =
-    let s = c.before.before.before.before.before.before.before in
+    let s = c.before.before.before.before.before.before.before.before in
     let a = s.args in
     let n = c.count-n in
     let m = counted_all a.tables.now n.result n.ensures (omega arith) in
@@ -22,7 +22,7 @@ returns-then-verdicts-n c =
 
 pub deliver-requires : goal.deliver-requires
 deliver-requires c =
-    let s = c.before.before.before.before.before.before.before in
+    let s = c.before.before.before.before.before.before.before.before in
     let a = s.args in
     let n = c.count-n in
     let m = counted_all a.tables.now n.result n.ensures (omega arith) in
@@ -30,7 +30,7 @@ deliver-requires c =
 
 pub returns : goal.returns
 returns c =
-    let s = c.before.before.before.before.before.before.before.before.before.before in
+    let s = c.before.before.before.before.before.before.before.before.before.before.before in
     let a = s.args in
     let n = c.count-n in
     let d = c.deliver in

@@ -14,12 +14,12 @@ returns-then-not-check c =
 
 pub run_whole-ran-requires : goal.run_whole-ran-requires
 run_whole-ran-requires c =
-    let s = c.before.before.before.before in
+    let s = c.before.before.before.before.before in
     (sym c.check.ensures ∙ not-false _ c.if-not-check.false, s.requires.0, s.requires.1)
 
 pub returns : goal.returns
 returns c =
-    let s = c.before.before.before.before.before.before in
+    let s = c.before.before.before.before.before.before.before in
     let a = s.args in
     let r = c.run_whole-ran in
     let checked = sym c.check.ensures ∙ not-false _ c.if-not-check.false in

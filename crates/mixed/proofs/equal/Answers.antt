@@ -9,5 +9,5 @@ use Rattle.mixed.proofs.equal.Goals as goal
 
 pub returns : goal.returns
 returns c =
-    let q = c.before in let s = q.before in
+    let q = c.before.before in let s = q.before in
     q.sides-s.ensures.same ∙ ap (λ (y : ℤ). eq (exactly y) s.args.x) (to_z-of_z w64 s.args.z s.ranges.z)

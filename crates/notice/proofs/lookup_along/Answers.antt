@@ -1,15 +1,17 @@
 use Rattle.std.proofs.Common.{sym, ◌∙◌, rules}
 use Rattle.word.specs.Word.{Bytes}
 use Rattle.notice.proofs.Renders.{well_header}
-use Rattle.notice.proofs.lookup_along.Goals.{After-shared_slice_known-1}
+use Rattle.notice.proofs.lookup_along.Lts as lts
+use Rattle.notice.proofs.lookup_along.Tie as tie
+use Rattle.notice.proofs.lookup_along.Reads as reads
 use Rattle.notice.proofs.lookup_along.Goals as goal
 
-bytes : (c : After-shared_slice_known-1) → Bytes c.args.notice.now
+bytes : (c : lts.After-shared_slice_known tie.the-claims reads.Pre reads.Post) → Bytes c.args.notice.now
 bytes c i = (c.shared_slice_known-1.given i).fits
 
 pub found_at-requires : goal.found_at-requires
 found_at-requires c =
-    ((well_header c.args.notice.now (bytes c.before.before.before) c.requires.0).short, c.walked-stop.ensures.right c.if-stop.true)
+    ((well_header c.args.notice.now (bytes c.before.before.before.before) c.requires.0).short, c.walked-stop.ensures.right c.if-stop.true)
 
 pub returns-then-stop : goal.returns-then-stop
 returns-then-stop c =

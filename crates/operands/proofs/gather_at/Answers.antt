@@ -11,7 +11,7 @@ use Rattle.operands.proofs.gather_at.Goals as goal
 
 pub returns-then-not-is_operand : goal.returns-then-not-is_operand
 returns-then-not-is_operand c =
-    let b = c.before.before.before.before.before.before.before.before in
+    let b = c.before.before.before.before.before.before.before.before.before in
     let a = b.args in
     let ms = a.marks.now in
     let e = c.is_operand.ensures in
@@ -22,7 +22,7 @@ returns-then-not-is_operand c =
 
 pub returns : goal.returns
 returns c =
-    let b = c.before.before.before.before.before.before.before.before.before.before.before.before.before.before.before.before.before.before in
+    let b = c.before.before.before.before.before.before.before.before.before.before.before.before.before.before.before.before.before.before.before in
     let a = b.args in
     let ms = a.marks.now in
     let e = c.is_operand.ensures in

@@ -9,12 +9,12 @@ use Rattle.operands.proofs.mark_at.Goals as goal
 
 pub returns-then-k-ne-NAME : goal.returns-then-k-ne-NAME
 returns-then-k-ne-NAME c =
-    let b = c.before.before.before.before.before in
+    let b = c.before.before.before.before.before.before in
     mark_other b.args.text.now b.args.kinds.now b.args.starts.now b.args.i b.requires c.if-k-ne-NAME.true
 
 pub returns-then-kind-ne-OPEN : goal.returns-then-kind-ne-OPEN
 returns-then-kind-ne-OPEN c =
-    let b = c.before.before.before.before.before.before.before in
+    let b = c.before.before.before.before.before.before.before.before in
     mark_alone b.args.text.now b.args.kinds.now b.args.starts.now b.args.i b.requires c.kind.ensures c.if-kind-ne-OPEN.true
 
 pub overflow_add-result : goal.overflow_add-result
@@ -24,5 +24,5 @@ overflow_add-result c =
 
 pub returns : goal.returns
 returns c =
-    let b = c.before.before.before.before.before.before.before.before.before in
+    let b = c.before.before.before.before.before.before.before.before.before.before in
     mark_call b.args.text.now b.args.kinds.now b.args.starts.now b.args.i b.requires c.if-k-ne-NAME.false c.kind.ensures c.if-kind-ne-OPEN.false c.start.ensures c.function.ensures

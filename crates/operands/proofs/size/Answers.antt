@@ -9,7 +9,7 @@ use Rattle.operands.proofs.size.Goals as goal
 
 pub overflow_cast-result : goal.overflow_cast-result
 overflow_cast-result c =
-    let b = c.before.before.before in
+    let b = c.before.before.before.before in
     omega (arith, c.name_length.ensures, name_small b.args.text.now b.args.at, b.requires)
 
 pub returns-then-k-eq-NAME : goal.returns-then-k-eq-NAME
@@ -17,7 +17,7 @@ returns-then-k-eq-NAME c = c.name_length.ensures ∙ sym (rw c.if-k-eq-NAME.true
 
 pub overflow_cast-result-then-k-eq-TEXT : goal.overflow_cast-result-then-k-eq-TEXT
 overflow_cast-result-then-k-eq-TEXT c =
-    let b = c.before.before.before.before in
+    let b = c.before.before.before.before.before in
     omega (arith, c.string_length.ensures, string_small b.args.text.now b.args.at, b.requires)
 
 pub returns-then-k-eq-TEXT : goal.returns-then-k-eq-TEXT

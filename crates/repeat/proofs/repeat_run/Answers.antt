@@ -6,11 +6,13 @@ use borrow.Author.Tests.{not-true, not-false}
 use Rattle.table.specs.Check.{check_of}
 use Rattle.interpreter.proofs.Answers.{indexed}
 use Rattle.repeat.proofs.Small.{nothing, no_notice, whole}
-use Rattle.repeat.proofs.repeat_run.Goals.{Else-not-check}
+use Rattle.repeat.proofs.repeat_run.Lts as lts
+use Rattle.repeat.proofs.repeat_run.Tie as tie
+use Rattle.repeat.proofs.repeat_run.Reads as reads
 use Rattle.repeat.proofs.repeat_run.Goals as goal
 
 -- where the table's check passes
-passed : (c : Else-not-check) → check_of c.args.table.now ≡ true
+passed : (c : lts.Else1 tie.the-claims reads.Pre reads.Post) → check_of c.args.table.now ≡ true
 passed c = sym c.check.ensures ∙ not-false _ c.if-not-check.false
 
 pub returns-then-not-check : goal.returns-then-not-check

@@ -17,7 +17,7 @@ returns-then-kind-eq3 c =
 
 pub put_verdict-next-requires : goal.put_verdict-next-requires
 put_verdict-next-requires c =
-    let s = c.before.before.before.before.before.before.before.before in
+    let s = c.before.before.before.before.before.before.before.before.before in
     (subst Sound (sym (from_start s.args.table.now s.args.held)) s.requires.2, omega (arith, s.requires.3))
 
 pub returns-then-kind-eq1 : goal.returns-then-kind-eq1

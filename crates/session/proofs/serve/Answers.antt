@@ -17,18 +17,20 @@ use Rattle.record.proofs.next_record.Reads as next-record-reads
 use Rattle.record.proofs.put_error_line.Reads as put-error-line-reads
 use Rattle.record.proofs.waits.Reads as waits-reads
 use Rattle.session.proofs.answer.Reads as answer-reads
-use Rattle.session.proofs.serve.Goals.{After-next_record-found, In-Whole}
+use Rattle.session.proofs.serve.Lts as lts
+use Rattle.session.proofs.serve.Tie as tie
+use Rattle.session.proofs.serve.Reads as reads
 use Rattle.session.proofs.serve.Goals as goal
 
 -- the record reader's finding at the stretch's own bytes
-found : (c : After-next_record-found) → c.next_record-found.result ≡ record_of (drop c.loop-left.at c.args.input.now)
+found : (c : lts.After-next_record tie.the-claims reads.Pre reads.Post goal.the-invariant-loop-left goal.the-decreases-loop-left) → c.next_record-found.result ≡ record_of (drop c.loop-left.at c.args.input.now)
 found c = c.next_record-found.ensures ∙ ap record_of (to_end c.args.input.now c.loop-left.at)
 
 -- the whole record that was taken
-whole : (c : In-Whole) → record_of (drop c.loop-left.at c.args.input.now) ≡ Whole c.found-1.given.0.0 c.found-1.given.0.1.0
+whole : (c : lts.After-known_told tie.the-claims reads.Pre reads.Post goal.the-invariant-loop-left goal.the-decreases-loop-left) → record_of (drop c.loop-left.at c.args.input.now) ≡ Whole c.found-1.given.0.0 c.found-1.given.0.1.0
 whole c = sym (found c.before.before.before.before.before) ∙ c.found-1.given.1
 
-lies : (c : In-Whole) → (6 ≤ c.found-1.given.0.1.0) × (c.loop-left.at + c.found-1.given.0.1.0 ≤ length c.args.input.now)
+lies : (c : lts.After-known_told tie.the-claims reads.Pre reads.Post goal.the-invariant-loop-left goal.the-decreases-loop-left) → (6 ≤ c.found-1.given.0.1.0) × (c.loop-left.at + c.found-1.given.0.1.0 ≤ length c.args.input.now)
 lies c =
     let s = c.args.input.now in
     let at = c.loop-left.at in
@@ -58,7 +60,7 @@ shape_of-out-then-waits c = c.loop-left.invariant.same_out
 pub returns-then-waits : goal.returns-then-waits
 returns-then-waits c =
     along_waits c.loop-left.invariant c.loop-left-test.true
-    (ap (λ (r : Record). waits_of r c.args.last) (sym (found c.before.before)) ∙ sym c.waits.ensures ∙ c.if-waits.true)
+    (ap (λ (r : Record). waits_of r c.args.last) (sym (found c.before.before.before)) ∙ sym c.waits.ensures ∙ c.if-waits.true)
 
 pub put_error_line-end-requires : goal.put_error_line-end-requires
 put_error_line-end-requires c = omega (arith, c.loop-left.invariant.room)
@@ -72,12 +74,12 @@ shape_of-out-in_default c = c.put_error_line-end.auto.0 ∙ c.loop-left.invarian
 pub returns-in_default : goal.returns-in_default
 returns-in_default c =
     along_error c.loop-left.invariant _ c.put_error_line-end.result c.loop-left-test.true
-    (ap (λ (r : Record). waits_of r c.args.last) (sym (found c.before.before.before.before.before.before.before)) ∙ sym c.waits.ensures ∙ c.if-waits.false)
-    (not_whole (tag_of the_type) (λ k n. refl) (record_of (drop c.loop-left.at c.args.input.now)) c.next_record-found.result c.in_default.keys2 (found c.before.before.before.before.before.before.before))
+    (ap (λ (r : Record). waits_of r c.args.last) (sym (found c.before.before.before.before.before.before.before.before)) ∙ sym c.waits.ensures ∙ c.if-waits.false)
+    (not_whole (tag_of the_type) (λ k n. refl) (record_of (drop c.loop-left.at c.args.input.now)) c.next_record-found.result c.in_default.keys2 (found c.before.before.before.before.before.before.before.before))
     c.put_error_line-end.auto.0 c.put_error_line-end.ensures.1 c.put_error_line-end.ensures.0
 
 pub overflow_add-next : goal.overflow_add-next
-overflow_add-next c = omega (arith, lies c, c.well_formed)
+overflow_add-next c = omega (arith, lies c.before, c.well_formed)
 
 pub slice_bounds-answer-count : goal.slice_bounds-answer-count
 slice_bounds-answer-count c = omega arith
@@ -86,11 +88,11 @@ pub slice_bounds-answer-start : goal.slice_bounds-answer-start
 slice_bounds-answer-start c = omega arith
 
 pub slice_bounds-answer-end : goal.slice_bounds-answer-end
-slice_bounds-answer-end c = omega (arith, lies c)
+slice_bounds-answer-end c = omega (arith, lies c.before)
 
 pub answer-done-requires : goal.answer-done-requires
 answer-done-requires c =
-    let k = c.before.before.before in
+    let k = c.before.before.before.before in
     let n = between_length c.args.input.now c.loop-left.at k.found-1.given.0.1.0 (lies k).1 in
     (omega (arith, lies k, n), c.loop-left.invariant.within, c.loop-left.invariant.sound, omega (arith, c.loop-left.invariant.room, c.loop-left-test.true))
 
@@ -102,7 +104,7 @@ loop-left-smaller c = omega arith
 
 pub loop-left-preserved : goal.loop-left-preserved
 loop-left-preserved c =
-    let k = c.before.before.before.before.before.before.before.before in
+    let k = c.before.before.before.before.before.before.before.before.before in
     let a = c.answer-done in
     let at = c.loop-left.at in
     let size = k.found-1.given.0.1.0 in

@@ -7,5 +7,5 @@ use Rattle.session.proofs.turn.Goals as goal
 
 pub returns : goal.returns
 returns c =
-    let k = c.before.before.before.before.before.before in
+    let k = c.before.before.before.before.before.before.before in
     turned c.next_of.result k.requires k.serve-served.ensures k.serve-served.auto.1.1.0 c.next_of.ensures

@@ -7,13 +7,15 @@ use Rattle.store.specs.Layout.{records_of, places_in, written}
 use Rattle.store.specs.Calls.{lowest_free, rec, add_refusal}
 use Rattle.store.proofs.Answers.{appendable, number_is, same_bytes, new_bytes}
 use borrow.Author.Rules.{rules}
-use Rattle.store.proofs.add.Goals.{Else-a-ne0}
+use Rattle.store.proofs.add.Lts as lts
+use Rattle.store.proofs.add.Tie as tie
+use Rattle.store.proofs.add.Reads as reads
 use Rattle.store.proofs.add.Goals as goal
 
-accepted : (c : Else-a-ne0) → add_refusal c.args.store.now c.args.table.now ≡ 0
+accepted : (c : lts.Else1 tie.the-claims reads.Pre reads.Post) → add_refusal c.args.store.now c.args.table.now ≡ 0
 accepted c = sym (ap (λ (a : Added). a.refusal) c.judge-a.ensures) ∙ c.if-a-ne0.false
 
-lowest : (c : Else-a-ne0) → c.judge-a.result.number ≡ lowest_free (places_in c.args.store.now)
+lowest : (c : lts.Else1 tie.the-claims reads.Pre reads.Post) → c.judge-a.result.number ≡ lowest_free (places_in c.args.store.now)
 lowest c = ap (λ (a : Added). a.number) c.judge-a.ensures ∙ number_is c.args.store.now c.args.table.now (accepted c)
 
 pub returns-then-a-ne0 : goal.returns-then-a-ne0
@@ -25,7 +27,7 @@ returns-then-a-ne0 c =
 pub append-requires : goal.append-requires
 append-requires c =
     let a = c.args in
-    rw (sym (lowest c.before)) at (appendable a.store.now a.table.now (accepted c.before))
+    rw (sym (lowest c.before.before)) at (appendable a.store.now a.table.now (accepted c.before.before))
 
 pub returns : goal.returns
 returns c =
@@ -33,5 +35,5 @@ returns c =
     let t = c.args.table.now in
     record {
       answer = c.judge-a.ensures;
-      bytes = c.append.ensures ∙ ap (λ (k : ℕ). written (records_of s ++ (rec k t ∷ [])) s) (lowest c.before.before.before.before) ∙ new_bytes s t (accepted c.before.before.before.before);
+      bytes = c.append.ensures ∙ ap (λ (k : ℕ). written (records_of s ++ (rec k t ∷ [])) s) (lowest c.before.before.before.before.before) ∙ new_bytes s t (accepted c.before.before.before.before.before);
     }

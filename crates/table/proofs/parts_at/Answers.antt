@@ -8,11 +8,13 @@ use Rattle.table.proofs.a_at.Reads as a-at-reads
 use Rattle.table.proofs.b_at.Reads as b-at-reads
 use Rattle.table.proofs.count.Reads as count-reads
 use Rattle.table.proofs.op_at.Reads as op-at-reads
-use Rattle.table.proofs.parts_at.Goals.{After-count}
+use Rattle.table.proofs.parts_at.Lts as lts
+use Rattle.table.proofs.parts_at.Tie as tie
+use Rattle.table.proofs.parts_at.Reads as reads
 use Rattle.table.proofs.parts_at.Goals as goal
 
 -- a string's or a name's bytes end early
-small : (c : After-count) → 10 + 12 * c.count.result + c.b_at-b.result + c.a_at-a.result ≤ most_bytes
+small : (c : lts.After-count tie.the-claims reads.Pre reads.Post) → 10 + 12 * c.count.result + c.b_at-b.result + c.a_at-a.result ≤ most_bytes
 small c =
     let a = c.args in
     let p = c.requires in
@@ -33,12 +35,12 @@ count-requires c = let t = c.args.table.now in (laid t (checked_layout t c.requi
 
 pub overflow_add-start-then-op : goal.overflow_add-start-then-op
 overflow_add-start-then-op c =
-    let h = small c in
+    let h = small c.before in
     search rules
 
 pub overflow_add-end : goal.overflow_add-end
 overflow_add-end c =
-    let h = small c in
+    let h = small c.before in
     search rules
 
 pub returns-then-op : goal.returns-then-op

@@ -9,7 +9,7 @@ use Rattle.utf8.proofs.width.Goals as goal
 
 pub returns-then-is_two : goal.returns-then-is_two
 returns-then-is_two c =
-    let a = c.before.before.before.before.before.before in
+    let a = c.before.before.before.before.before.before.before in
     let s = a.args.s.now in
     let i = a.args.i in
     let t : is_two (get_or s i 0) (get_or s (i + 1) 0) ≡ true = cc (c.byte_at.ensures, c.is_two.ensures, c.if-is_two.true) in
@@ -17,7 +17,7 @@ returns-then-is_two c =
 
 pub returns-then-b-lt224 : goal.returns-then-b-lt224
 returns-then-b-lt224 c =
-    let a = c.before.before.before.before.before.before in
+    let a = c.before.before.before.before.before.before.before in
     let s = a.args.s.now in
     let i = a.args.i in
     let t : is_two (get_or s i 0) (get_or s (i + 1) 0) ≡ false = cc (c.byte_at.ensures, c.is_two.ensures, c.if-is_two.false) in

@@ -12,5 +12,5 @@ returns-in-Bottom c =
 
 pub returns-in-Both : goal.returns-in-Both
 returns-in-Both c =
-    let s : tie.Start = search in let g = c.before.before.before in
+    let s : tie.Start = search in let g = c.before.before.before.before in
     λ p q. let f = g.paired.ensures p q in let h = (rw g.v-1.given.1 at f) in c.valued-in-Both.ensures p q ∙ ap value (c.combine.ensures p q ∙ ap₂ (combine_of s.args.edition s.args.op) h.1 h.2)

@@ -13,5 +13,5 @@ returns-in-Bottom c =
 
 pub returns-in-Both : goal.returns-in-Both
 returns-in-Both c =
-    let s : tie.Start = search in let p = s.args.pool.now in let q = s.args.notice.now in let g = c.before.before.before in let f = g.paired.ensures p q in let h = (rw g.v-1.given.1 at f) in
+    let s : tie.Start = search in let p = s.args.pool.now in let q = s.args.notice.now in let g = c.before.before.before.before in let f = g.paired.ensures p q in let h = (rw g.v-1.given.1 at f) in
     λ e. c.decided-in-Both.ensures p q ∙ ap logic (c.equality.ensures ∙ ap₂ (compare_of (equality_by s.args.negated)) h.1 h.2)

@@ -13,5 +13,5 @@ returns-in-Bottom c =
 
 pub returns-in-Both : goal.returns-in-Both
 returns-in-Both c =
-    let s : tie.Start = search in let g = c.before.before.before in
+    let s : tie.Start = search in let g = c.before.before.before.before in
     λ e p q. let f = g.paired.ensures p q in let h = (rw g.v-1.given.1 at f) in c.decided-in-Both.ensures p q ∙ ap logic (c.ordered.ensures p q ∙ ap₂ (compare_of (Compare.Order s.args.op)) h.1 h.2)

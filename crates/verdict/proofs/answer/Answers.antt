@@ -8,5 +8,5 @@ use Rattle.verdict.proofs.answer.Goals as goal
 
 pub returns : goal.returns
 returns c =
-    let s = c.before.before.before.before.before.before.before.before.before.before.before.before.before in
+    let s = c.before.before.before.before.before.before.before.before.before.before.before.before.before.before in
     answers h s.requires.1 c.turn-after.ensures

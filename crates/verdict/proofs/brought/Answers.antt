@@ -7,10 +7,10 @@ use Rattle.verdict.proofs.brought.Goals as goal
 
 pub returns-then-is_repeated : goal.returns-then-is_repeated
 returns-then-is_repeated c =
-    let s = c.before.before.before in
+    let s = c.before.before.before.before in
     repeated s.args.got s.ranges.got s.args.end c.is_repeated.result c.is_repeated.ensures c.if-is_repeated.true
 
 pub returns : goal.returns
 returns c =
-    let s = c.before.before.before.before.before in
+    let s = c.before.before.before.before.before.before in
     counted s.args.got s.ranges.got s.args.input.now s.args.end c.count-n.result s.requires.1 c.count-n.ensures.1

@@ -8,6 +8,6 @@ use Rattle.verdict.proofs.more.Goals as goal
 
 pub returns : goal.returns
 returns c =
-    let s = c.before.before.before.before.before.before.before.before.before.before in
+    let s = c.before.before.before.before.before.before.before.before.before.before.before in
     let m = c.make_room-ready in
     reads_on h s.requires.1 m.ensures c.read_on-came.ensures c.received.ensures

@@ -8,6 +8,6 @@ use Rattle.verdict_test.proofs.read_on.Goals as goal
 
 pub returns : goal.returns
 returns c =
-    let s = c.before.before.before.before.before.before.before.before.before.before.before.before in
+    let s = c.before.before.before.before.before.before.before.before.before.before.before.before.before in
     let f = c.feed-n.ensures in
     (fed_ready s.requires.0 c.make_room-ready.ensures f c.received.ensures, f.there)

@@ -7,5 +7,5 @@ use Rattle.word.proofs.write_i64.Goals as goal
 
 pub returns : goal.returns
 returns c =
-    let s = c.before.before.before.before.before.before in
+    let s = c.before.before.before.before.before.before.before in
     rw (c.bits_of_i64.ensures, to_z-of_z w64 s.args.x s.ranges.x) at c.write_u64.ensures

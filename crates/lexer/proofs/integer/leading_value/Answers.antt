@@ -14,7 +14,7 @@ use Rattle.lexer.proofs.integer.leading_value.Goals as goal
 
 pub returns : goal.returns
 returns c =
-    let t = c.before.before.before in
+    let t = c.before.before.before.before in
     let s = t.args.text.now in
     let e = rw c.digits-d.ensures.1 at c.signed.ensures in
     to_z-of_z w64 _ (record { sfits = c.signed.type_inv })

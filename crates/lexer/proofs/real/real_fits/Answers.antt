@@ -10,11 +10,13 @@ use Rattle.lexer.proofs.real.exponent_digits.Reads as exponent-digits-reads
 use Rattle.lexer.proofs.real.scale.Reads as scale-reads
 use Rattle.lexer.proofs.real.sign_end.Reads as sign-end-reads
 use Rattle.lexer.proofs.run.rest.Reads as rest-reads
-use Rattle.lexer.proofs.real.real_fits.Goals.{After-exponent_digits-d}
+use Rattle.lexer.proofs.real.real_fits.Lts as lts
+use Rattle.lexer.proofs.real.real_fits.Tie as tie
+use Rattle.lexer.proofs.real.real_fits.Reads as reads
 use Rattle.lexer.proofs.real.real_fits.Goals as goal
 
 -- how many digits the exponent has
-count : (c : After-exponent_digits-d)
+count : (c : lts.After-exponent_digits tie.the-claims reads.Pre reads.Post)
     → c.exponent_digits-d.result.end ≡ c.sign_end-n.result + length (exponent_digits (exponent_part c.args.run.now))
 count c =
     let run = c.args.run.now in
@@ -25,18 +27,18 @@ count c =
 
 pub returns-then-n-d : goal.returns-then-n-d
 returns-then-n-d c =
-    let n = count c.before.before in
+    let n = count c.before.before.before in
     rw (lt-leb (length (exponent_digits (exponent_part c.args.run.now))) 3 (omega (arith, n, c.if-n-d.true)))
 
 pub scale-e-requires : goal.scale-e-requires
 scale-e-requires c =
     let p = c.requires in
-    (omega (arith, count c.before.before, c.if-n-d.false), p.0, p.1)
+    (omega (arith, count c.before.before.before, c.if-n-d.false), p.0, p.1)
 
 pub returns : goal.returns
 returns c =
     let run = c.args.run.now in
     let p = c.requires in
-    let n = count c.before.before.before.before.before in
+    let n = count c.before.before.before.before.before.before in
     let h = le-leb (length (exponent_digits (exponent_part run))) 3 (omega (arith, n, c.if-n-d.false)) in
     rw (h, c.scale-e.ensures.0, p.2, fifteen_capped (real_digits run) (real_decimal run))

@@ -2,35 +2,37 @@ use Rattle.std.proofs.Common.{◌≡◌, ℕ, ◌+◌, ◌-◌, take, drop, sym,
 use Rattle.notice.specs.Layout.{size_at, name_size_at}
 use Rattle.notice.specs.Field.{size_right}
 use Rattle.notice.proofs.Places.{Lies, lies_true, lies_not, wrong_name, by_size}
-use Rattle.notice.proofs.field.stands.Goals.{Then-lies}
+use Rattle.notice.proofs.field.stands.Lts as lts
+use Rattle.notice.proofs.field.stands.Tie as tie
+use Rattle.notice.proofs.field.stands.Reads as reads
 use Rattle.notice.proofs.field.stands.Goals as goal
 
-lying : (c : Then-lies) → Lies c.args.notice.now c.args.at
+lying : (c : lts.Then1 tie.the-claims reads.Pre reads.Post) → Lies c.args.notice.now c.args.at
 lying c = lies_true c.args.notice.now c.args.at (sym c.lies.ensures ∙ c.if-lies.true)
 
 pub name_size-requires : goal.name_size-requires
 name_size-requires c =
-    let l = lying c in
+    let l = lying c.before in
     omega arith
 
 pub slice_bounds-name_right-end : goal.slice_bounds-name_right-end
 slice_bounds-name_right-end c =
-    let l = lying c.before in
+    let l = lying c.before.before in
     omega arith
 
 pub field_size-requires : goal.field_size-requires
 field_size-requires c =
-    let l = lying c.before.before.before.before in
+    let l = lying c.before.before.before.before.before in
     omega arith
 
 pub read_u16-requires : goal.read_u16-requires
 read_u16-requires c =
-    let l = lying c.before.before.before.before.before in
+    let l = lying c.before.before.before.before.before.before in
     omega arith
 
 pub overflow_sub-end : goal.overflow_sub-end
 overflow_sub-end c =
-    let l = lying c.before.before.before.before.before.before in
+    let l = lying c.before.before.before.before.before.before.before in
     omega arith
 
 pub returns-then-name_right : goal.returns-then-name_right

@@ -5,37 +5,39 @@ use Rattle.notice.specs.Layout.{name_size_at, name_at, right_at}
 use Rattle.notice.specs.Key.{key_of, last_name_at}
 use Rattle.notice.proofs.Places.{Lies, lies_true, right_lies, right_name}
 use Rattle.notice.proofs.Keys.{less_before, not_after, last_name, some_last, some_key, key_here, no_key}
-use Rattle.notice.proofs.order.follows.Goals.{Else-key-eq0, Start}
+use Rattle.notice.proofs.order.follows.Lts as lts
+use Rattle.notice.proofs.order.follows.Tie as tie
+use Rattle.notice.proofs.order.follows.Reads as reads
 use Rattle.notice.proofs.order.follows.Goals as goal
 
 -- where the key is not 0 a right field stands, with this key
-right_by : (c : Start) → 0 < c.args.key → right_at c.args.notice.now c.args.at ≡ true
+right_by : (c : lts.Start tie.the-claims reads.Pre reads.Post) → 0 < c.args.key → right_at c.args.notice.now c.args.at ≡ true
 right_by c h = some_key c.args.notice.now c.args.at c.args.key c.requires.1 h
 
-key_is : (c : Start) → 0 < c.args.key → c.args.key ≡ key_of (name_at c.args.notice.now c.args.at)
+key_is : (c : lts.Start tie.the-claims reads.Pre reads.Post) → 0 < c.args.key → c.args.key ≡ key_of (name_at c.args.notice.now c.args.at)
 key_is c h = c.requires.1 ∙ key_here c.args.notice.now c.args.at (right_by c h)
 
-some : (c : Else-key-eq0) → 0 < c.args.key
+some : (c : lts.Else3 tie.the-claims reads.Pre reads.Post) → 0 < c.args.key
 some c = let f = c.if-key-eq0.false in omega arith
 
-right : (c : Else-key-eq0) → right_at c.args.notice.now c.args.at ≡ true
+right : (c : lts.Else3 tie.the-claims reads.Pre reads.Post) → right_at c.args.notice.now c.args.at ≡ true
 right c = right_by c.before.before.before.before (some c)
 
 -- where the keys are equal there is a last field
-after_one : (c : Else-key-eq0) → c.args.last ≡ 0 → ⊥
+after_one : (c : lts.Else3 tie.the-claims reads.Pre reads.Post) → c.args.last ≡ 0 → ⊥
 after_one c =
     let a = c.args in
     some_last a.notice.now a.last a.at a.last_key a.key c.requires.0 (right c) (key_is c.before.before.before.before (some c)) (omega (arith, c.if-last_key-key.false))
 
-lying_last : (c : Else-key-eq0) → Lies c.args.notice.now c.args.last
+lying_last : (c : lts.Else3 tie.the-claims reads.Pre reads.Post) → Lies c.args.notice.now c.args.last
 lying_last c = lies_true c.args.notice.now c.args.last (c.requires.0.lies (after_one c))
 
-lying : (c : Else-key-eq0) → Lies c.args.notice.now c.args.at
+lying : (c : lts.Else3 tie.the-claims reads.Pre reads.Post) → Lies c.args.notice.now c.args.at
 lying c = right_lies c.args.notice.now c.args.at (right c)
 
 pub returns-then-last_key-key : goal.returns-then-last_key-key
 returns-then-last_key-key c =
-    let d = c.before.before in
+    let d = c.before.before.before in
     let a = d.args in
     let p = d.requires in
     let s = a.notice.now in
@@ -55,42 +57,42 @@ returns-then-key-eq0 c =
 
 pub overflow_add-s : goal.overflow_add-s
 overflow_add-s c =
-    let l = lying_last c in
+    let l = lying_last c.before in
     omega arith
 
 pub name_size-requires : goal.name_size-requires
 name_size-requires c =
-    let l = lying_last c in
+    let l = lying_last c.before in
     omega arith
 
 pub overflow_add-s_end : goal.overflow_add-s_end
 overflow_add-s_end c =
-    let l = lying_last c.before in
+    let l = lying_last c.before.before in
     omega arith
 
 pub overflow_add-t : goal.overflow_add-t
 overflow_add-t c =
-    let l = lying c.before in
+    let l = lying c.before.before in
     omega arith
 
 pub name_size-requires-2 : goal.name_size-requires-2
 name_size-requires-2 c =
-    let l = lying c.before in
+    let l = lying c.before.before in
     omega arith
 
 pub overflow_add-t_end : goal.overflow_add-t_end
 overflow_add-t_end c =
-    let l = lying c.before.before in
+    let l = lying c.before.before.before in
     omega arith
 
 pub slice_bounds-before-end : goal.slice_bounds-before-end
 slice_bounds-before-end c =
-    let l = lying_last c.before.before in
+    let l = lying_last c.before.before.before in
     omega arith
 
 pub slice_bounds-before-end-2 : goal.slice_bounds-before-end-2
 slice_bounds-before-end-2 c =
-    let l = lying c.before.before.before in
+    let l = lying c.before.before.before.before in
     omega arith
 
 pub returns : goal.returns
@@ -101,6 +103,6 @@ returns c =
     let k = a.at + 5 + c.name_size-2.result - (a.at + 5) in
     let m : j ≡ name_size_at s a.last = omega arith in
     let n : k ≡ name_size_at s a.at = omega arith in
-    rw (right c.before.before.before.before.before) (c.before-2.ensures
-    ∙ ap₂ before_of (not_folded (take j (drop (a.last + 5) s)) ∙ (ap (λ (i : ℕ). take i (drop (a.last + 5) s)) m ∙ sym (last_name s a.last (after_one c.before.before.before.before.before))))
+    rw (right c.before.before.before.before.before.before) (c.before-2.ensures
+    ∙ ap₂ before_of (not_folded (take j (drop (a.last + 5) s)) ∙ (ap (λ (i : ℕ). take i (drop (a.last + 5) s)) m ∙ sym (last_name s a.last (after_one c.before.before.before.before.before.before))))
     (not_folded (take k (drop (a.at + 5) s)) ∙ ap (λ (i : ℕ). take i (drop (a.at + 5) s)) n))

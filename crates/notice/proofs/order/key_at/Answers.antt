@@ -4,38 +4,40 @@ use Rattle.notice.specs.Layout.{kind_at, value_size_at, lies_at}
 use Rattle.notice.specs.Key.{right_key_lem}
 use Rattle.notice.proofs.Places.{Lies, lies_true, lies_not, wrong_size, by_name}
 use Rattle.notice.proofs.Keys.{no_key_here, key_named}
-use Rattle.notice.proofs.order.key_at.Goals.{After-size_right, Then-lies}
+use Rattle.notice.proofs.order.key_at.Lts as lts
+use Rattle.notice.proofs.order.key_at.Tie as tie
+use Rattle.notice.proofs.order.key_at.Reads as reads
 use Rattle.notice.proofs.order.key_at.Goals as goal
 
-lies_here : (c : Then-lies) → lies_at c.args.notice.now c.args.at ≡ true
+lies_here : (c : lts.Then1 tie.the-claims reads.Pre reads.Post) → lies_at c.args.notice.now c.args.at ≡ true
 lies_here c = sym c.lies.ensures ∙ c.if-lies.true
 
-lying : (c : Then-lies) → Lies c.args.notice.now c.args.at
+lying : (c : lts.Then1 tie.the-claims reads.Pre reads.Post) → Lies c.args.notice.now c.args.at
 lying c = lies_true c.args.notice.now c.args.at (lies_here c)
 
-size_is : (c : After-size_right) → c.size_right.result ≡ size_right (kind_at c.args.notice.now c.args.at) (value_size_at c.args.notice.now c.args.at)
+size_is : (c : lts.After-size_right tie.the-claims reads.Pre reads.Post) → c.size_right.result ≡ size_right (kind_at c.args.notice.now c.args.at) (value_size_at c.args.notice.now c.args.at)
 size_is c =
     let a = c.args in
     c.size_right.ensures ∙ ap₂ size_right c.read_u16.ensures (ap₂ (λ (n m : ℕ). n - (3 + m)) c.field_size.ensures.0 c.name_size-n.ensures.0)
 
 pub name_size-n-requires : goal.name_size-n-requires
-name_size-n-requires c = let l = lying c in omega arith
+name_size-n-requires c = let l = lying c.before in omega arith
 
 pub field_size-requires : goal.field_size-requires
-field_size-requires c = let l = lying c.before in omega arith
+field_size-requires c = let l = lying c.before.before in omega arith
 
 pub overflow_sub-size : goal.overflow_sub-size
-overflow_sub-size c = let l = lying c.before.before in omega arith
+overflow_sub-size c = let l = lying c.before.before.before in omega arith
 
 pub read_u16-requires : goal.read_u16-requires
-read_u16-requires c = let l = lying c.before.before in omega arith
+read_u16-requires c = let l = lying c.before.before.before in omega arith
 
 pub key_of-requires : goal.key_of-requires
-key_of-requires c = let l = lying c.before.before.before.before.before in (omega arith, omega arith)
+key_of-requires c = let l = lying c.before.before.before.before.before.before in (omega arith, omega arith)
 
 pub returns-then-size_right : goal.returns-then-size_right
 returns-then-size_right c =
-    let d = c.before.before in
+    let d = c.before.before.before in
     let a = d.args in
     let s = a.notice.now in
     c.key_of.ensures ∙ (ap (λ (n : ℕ). right_key_lem (take n (drop (a.at + 5) s))) d.name_size-n.ensures.0
@@ -43,7 +45,7 @@ returns-then-size_right c =
 
 pub returns-else-size_right : goal.returns-else-size_right
 returns-else-size_right c =
-    let d = c.before in
+    let d = c.before.before in
     let a = d.args in
     no_key_here a.notice.now a.at (wrong_size a.notice.now a.at (lies_here d.before.before.before.before) (sym (size_is d) ∙ c.if-size_right.false))
 

@@ -2,18 +2,20 @@ use Rattle.std.proofs.Common.{◌≡◌, ℕ, ◌+◌, ◌-◌, List, length, ta
 use Rattle.notice.specs.Field.{printable}
 use Rattle.notice.proofs.Names.{by_bytes}
 use Rattle.notice.proofs.Keys.{key_start, right_key_lem, wrong_key}
-use Rattle.notice.proofs.order.long_key.Goals.{After-words_right}
+use Rattle.notice.proofs.order.long_key.Lts as lts
+use Rattle.notice.proofs.order.long_key.Tie as tie
+use Rattle.notice.proofs.order.long_key.Reads as reads
 use Rattle.notice.proofs.order.long_key.Goals as goal
 
-abbrev name : (c : After-words_right) → List ℕ
+abbrev name : (c : lts.After-words_right tie.the-claims reads.Pre reads.Post) → List ℕ
 name c = let a = c.args in take a.n (drop a.at a.notice.now)
 
-name_length : (c : After-words_right) → length (name c) ≡ c.args.n
+name_length : (c : lts.After-words_right tie.the-claims reads.Pre reads.Post) → length (name c) ≡ c.args.n
 name_length c =
     let a = c.args in
     length-take-le a.n (drop a.at a.notice.now) (simp length-drop (omega (arith, c.requires)))
 
-judged : (c : After-words_right) → c.words_right.result ≡ printable (name c)
+judged : (c : lts.After-words_right tie.the-claims reads.Pre reads.Post) → c.words_right.result ≡ printable (name c)
 judged c =
     let a = c.args in
     let z : a.at + a.n - a.at ≡ a.n = omega arith in
@@ -21,13 +23,13 @@ judged c =
 
 pub returns-then-words_right : goal.returns-then-words_right
 returns-then-words_right c =
-    let d = c.before.before in
+    let d = c.before.before.before in
     let a = d.args in
     let p = d.requires in
     right_key_lem (name d) _ (λ z. omega (arith, p, name_length d)) (omega (arith, p, name_length d)) (sym (judged d) ∙ c.if-words_right.true) (c.eight.ensures ∙ key_start a.n a.at a.notice.now p.0)
 
 pub returns : goal.returns
 returns c =
-    let d = c.before in
+    let d = c.before.before in
     let p = d.requires in
     wrong_key (name d) (sym c.if-words_right.false ∙ (judged d ∙ by_bytes (name d) (λ z. omega (arith, p, name_length d)) (omega (arith, p, name_length d))))

@@ -1,19 +1,21 @@
 use Rattle.std.proofs.Common.{arith, rules}
 use Rattle.notice.proofs.Places.{Lies, right_lies, right_name}
 use Rattle.notice.proofs.Searches.{head_below, head_above}
-use Rattle.notice.proofs.search.stands_to.Goals.{After-shared_slice_known-2-1}
+use Rattle.notice.proofs.search.stands_to.Lts as lts
+use Rattle.notice.proofs.search.stands_to.Tie as tie
+use Rattle.notice.proofs.search.stands_to.Reads as reads
 use Rattle.notice.proofs.search.stands_to.Goals as goal
 
-lying : (c : After-shared_slice_known-2-1) → Lies c.args.notice.now c.args.at
+lying : (c : lts.After-shared_slice_known2 tie.the-claims reads.Pre reads.Post) → Lies c.args.notice.now c.args.at
 lying c = right_lies c.args.notice.now c.args.at c.requires.0
 
 pub overflow_add-head : goal.overflow_add-head
-overflow_add-head c = let l = lying c in omega arith
+overflow_add-head c = let l = lying c.before in omega arith
 
 pub bounds-notice-at : goal.bounds-notice-at
 bounds-notice-at c =
     let a = c.args in
-    let l = lying c.before in
+    let l = lying c.before.before in
     let n = (right_name a.notice.now a.at c.requires.0).0 in
     omega arith
 

@@ -5,10 +5,12 @@ use Rattle.notice.specs.Layout.{name_size_at, name_at, starts_from}
 use Rattle.notice.specs.Write.{place_in, place_for}
 use Rattle.notice.proofs.Places.{Lies, lies_true}
 use Rattle.notice.proofs.Walks.{from_header, starts_end, here, further, no_further}
-use Rattle.notice.proofs.writing.place_for.Goals.{Then-lies}
+use Rattle.notice.proofs.writing.place_for.Lts as lts
+use Rattle.notice.proofs.writing.place_for.Tie as tie
+use Rattle.notice.proofs.writing.place_for.Reads as reads
 use Rattle.notice.proofs.writing.place_for.Goals as goal
 
-lying : (c : Then-lies) → Lies c.args.notice.now c.loop-left.at
+lying : (c : lts.Then1 tie.the-claims reads.Pre reads.Post goal.the-invariant-loop-left goal.the-decreases-loop-left) → Lies c.args.notice.now c.loop-left.at
 lying c = lies_true c.args.notice.now c.loop-left.at (sym c.lies.ensures ∙ c.if-lies.true)
 
 pub loop-left-init : goal.loop-left-init
@@ -18,12 +20,12 @@ loop-left-init c =
 
 pub name_size-requires : goal.name_size-requires
 name_size-requires c =
-    let l = lying c in
+    let l = lying c.before in
     omega arith
 
 pub slice_bounds-before-end : goal.slice_bounds-before-end
 slice_bounds-before-end c =
-    let l = lying c.before in
+    let l = lying c.before.before in
     omega arith
 
 pub returns-then-before : goal.returns-then-before
@@ -39,7 +41,7 @@ returns-then-before c =
 
 pub field_size-requires : goal.field_size-requires
 field_size-requires c =
-    let l = lying c.before.before.before.before in
+    let l = lying c.before.before.before.before.before in
     omega arith
 
 pub loop-left-preserved : goal.loop-left-preserved

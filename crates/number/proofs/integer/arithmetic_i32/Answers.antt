@@ -13,17 +13,17 @@ overflow_cast-y c = wide_fits c.args.b c.ranges.b
 
 pub overflow_mul-result : goal.overflow_mul-result
 overflow_mul-result c =
-    let s = c.before.before in
+    let s = c.before.before.before in
     asked s.args.a s.args.b s.ranges.a s.ranges.b ◌*ℤ◌ (product_fits s.args.a s.args.b s.ranges.a s.ranges.b)
 
 pub quotient_i32-requires : goal.quotient_i32-requires
 quotient_i32-requires c =
-    let s = c.before.before in
+    let s = c.before.before.before in
     nonzero w32 s.args.a s.args.b s.ranges.a s.ranges.b (s.requires (ap divides c.enum_told-in-Div-1.given.1))
 
 pub remainder_i32-requires : goal.remainder_i32-requires
 remainder_i32-requires c =
-    let s = c.before.before in
+    let s = c.before.before.before in
     nonzero w32 s.args.a s.args.b s.ranges.a s.ranges.b (s.requires (ap divides c.enum_told-in-Rem-1.given.1))
 
 pub overflow_cast-result : goal.overflow_cast-result
@@ -31,40 +31,40 @@ overflow_cast-result c = wide_fits c.remainder_i32.result (record { sfits = c.re
 
 pub overflow_add-result : goal.overflow_add-result
 overflow_add-result c =
-    let s = c.before.before in
+    let s = c.before.before.before in
     asked s.args.a s.args.b s.ranges.a s.ranges.b ◌+ℤ◌ (sum_fits s.args.a s.args.b s.ranges.a s.ranges.b)
 
 pub overflow_sub-result : goal.overflow_sub-result
 overflow_sub-result c =
-    let s = c.before.before in
+    let s = c.before.before.before in
     asked s.args.a s.args.b s.ranges.a s.ranges.b ◌-ℤ◌ (difference_fits s.args.a s.args.b s.ranges.a s.ranges.b)
 
 pub returns-in-Mul : goal.returns-in-Mul
 returns-in-Mul c =
-    let s = c.before.before in
+    let s = c.before.before.before in
     given s.args.a s.args.b s.ranges.a s.ranges.b ◌*ℤ◌ (product_fits s.args.a s.args.b s.ranges.a s.ranges.b)
     ∙ named s.args.a s.args.b c.enum_told-1.given.1
 
 pub returns-in-Div : goal.returns-in-Div
 returns-in-Div c =
-    let e = c.before in let s = e.before.before in
+    let e = c.before.before in let s = e.before.before in
     to_z-of_z w64 c.quotient_i32.result (record { sfits = c.quotient_i32.type_inv }) ∙ c.quotient_i32.ensures
     ∙ unread w32 s.args.a s.args.b s.ranges.a s.ranges.b quot_z ∙ named s.args.a s.args.b e.enum_told-in-Div-1.given.1
 
 pub returns-in-Rem : goal.returns-in-Rem
 returns-in-Rem c =
-    let e = c.before in let s = e.before.before in
+    let e = c.before.before in let s = e.before.before in
     wide_is c.remainder_i32.result (record { sfits = c.remainder_i32.type_inv }) ∙ c.remainder_i32.ensures
     ∙ unread w32 s.args.a s.args.b s.ranges.a s.ranges.b rem_z ∙ named s.args.a s.args.b e.enum_told-in-Rem-1.given.1
 
 pub returns-in-Add : goal.returns-in-Add
 returns-in-Add c =
-    let s = c.before.before in
+    let s = c.before.before.before in
     given s.args.a s.args.b s.ranges.a s.ranges.b ◌+ℤ◌ (sum_fits s.args.a s.args.b s.ranges.a s.ranges.b)
     ∙ named s.args.a s.args.b c.enum_told-in-Add-1.given.1
 
 pub returns-in-Sub : goal.returns-in-Sub
 returns-in-Sub c =
-    let s = c.before.before in
+    let s = c.before.before.before in
     given s.args.a s.args.b s.ranges.a s.ranges.b ◌-ℤ◌ (difference_fits s.args.a s.args.b s.ranges.a s.ranges.b)
     ∙ named s.args.a s.args.b c.enum_told-in-Sub-1.given.1

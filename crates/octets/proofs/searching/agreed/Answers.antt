@@ -19,7 +19,7 @@ loop-j-init c =
 
 pub returns-then-fold : goal.returns-then-fold
 returns-then-fold c =
-    let b = c.before in
+    let b = c.before.before in
     let l = b.loop-j in
     let a = b.args in
     ne_eqb l.j (length a.p.now) (λ e. omega arith)
@@ -29,7 +29,7 @@ returns-then-fold c =
 
 pub loop-j-preserved : goal.loop-j-preserved
 loop-j-preserved c =
-    let b = c.before in
+    let b = c.before.before in
     let l = b.loop-j in
     let a = b.args in
     let e : a.at + (l.j + 1) ≡ a.at + l.j + 1 = omega arith in (

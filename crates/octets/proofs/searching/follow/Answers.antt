@@ -14,7 +14,7 @@ loop-i-init c = (omega arith, omega arith, begun _ _ 1 0)
 
 pub returns-then-k-p : goal.returns-then-k-p
 returns-then-k-p c =
-    let b = c.before.before in
+    let b = c.before.before.before in
     let l = b.loop-i in
     let a = b.args in
     let n = length-map a.s.now (fold a.s_mark) in
@@ -29,7 +29,7 @@ loop-i-smaller-then-fold c = omega arith
 
 pub loop-i-preserved-then-fold : goal.loop-i-preserved-then-fold
 loop-i-preserved-then-fold c =
-    let b = c.before.before in
+    let b = c.before.before.before in
     let l = b.loop-i in
     let a = b.args in (
       omega arith,
@@ -44,7 +44,7 @@ loop-i-smaller-then-k-eq0 c = omega arith
 
 pub loop-i-preserved-then-k-eq0 : goal.loop-i-preserved-then-k-eq0
 loop-i-preserved-then-k-eq0 c =
-    let b = c.before.before in
+    let b = c.before.before.before in
     let l = b.loop-i in
     let a = b.args in (
       omega arith,
@@ -68,7 +68,7 @@ overflow_cast-k c = widens (c.shared_slice_known-in-loop-i-3-1.given _)
 
 pub loop-i-smaller : goal.loop-i-smaller
 loop-i-smaller c =
-    let b = c.before.before.before in
+    let b = c.before.before.before.before in
     let l = b.loop-i in
     let a = b.args in
     let r = border_at (folded a.p_mark a.p.now) a.borders.now (length a.p.now) l.k
@@ -77,7 +77,7 @@ loop-i-smaller c =
 
 pub loop-i-preserved : goal.loop-i-preserved
 loop-i-preserved c =
-    let b = c.before.before.before in
+    let b = c.before.before.before.before in
     let l = b.loop-i in
     let start = b.before.before.before.before.before.before.before.before.before in
     let a = start.args in

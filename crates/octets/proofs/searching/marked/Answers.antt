@@ -25,7 +25,7 @@ loop-i-init c = (omega arith, refl)
 
 pub loop-i-preserved-then-s-i : goal.loop-i-preserved-then-s-i
 loop-i-preserved-then-s-i c =
-    let b = c.before in
+    let b = c.before.before in
     let o = b.before.before in
     let l = o.loop-i in
     let a = o.args in
@@ -37,7 +37,7 @@ loop-i-preserved-then-s-i c =
 
 pub agreed-j-requires : goal.agreed-j-requires
 agreed-j-requires c =
-    let b = c.before in
+    let b = c.before.before in
     let o = b.before.before in
     let l = o.loop-i in
     let a = o.args in
@@ -49,7 +49,7 @@ agreed-j-requires c =
 
 pub returns-then-j-p : goal.returns-then-j-p
 returns-then-j-p c =
-    let b = c.before.before.before in
+    let b = c.before.before.before.before in
     let o = b.before.before in
     let l = o.loop-i in
     let a = o.args in
@@ -58,7 +58,7 @@ returns-then-j-p c =
 
 pub by_borders-requires : goal.by_borders-requires
 by_borders-requires c =
-    let b = c.before.before.before.before.before.before.before in
+    let b = c.before.before.before.before.before.before.before.before in
     let o = b.before.before in
     let l = o.loop-i in
     let a = o.args in
@@ -67,7 +67,7 @@ by_borders-requires c =
 
 pub returns-then-credit-p : goal.returns-then-credit-p
 returns-then-credit-p c =
-    let b = c.before.before.before.before.before.before.before.before in
+    let b = c.before.before.before.before.before.before.before.before.before in
     let o = b.before.before in
     let l = o.loop-i in
     let a = o.args in
@@ -75,7 +75,7 @@ returns-then-credit-p c =
 
 pub loop-i-preserved : goal.loop-i-preserved
 loop-i-preserved c =
-    let b = c.before.before.before.before.before in
+    let b = c.before.before.before.before.before.before in
     let o = b.before.before in
     let l = o.loop-i in
     let a = o.args in (

@@ -24,7 +24,7 @@ loop-i-init c = (omega arith, refl)
 
 pub loop-i-preserved-then-s-i : goal.loop-i-preserved-then-s-i
 loop-i-preserved-then-s-i c =
-    let b = c.before in
+    let b = c.before.before in
     let o = b.before.before in
     let l = o.loop-i in
     let a = o.args in (
@@ -35,7 +35,7 @@ loop-i-preserved-then-s-i c =
 
 pub agreed-j-requires : goal.agreed-j-requires
 agreed-j-requires c =
-    let b = c.before in
+    let b = c.before.before in
     let o = b.before.before in
     let l = o.loop-i in
     let a = o.args in (
@@ -46,7 +46,7 @@ agreed-j-requires c =
 
 pub returns-then-j-p : goal.returns-then-j-p
 returns-then-j-p c =
-    let b = c.before.before.before in
+    let b = c.before.before.before.before in
     let o = b.before.before in
     let l = o.loop-i in
     let a = o.args in
@@ -55,7 +55,7 @@ returns-then-j-p c =
 
 pub by_borders-requires : goal.by_borders-requires
 by_borders-requires c =
-    let b = c.before.before.before.before.before.before.before in
+    let b = c.before.before.before.before.before.before.before.before in
     let o = b.before.before in
     let l = o.loop-i in
     let a = o.args in
@@ -64,7 +64,7 @@ by_borders-requires c =
 
 pub returns-then-credit-p : goal.returns-then-credit-p
 returns-then-credit-p c =
-    let b = c.before.before.before.before.before.before.before.before in
+    let b = c.before.before.before.before.before.before.before.before.before in
     let o = b.before.before in
     let l = o.loop-i in
     let a = o.args in
@@ -72,7 +72,7 @@ returns-then-credit-p c =
 
 pub loop-i-preserved : goal.loop-i-preserved
 loop-i-preserved c =
-    let b = c.before.before.before.before.before in
+    let b = c.before.before.before.before.before.before in
     let o = b.before.before in
     let l = o.loop-i in
     let a = o.args in (

@@ -31,7 +31,7 @@ loop-i-smaller-then-fold c = omega arith
 
 pub loop-i-preserved-then-fold : goal.loop-i-preserved-then-fold
 loop-i-preserved-then-fold c =
-    let b = c.before in
+    let b = c.before.before in
     let l = b.loop-i in
     let a = b.args in
     let t = folded a.p_mark a.p.now in
@@ -56,7 +56,7 @@ loop-i-smaller-then-k-eq0 c = omega arith
 
 pub loop-i-preserved-then-k-eq0 : goal.loop-i-preserved-then-k-eq0
 loop-i-preserved-then-k-eq0 c =
-    let b = c.before.before in
+    let b = c.before.before.before in
     let l = b.loop-i in
     let a = b.args in
     let t = folded a.p_mark a.p.now in
@@ -81,7 +81,7 @@ overflow_cast-k c = widens (c.slice_known-in-loop-i-1.given _)
 
 pub loop-i-smaller : goal.loop-i-smaller
 loop-i-smaller c =
-    let b = c.before.before.before in
+    let b = c.before.before.before.before in
     let l = b.loop-i in
     let a = b.args in
     let r = border_at (folded a.p_mark a.p.now) l.out l.i l.k l.invariant.2 (omega arith) (omega (arith, l.invariant.3.fits)) in
@@ -89,7 +89,7 @@ loop-i-smaller c =
 
 pub loop-i-preserved : goal.loop-i-preserved
 loop-i-preserved c =
-    let b = c.before.before.before in
+    let b = c.before.before.before.before in
     let l = b.loop-i in
     let a = b.args in
     let r = border_at (folded a.p_mark a.p.now) l.out l.i l.k l.invariant.2 (omega arith) (omega (arith, l.invariant.3.fits)) in (

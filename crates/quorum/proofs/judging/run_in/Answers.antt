@@ -29,7 +29,7 @@ slice_bounds-run_by-end c =
 
 pub run_by-requires : goal.run_by-requires
 run_by-requires c =
-    let s = c.before.before.before.before.before in
+    let s = c.before.before.before.before.before.before in
     (rw c.size_of-size.ensures (holding s.args.buffer.now s.requires.0).table, s.requires.1)
 
 pub returns : goal.returns

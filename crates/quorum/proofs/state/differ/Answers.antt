@@ -18,7 +18,7 @@ overflow_add-i c = omega (arith, c.loop-i.invariant.0, c.requires.few)
 
 pub value-requires : goal.value-requires
 value-requires c =
-    let s = c.before.before.before in
+    let s = c.before.before.before.before in
     let z = size_at_lem s.args.buffer.now s.requires c.loop-i.i (omega arith) in
     (s.requires.long, omega (arith, s.requires.few), z.1)
 

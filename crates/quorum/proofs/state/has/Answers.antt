@@ -14,7 +14,7 @@ loop-i-init c = (omega arith, omega (arith, c.requires.1), refl)
 
 pub value-requires : goal.value-requires
 value-requires c =
-    let s = c.before.before.before.before in
+    let s = c.before.before.before.before.before in
     let z = size_at_lem s.args.buffer.now s.requires.0 c.loop-i.i (omega arith) in
     (s.requires.0.long, omega (arith, s.requires.0.few), z.1)
 

@@ -7,5 +7,5 @@ use Rattle.translator.proofs.entry.put_entry.Goals as goal
 
 pub returns : goal.returns
 returns c =
-    let s = c.before.before.before.before.before.before.before.before.before.before.before.before.before in
+    let s = c.before.before.before.before.before.before.before.before.before.before.before.before.before.before in
     entry_written s.args.part.now c.write_u16.new.0 c.write_u16-2.new.0 c.write_u64.new.0 s.args.e s.requires c.write_u16.ensures c.write_u16-2.ensures c.write_u64.ensures

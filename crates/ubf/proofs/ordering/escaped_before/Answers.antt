@@ -10,23 +10,25 @@ use Rattle.octets.proofs.Theorems.{and_parts}
 use Rattle.ubf.specs.Escape.{bytes_in, byte_place}
 use Rattle.ubf.specs.Span.{name_in, PartIn}
 use Rattle.ubf.proofs.Names.{nonzero, ByteOf, byte_of, part_starts, first_differ, first_same, one_ended, ended}
-use Rattle.ubf.proofs.ordering.escaped_before.Goals.{After-byte_place-l, In-loop-left}
+use Rattle.ubf.proofs.ordering.escaped_before.Lts as lts
+use Rattle.ubf.proofs.ordering.escaped_before.Tie as tie
+use Rattle.ubf.proofs.ordering.escaped_before.Reads as reads
 use Rattle.ubf.proofs.ordering.escaped_before.Goals as goal
 
 -- both have a byte left
-more : (c : In-loop-left) → (0 < c.loop-left.left) × (0 < c.loop-left.other)
+more : (c : lts.In-loop tie.the-claims reads.Pre reads.Post goal.the-invariant-loop-left goal.the-decreases-loop-left) → (0 < c.loop-left.left) × (0 < c.loop-left.other)
 more c =
     let t = and_parts (ltb 0 c.loop-left.left) (ltb 0 c.loop-left.other) c.loop-left-test.true in
     (ltb-true 0 c.loop-left.left t.0, ltb-true 0 c.loop-left.other t.1)
 
-own : (c : After-byte_place-l) → ByteOf c.args.text.now c.loop-left.i c.loop-left.left (ltb 0 c.args.s.nameescapes) c.byte_place-k.result
+own : (c : lts.After-byte_place2 tie.the-claims reads.Pre reads.Post goal.the-invariant-loop-left goal.the-decreases-loop-left) → ByteOf c.args.text.now c.loop-left.i c.loop-left.left (ltb 0 c.args.s.nameescapes) c.byte_place-k.result
 own c =
     let a = c.args in
     let l = c.loop-left in
     byte_of a.text.now l.i l.left (ltb 0 a.s.nameescapes) c.byte_place-k.result (more c.before.before.before.before).0
     (c.byte_place-k.ensures ∙ ap (byte_place a.text.now l.i) (nonzero a.s.nameescapes)) l.invariant.0
 
-others : (c : After-byte_place-l) → ByteOf c.args.text.now c.loop-left.j c.loop-left.other (ltb 0 c.args.t.nameescapes) c.byte_place-l.result
+others : (c : lts.After-byte_place2 tie.the-claims reads.Pre reads.Post goal.the-invariant-loop-left goal.the-decreases-loop-left) → ByteOf c.args.text.now c.loop-left.j c.loop-left.other (ltb 0 c.args.t.nameescapes) c.byte_place-l.result
 others c =
     let a = c.args in
     let l = c.loop-left in
@@ -39,24 +41,24 @@ loop-left-init c = (c.requires.0.named, c.requires.1.named, refl)
 pub byte_place-k-requires : goal.byte_place-k-requires
 byte_place-k-requires c =
     let l = c.loop-left in
-    part_starts c.args.text.now l.i l.left (ltb 0 c.args.s.nameescapes) (more c.before).0 l.invariant.0
+    part_starts c.args.text.now l.i l.left (ltb 0 c.args.s.nameescapes) (more c.before.before).0 l.invariant.0
 
 pub byte_place-l-requires : goal.byte_place-l-requires
 byte_place-l-requires c =
     let l = c.loop-left in
-    part_starts c.args.text.now l.j l.other (ltb 0 c.args.t.nameescapes) (more c.before.before.before).1 l.invariant.1
+    part_starts c.args.text.now l.j l.other (ltb 0 c.args.t.nameescapes) (more c.before.before.before.before).1 l.invariant.1
 
 pub bounds-text-k : goal.bounds-text-k
-bounds-text-k c = (own c.before).inside
+bounds-text-k c = (own c.before.before).inside
 
 pub bounds-text-l : goal.bounds-text-l
-bounds-text-l c = (others c.before.before).inside
+bounds-text-l c = (others c.before.before.before).inside
 
 pub bounds-text-k-then-text-k : goal.bounds-text-k-then-text-k
-bounds-text-k-then-text-k c = (own c.before.before.before.before).inside
+bounds-text-k-then-text-k c = (own c.before.before.before.before.before).inside
 
 pub bounds-text-l-then-text-k : goal.bounds-text-l-then-text-k
-bounds-text-l-then-text-k c = (others c.before.before.before.before.before).inside
+bounds-text-l-then-text-k c = (others c.before.before.before.before.before.before).inside
 
 pub returns-then-text-k : goal.returns-then-text-k
 returns-then-text-k c =
@@ -65,24 +67,24 @@ returns-then-text-k c =
     let i = c.loop-left in
     let k = c.byte_place-k.result in
     let l = c.byte_place-l.result in
-    let s = own c.before.before.before.before.before in
-    let t = others c.before.before.before.before.before in
+    let s = own c.before.before.before.before.before.before in
+    let t = others c.before.before.before.before.before.before in
     first_differ (get_or text k 0) (get_or text l 0) (bytes_in text (k + 1) (i.left - 1) (ltb 0 a.s.nameescapes)) (bytes_in text (l + 1) (i.other - 1) (ltb 0 a.t.nameescapes)) c.if-text-k.true ∙ (ap₂ before_of (sym s.first) (sym t.first) ∙ c.loop-left.invariant.2)
 
 pub overflow_add-i : goal.overflow_add-i
-overflow_add-i c = omega (arith, (own c.before.before.before).inside)
+overflow_add-i c = omega (arith, (own c.before.before.before.before).inside)
 
 pub overflow_sub-left : goal.overflow_sub-left
-overflow_sub-left c = omega (arith, (more c.before.before.before.before.before.before.before).0)
+overflow_sub-left c = omega (arith, (more c.before.before.before.before.before.before.before.before).0)
 
 pub overflow_add-j : goal.overflow_add-j
-overflow_add-j c = omega (arith, (others c.before.before.before).inside)
+overflow_add-j c = omega (arith, (others c.before.before.before.before).inside)
 
 pub overflow_sub-other : goal.overflow_sub-other
-overflow_sub-other c = omega (arith, (more c.before.before.before.before.before.before.before).1)
+overflow_sub-other c = omega (arith, (more c.before.before.before.before.before.before.before.before).1)
 
 pub loop-left-smaller : goal.loop-left-smaller
-loop-left-smaller c = omega (arith, (more c.before.before.before.before.before.before.before).0)
+loop-left-smaller c = omega (arith, (more c.before.before.before.before.before.before.before.before).0)
 
 pub loop-left-preserved : goal.loop-left-preserved
 loop-left-preserved c =
@@ -91,8 +93,8 @@ loop-left-preserved c =
     let i = c.loop-left in
     let k = c.byte_place-k.result in
     let l = c.byte_place-l.result in
-    let s = own c.before.before.before in
-    let t = others c.before.before.before in
+    let s = own c.before.before.before.before in
+    let t = others c.before.before.before.before in
     (s.rest, t.rest, first_same (get_or text k 0) (get_or text l 0) (bytes_in text (k + 1) (i.left - 1) (ltb 0 a.s.nameescapes)) (bytes_in text (l + 1) (i.other - 1) (ltb 0 a.t.nameescapes)) c.if-text-k.false ∙ (ap₂ before_of (sym s.first) (sym t.first) ∙ c.loop-left.invariant.2))
 
 pub returns : goal.returns

@@ -6,10 +6,12 @@ use Rattle.ubf.proofs.Names.{same_neither, Plain, plain_names}
 use mathlib.Core.Bool.{Bool, not, ◌&&◌}
 use Rattle.ubf.specs.Span.{name_in}
 use borrow.Author.Rules.{rules}
-use Rattle.ubf.proofs.ordering.name_same.Goals.{Else-s-t}
+use Rattle.ubf.proofs.ordering.name_same.Lts as lts
+use Rattle.ubf.proofs.ordering.name_same.Tie as tie
+use Rattle.ubf.proofs.ordering.name_same.Reads as reads
 use Rattle.ubf.proofs.ordering.name_same.Goals as goal
 
-plain : (c : Else-s-t) → Plain c.args.text.now c.args.s × Plain c.args.text.now c.args.t
+plain : (c : lts.Else1 tie.the-claims reads.Pre reads.Post) → Plain c.args.text.now c.args.s × Plain c.args.text.now c.args.t
 plain c =
     let a = c.args in
     plain_names a.text.now a.s a.t c.requires.0 c.requires.1 c.if-s-t.false
@@ -20,17 +22,17 @@ returns-then-s-t c =
     ap₂ (λ (x y : Bool). not x && not y) c.name_before.ensures c.name_before-then-s-t.ensures ∙ same_neither (name_in a.text.now a.s) (name_in a.text.now a.t)
 
 pub overflow_add-j : goal.overflow_add-j
-overflow_add-j c = let p = plain c.before in omega (arith, p.0.fits)
+overflow_add-j c = let p = plain c.before.before in omega (arith, p.0.fits)
 
 pub overflow_add-l : goal.overflow_add-l
-overflow_add-l c = let p = plain c.before.before in omega (arith, p.1.fits)
+overflow_add-l c = let p = plain c.before.before.before in omega (arith, p.1.fits)
 
 pub slice_bounds-same-end : goal.slice_bounds-same-end
-slice_bounds-same-end c = let p = plain c.before.before in omega (arith, p.0.fits)
+slice_bounds-same-end c = let p = plain c.before.before.before in omega (arith, p.0.fits)
 
 pub slice_bounds-same-end-2 : goal.slice_bounds-same-end-2
-slice_bounds-same-end-2 c = let p = plain c.before.before.before in omega (arith, p.1.fits)
+slice_bounds-same-end-2 c = let p = plain c.before.before.before.before in omega (arith, p.1.fits)
 
 pub returns : goal.returns
 returns c =
-    let p = plain c.before.before.before.before.before in c.same.ensures ∙ ap₂ same_of p.0.bytes p.1.bytes
+    let p = plain c.before.before.before.before.before.before in c.same.ensures ∙ ap₂ same_of p.0.bytes p.1.bytes

@@ -6,14 +6,16 @@ use lib.ListN.{drop}
 use Rattle.notice.specs.Write.{place_among}
 use Rattle.ubf.specs.Span.{name_in, SpanIn, row_fields}
 use Rattle.ubf.proofs.Arranged.{RowAt, row_at, not_after, after, place_within}
-use Rattle.ubf.proofs.ordering.place_for.Goals.{In-loop-low, Then-first-lt64}
+use Rattle.ubf.proofs.ordering.place_for.Lts as lts
+use Rattle.ubf.proofs.ordering.place_for.Tie as tie
+use Rattle.ubf.proofs.ordering.place_for.Reads as reads
 use Rattle.ubf.proofs.ordering.place_for.Goals as goal
 
 -- the row at the first place of the order, and the one in the middle
-front : (c : Then-first-lt64) → RowAt c.args.text.now c.args.rows.now c.args.order.now c.args.first c.args.first
+front : (c : lts.Then1 tie.the-claims reads.Pre reads.Post goal.the-invariant-loop-low goal.the-decreases-loop-low) → RowAt c.args.text.now c.args.rows.now c.args.order.now c.args.first c.args.first
 front c = let a = c.args in row_at a.text.now a.rows.now a.order.now a.first c.requires.1 a.first (omega arith) (omega (arith, c.if-first-lt64.true))
 
-middle : (c : In-loop-low)
+middle : (c : lts.In-loop tie.the-claims reads.Pre reads.Post goal.the-invariant-loop-low goal.the-decreases-loop-low)
     → RowAt c.args.text.now c.args.rows.now c.args.order.now c.args.first (c.loop-low.low + (c.loop-low.high - c.loop-low.low) / 2)
 middle c =
     let a = c.args in
@@ -24,13 +26,14 @@ pub bounds-order-first : goal.bounds-order-first
 bounds-order-first c = omega (arith, c.requires.1.order_long)
 
 pub overflow_cast-order : goal.overflow_cast-order
-overflow_cast-order c = omega (arith, (front c.before).small)
+overflow_cast-order c = omega (arith, (front c.before.before).small)
 
 pub span_at-requires : goal.span_at-requires
-span_at-requires c = (front c.before).near
+span_at-requires c = (front c.before.before).near
 
 pub name_before-requires : goal.name_before-requires
-name_before-requires c = (c.requires.0, subst (SpanIn c.args.text.now) (sym c.span_at.ensures) (front c.before.before).lies)
+name_before-requires c =
+    (c.requires.0, subst (SpanIn c.args.text.now) (sym c.span_at.ensures) (front c.before.before.before).lies)
 
 pub returns-then-name_before : goal.returns-then-name_before
 returns-then-name_before c =
@@ -55,14 +58,14 @@ pub bounds-order-middle : goal.bounds-order-middle
 bounds-order-middle c = omega (arith, c.requires.1.order_long, c.loop-low.invariant)
 
 pub overflow_cast-order-in-loop-low : goal.overflow_cast-order-in-loop-low
-overflow_cast-order-in-loop-low c = omega (arith, (middle c.before).small)
+overflow_cast-order-in-loop-low c = omega (arith, (middle c.before.before).small)
 
 pub span_at-requires-in-loop-low : goal.span_at-requires-in-loop-low
-span_at-requires-in-loop-low c = (middle c.before).near
+span_at-requires-in-loop-low c = (middle c.before.before).near
 
 pub name_before-requires-in-loop-low : goal.name_before-requires-in-loop-low
 name_before-requires-in-loop-low c =
-    (c.requires.0, subst (SpanIn c.args.text.now) (sym c.span_at-in-loop-low.ensures) (middle c.before.before).lies)
+    (c.requires.0, subst (SpanIn c.args.text.now) (sym c.span_at-in-loop-low.ensures) (middle c.before.before.before).lies)
 
 pub loop-low-smaller-then-name_before-2 : goal.loop-low-smaller-then-name_before-2
 loop-low-smaller-then-name_before-2 c = omega (arith, c.loop-low.invariant, c.loop-low-test.true)

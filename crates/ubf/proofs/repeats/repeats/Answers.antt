@@ -5,10 +5,12 @@ use borrow.Author.Tests.{not-true, not-false}
 use lib.ListN.{length}
 use Rattle.ubf.specs.Span.{FieldFound}
 use Rattle.ubf.proofs.Within.{name_comes, field_comes, within_next, Passed, brace_comes, passed_none, passed_more, passed_repeated, passed_all}
-use Rattle.ubf.proofs.repeats.repeats.Goals.{After-field_at-s}
+use Rattle.ubf.proofs.repeats.repeats.Lts as lts
+use Rattle.ubf.proofs.repeats.repeats.Tie as tie
+use Rattle.ubf.proofs.repeats.repeats.Reads as reads
 use Rattle.ubf.proofs.repeats.repeats.Goals as goal
 
-field : (c : After-field_at-s) → FieldFound c.args.text.now c.loop-s.i c.field_at-s.result
+field : (c : lts.After-field_at tie.the-claims reads.Pre reads.Post goal.the-invariant-loop-s goal.the-decreases-loop-s) → FieldFound c.args.text.now c.loop-s.i c.field_at-s.result
 field c = field_comes c.args.text.now c.loop-s.i c.loop-s.invariant.within c.field_at-s.result c.field_at-s.ensures
 
 pub blanks-requires : goal.blanks-requires
@@ -35,18 +37,18 @@ field_at-s-requires c =
 
 pub among-requires : goal.among-requires
 among-requires c =
-    (within_next c.args.text.now c.loop-s.i c.loop-s.invariant.within c.field_at-s.result (field c), (field c).lies)
+    (within_next c.args.text.now c.loop-s.i c.loop-s.invariant.within c.field_at-s.result (field c.before), (field c.before).lies)
 
 pub returns-then-among : goal.returns-then-among
 returns-then-among c =
-    passed_repeated c.args.text.now c.loop-s.i c.loop-s.invariant c.field_at-s.result (field c.before.before) c.among.result c.among.ensures c.if-among.true
+    passed_repeated c.args.text.now c.loop-s.i c.loop-s.invariant c.field_at-s.result (field c.before.before.before) c.among.result c.among.ensures c.if-among.true
 
 pub loop-s-smaller : goal.loop-s-smaller
-loop-s-smaller c = let f = field c.before.before in omega (arith, f.later, f.near)
+loop-s-smaller c = let f = field c.before.before.before in omega (arith, f.later, f.near)
 
 pub loop-s-preserved : goal.loop-s-preserved
 loop-s-preserved c =
-    passed_more c.args.text.now c.loop-s.i c.loop-s.invariant c.field_at-s.result (field c.before.before) c.among.result c.among.ensures c.if-among.false
+    passed_more c.args.text.now c.loop-s.i c.loop-s.invariant c.field_at-s.result (field c.before.before.before) c.among.result c.among.ensures c.if-among.false
 
 pub returns : goal.returns
 returns c =

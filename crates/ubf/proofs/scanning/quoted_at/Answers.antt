@@ -29,7 +29,7 @@ overflow_add-i-in-loop-i c = omega (arith, c.loop-i.invariant.near)
 pub loop-i-preserved : goal.loop-i-preserved
 loop-i-preserved c =
     let l = c.loop-i in
-    let s = c.before.before.before.before.before.before.before.before in
+    let s = c.before.before.before.before.before.before.before.before.before in
     let a = s.args in
     opens_two a.text.now a.at a.q l.i l.escapes l.invariant s.requires.1 (omega arith) c.if-b-ne92.false (sym c.escape_right.ensures ∙ not-false _ c.if-not-escape_right.false)
 
@@ -42,6 +42,6 @@ returns-after-loop-i c =
 pub returns-then-not-escape_right : goal.returns-then-not-escape_right
 returns-then-not-escape_right c =
     let l = c.loop-i in
-    let s = c.before.before.before.before.before.before.before.before in
+    let s = c.before.before.before.before.before.before.before.before.before in
     let a = s.args in
     opens_wrong a.text.now a.at a.q l.i l.escapes l.invariant s.requires.1 (omega arith) c.if-b-ne92.false (sym c.escape_right.ensures ∙ not-true _ c.if-not-escape_right.true)

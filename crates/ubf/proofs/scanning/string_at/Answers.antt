@@ -7,11 +7,13 @@ use lib.ListN.{length, get_or}
 use Rattle.ubf.proofs.Scans.{Opens, opens_none, opens_to, opens_two, opens_close, opens_cut, opens_wrong, stop_backslash}
 use Rattle.ubf.proofs.scanning.escape_right.Reads as escape-right-reads
 use Rattle.ubf.proofs.words.plain_to.Reads as plain-to-reads
-use Rattle.ubf.proofs.scanning.string_at.Goals.{Else-not-escape_right}
+use Rattle.ubf.proofs.scanning.string_at.Lts as lts
+use Rattle.ubf.proofs.scanning.string_at.Tie as tie
+use Rattle.ubf.proofs.scanning.string_at.Reads as reads
 use Rattle.ubf.proofs.scanning.string_at.Goals as goal
 
 -- after an escape
-next : (c : Else-not-escape_right) → Opens c.args.text.now c.args.at 34 (c.plain_to-end.result + 2) (c.loop-i.escapes + 1)
+next : (c : lts.Else3 tie.the-claims reads.Pre reads.Post goal.the-invariant-loop-i goal.the-decreases-loop-i) → Opens c.args.text.now c.args.at 34 (c.plain_to-end.result + 2) (c.loop-i.escapes + 1)
 next c =
     let text = c.args.text.now in
     let at = c.args.at in
@@ -45,16 +47,16 @@ pub escape_right-requires : goal.escape_right-requires
 escape_right-requires c = omega (arith, c.plain_to-end.ensures.near, c.if-end-text.false)
 
 pub overflow_add-i : goal.overflow_add-i
-overflow_add-i c = let n = next c in omega (arith, n.near)
+overflow_add-i c = let n = next c.before in omega (arith, n.near)
 
 pub overflow_add-escapes : goal.overflow_add-escapes
-overflow_add-escapes c = let n = next c in omega (arith, n.near, n.count_is)
+overflow_add-escapes c = let n = next c.before in omega (arith, n.near, n.count_is)
 
 pub loop-i-smaller : goal.loop-i-smaller
-loop-i-smaller c = let n = next c in omega (arith, n.near, c.plain_to-end.ensures.after)
+loop-i-smaller c = let n = next c.before in omega (arith, n.near, c.plain_to-end.ensures.after)
 
 pub loop-i-preserved : goal.loop-i-preserved
-loop-i-preserved c = next c
+loop-i-preserved c = next c.before
 
 pub returns-after-loop-i : goal.returns-after-loop-i
 returns-after-loop-i c =

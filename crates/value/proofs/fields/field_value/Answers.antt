@@ -10,46 +10,48 @@ use Rattle.octets.proofs.Theorems.{not_folded}
 use Rattle.value.specs.Value.{int32, int64, real, text}
 use Rattle.value.proofs.FieldValues.{word_part}
 use borrow.Author.Rules.{rules}
-use Rattle.value.proofs.fields.field_value.Goals.{After-shared_slice_known-1, In-1, In-2, In-3}
+use Rattle.value.proofs.fields.field_value.Lts as lts
+use Rattle.value.proofs.fields.field_value.Tie as tie
+use Rattle.value.proofs.fields.field_value.Reads as reads
 use Rattle.value.proofs.fields.field_value.Goals as goal
 
 -- the notice's bytes, and the sizes of numbers
-bytes : (c : After-shared_slice_known-1) → Bytes c.args.notice.now
+bytes : (c : lts.After-shared_slice_known tie.the-claims reads.Pre reads.Post) → Bytes c.args.notice.now
 bytes c i = (c.shared_slice_known-1.given i).fits
 
-four : (c : In-1) → c.args.len ≡ 4
+four : (c : lts.At-match-keys1 tie.the-claims reads.Pre reads.Post) → c.args.len ≡ 4
 four c = eqb-true c.args.len 4 (rw c.in_default.keys1 at c.requires.0)
 
-eight : (c : In-2) → c.args.len ≡ 8
+eight : (c : lts.At-match-keys2 tie.the-claims reads.Pre reads.Post) → c.args.len ≡ 8
 eight c = eqb-true c.args.len 8 (rw c.in_default.keys2 at c.requires.0)
 
-eight_real : (c : In-3) → c.args.len ≡ 8
+eight_real : (c : lts.At-match-keys3 tie.the-claims reads.Pre reads.Post) → c.args.len ≡ 8
 eight_real c = eqb-true c.args.len 8 (rw c.in_default.keys3 at c.requires.0)
 
 pub read_u32-requires : goal.read_u32-requires
-read_u32-requires c = let l = four c in let p = c.requires.1 in omega arith
+read_u32-requires c = let l = four c.before in let p = c.requires.1 in omega arith
 
 pub read_u64-requires : goal.read_u64-requires
-read_u64-requires c = let l = eight c in let p = c.requires.1 in omega arith
+read_u64-requires c = let l = eight c.before in let p = c.requires.1 in omega arith
 
 pub read_u64-requires-in-3 : goal.read_u64-requires-in-3
-read_u64-requires-in-3 c = let l = eight_real c in let p = c.requires.1 in omega arith
+read_u64-requires-in-3 c = let l = eight_real c.before in let p = c.requires.1 in omega arith
 
 pub returns-in-1 : goal.returns-in-1
 returns-in-1 c =
-    let m = c.before.before in let a = m.args in
+    let m = c.before.before.before in let a = m.args in
     let w = word_part 4 a.start a.len a.notice.now (bytes m.before) (four m) m.requires.1 in
     λ p. rw m.in_default.keys1 (ap int32 (to_z-of_z w32 c.i32_of_bits.result (record { sfits = c.i32_of_bits.type_inv }) ∙ c.i32_of_bits.ensures ∙ ap (to_z w32) (c.read_u32.ensures ∙ w)))
 
 pub returns-in-2 : goal.returns-in-2
 returns-in-2 c =
-    let m = c.before.before in let a = m.args in
+    let m = c.before.before.before in let a = m.args in
     let w = word_part 8 a.start a.len a.notice.now (bytes m.before) (eight m) m.requires.1 in
     λ p. rw m.in_default.keys2 (ap int64 (to_z-of_z w64 c.i64_of_bits.result (record { sfits = c.i64_of_bits.type_inv }) ∙ c.i64_of_bits.ensures ∙ ap (to_z w64) (c.read_u64.ensures ∙ w)))
 
 pub returns-in-3 : goal.returns-in-3
 returns-in-3 c =
-    let m = c.before.before in let a = m.args in
+    let m = c.before.before.before in let a = m.args in
     let w = word_part 8 a.start a.len a.notice.now (bytes m.before) (eight_real m) m.requires.1 in
     λ p. rw m.in_default.keys3 (ap real (c.real_of_bits.ensures ∙ ap (of_bits binary64) (c.read_u64-in-3.ensures ∙ w)))
 
