@@ -114,5 +114,5 @@ notice_after s list notice = cond (eqb (refusal_of s (length list) (length notic
 
 -- what mending answers, and the bytes of both lent buffers with it
 abbrev pub MendIs : List ℕ → List ℕ → List ℕ → Mended → List ℕ → List ℕ → Type 0
-MendIs s list notice answer list_after_lem notice_after_lem =
-    (answer ≡ mended_of s (length list) (length notice)) × (list_after_lem ≡ list_after s list notice) × (notice_after_lem ≡ notice_after s list notice)
+MendIs s list notice answer after_list after_notice =
+    (answer ≡ mended_of s (length list) (length notice)) × (after_list ≡ list_after s list notice) × (after_notice ≡ notice_after s list notice)

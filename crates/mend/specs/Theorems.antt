@@ -12,9 +12,9 @@ use Rattle.mend.specs.Mend.{Entry, cut_at, stays, list_of, kept_in, notice_of, l
 -- A call of `mend(s, list, notice)`: what it answers, both lent buffers after it, and its promise.
 pub record MendCall (s list notice : List ℕ) : Type 0 where
   pub answer : Mended
-  pub list_after_lem : List ℕ
-  pub notice_after_lem : List ℕ
-  pub promise : MendIs s list notice answer list_after_lem notice_after_lem
+  pub after_list : List ℕ
+  pub after_notice : List ℕ
+  pub promise : MendIs s list notice answer after_list after_notice
 
 -- the notice that a call leaves, of the length that it answers
 abbrev pub result_of : {s list notice : List ℕ} → MendCall s list notice → List ℕ

@@ -131,7 +131,7 @@ module _ (s : List ℕ) (bytes : Bytes s) (k : ℕ) where
     number_is = sym r;
     place_is = sym q;
     kind_is = ap (λ (x : Field). x.kind) (sym f);
-    name_is_lem = sym (is_part_lem s 0 0 (omega arith) (omega arith)) ∙ ap (λ (x : Field). x.name) (sym f);
+    name_is = sym (is_part_lem s 0 0 (omega arith) (omega arith)) ∙ ap (λ (x : Field). x.name) (sym f);
     value_is = sym (is_part_lem s 0 0 (omega arith) (omega arith)) ∙ ap (λ (x : Field). x.value) (sym f);
   })
 
@@ -146,7 +146,7 @@ module _ (s : List ℕ) (bytes : Bytes s) (k : ℕ) where
         number_is = sym r;
         place_is = sym q;
         kind_is = ap (λ (x : Field). x.kind) (sym f);
-        name_is_lem = sym (is_part_lem s (at + 5) (value_start s at) (omega arith) (omega arith)) ∙ (ap (λ (j : ℕ). take j (drop (at + 5) s)) n ∙ ap (λ (x : Field). x.name) (sym f));
+        name_is = sym (is_part_lem s (at + 5) (value_start s at) (omega arith) (omega arith)) ∙ (ap (λ (j : ℕ). take j (drop (at + 5) s)) n ∙ ap (λ (x : Field). x.name) (sym f));
         value_is = sym (is_part_lem s (value_start s at) (next_at s at) (omega arith) (omega arith)) ∙ (ap (λ (j : ℕ). take j (drop (value_start s at) s)) m ∙ ap (λ (x : Field). x.value) (sym f));
       })
 

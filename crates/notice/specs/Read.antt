@@ -45,7 +45,7 @@ pub record Located (s : List ℕ) (k : ℕ) (p : Place) : Type 0 where
   pub number_is : p.number ≡ read_number s k
   pub place_is : p.place ≡ read_place s
   pub kind_is : p.kind ≡ (read_field s k).kind
-  pub name_is_lem : part_of s p.name p.value ≡ (read_field s k).name
+  pub name_is : part_of s p.name p.value ≡ (read_field s k).name
   pub value_is : part_of s p.value p.end ≡ (read_field s k).value
 
 -- what reading field k answers
@@ -53,5 +53,5 @@ pub record ReadIs (s : List ℕ) (k number place kind : ℕ) (name value : List 
   pub number_is : number ≡ read_number s k
   pub place_is : place ≡ read_place s
   pub kind_is : kind ≡ (read_field s k).kind
-  pub name_is_lem : name ≡ (read_field s k).name
+  pub name_is : name ≡ (read_field s k).name
   pub value_is : value ≡ (read_field s k).value

@@ -12,7 +12,7 @@ use Rattle.octets.proofs.Theorems.{and_parts, or_parts}
 use Rattle.automaton.proofs.Marks.{or_left, or_right}
 use Rattle.regexp.specs.Language.{Atom, Mark, Tree, Anchored}
 use Rattle.regexp.specs.Grammar.{byte_of, Piece, single, grouped, marked, Branch, last as last-piece, then, Alternatives, only, either, Body, nothing, something, Edge, free, bound, Pattern, final, further}
-use Rattle.regexp.specs.Causes.{Symbol, atom, mark, opening, closing, bar, hat, dollar, SymbolText, atom_text, mark_text, opening_text, closing_text, bar_text, hat_text, dollar_text, Symbols, end, next, Place, front, after, Begins, first, after_opening, after_bar, Ends, last, before_closing, before_bar, depth, Cause, empty_branch, mark_first, mark_after_hat, mark_after_opening, mark_after_bar, unopened, unclosed, hat_elsewhere, dollar_elsewhere, too_deep_lem}
+use Rattle.regexp.specs.Causes.{Symbol, atom, mark, opening, closing, bar, hat, dollar, SymbolText, atom_text, mark_text, opening_text, closing_text, bar_text, hat_text, dollar_text, Symbols, end, next, Place, front, after, Begins, first, after_opening, after_bar, Ends, last, before_closing, before_bar, depth, Cause, empty_branch, mark_first, mark_after_hat, mark_after_opening, mark_after_bar, unopened, unclosed, hat_elsewhere, dollar_elsewhere, too_deep}
 
 -- ---- a cause at a place
 
@@ -81,7 +81,7 @@ cause_wrong (unopened us vs e) = or_right (begun us) (eqb (depth us) 0) (rw e)
 cause_wrong (unclosed us h) = or_right (begun us) (ltb 0 (depth us)) (lt-ltb 0 (depth us) h)
 cause_wrong (hat_elsewhere x us vs) = refl
 cause_wrong (dollar_elsewhere us y vs) = refl
-cause_wrong (too_deep_lem us vs h) = le-leb 8 (depth us) h
+cause_wrong (too_deep us vs h) = le-leb 8 (depth us) h
 
 wrong_mark : (us : List Symbol) (m : Mark) (vs : List Symbol) → (begun us || hatted us) ≡ true → Cause us (mark m ∷ vs)
 wrong_mark [] m vs e = mark_first m vs
@@ -105,7 +105,7 @@ pub wrong_cause : (us vs : List Symbol) → wrong us vs ≡ true → Cause us vs
 wrong_cause us [] e = ⊎_elim (λ h. empty_branch us [] (begun_begins us h) last) (λ h. unclosed us (ltb-true 0 (depth us) h)) (or_parts (begun us) (ltb 0 (depth us)) e)
 wrong_cause us (atom a ∷ vs) e = false_true e
 wrong_cause us (mark m ∷ vs) e = wrong_mark us m vs e
-wrong_cause us (opening ∷ vs) e = too_deep_lem us vs (leb-true 8 (depth us) e)
+wrong_cause us (opening ∷ vs) e = too_deep us vs (leb-true 8 (depth us) e)
 wrong_cause us (closing ∷ vs) e =
     ⊎_elim (λ h. empty_branch us (closing ∷ vs) (begun_begins us h) (before_closing vs)) (λ h. unopened us vs (eqb-true (depth us) 0 h)) (or_parts (begun us) (eqb (depth us) 0) e)
 wrong_cause us (bar ∷ vs) e = empty_branch us (bar ∷ vs) (begun_begins us e) (before_bar vs)

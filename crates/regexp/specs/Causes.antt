@@ -89,7 +89,7 @@ pub data Cause : List Symbol → List Symbol → Type 0 where
   hat_elsewhere : (x : Symbol) (us vs : List Symbol) → Cause (x ∷ us) (hat ∷ vs)
   dollar_elsewhere : (us : List Symbol) (y : Symbol) (vs : List Symbol) → Cause us (dollar ∷ (y ∷ vs))
   -- "depth over 8"
-  too_deep_lem : (us vs : List Symbol) → 8 ≤ depth us → Cause us (opening ∷ vs)
+  too_deep : (us vs : List Symbol) → 8 ≤ depth us → Cause us (opening ∷ vs)
 
 -- ---- a text that has a cause
 pub data IllFormed (p : List ℕ) : Type 0 where

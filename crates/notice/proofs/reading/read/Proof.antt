@@ -132,7 +132,7 @@ module _ {M : Type 1} {𝓤 : Ura M} (𝓛 : Logic 𝓤) (mem : Memory → SProp
 
   read_is : (p : Place) (x y : Bor (List ℕ)) → Located s.now k p → x.now ≡ part_of s.now p.name p.value → y.now ≡ part_of s.now p.value p.end
       → ReadIs s.now k p.number p.place p.kind x.now y.now
-  read_is p x y l e₁ e₂ = record { number_is = l.number_is; place_is = l.place_is; kind_is = l.kind_is; name_is_lem = e₁ ∙ l.name_is; value_is = e₂ ∙ l.value_is }
+  read_is p x y l e₁ e₂ = record { number_is = l.number_is; place_is = l.place_is; kind_is = l.kind_is; name_is = e₁ ∙ l.name_is; value_is = e₂ ∙ l.value_is }
 
   exits : (p : Place) (x y : Bor (List ℕ)) → p.number < 2 ^ 8 → p.place < 2 ^ 64 → p.kind < 2 ^ 16 → ReadIs s.now k p.number p.place p.kind x.now y.now
       → ent 𝓤 (⋆ 𝓛 ((‵ (flft κ q) ⊛ ‵ ftrue) ∷ ‵ (Own s) ∷ ‵ (Own x) ∷ ‵ (Own y) ∷ [])) (Post (T'.lowered (answer p x y)))
