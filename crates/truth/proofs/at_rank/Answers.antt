@@ -3,4 +3,4 @@ use borrow.Author.Rules.{rules}
 use Rattle.truth.proofs.at_rank.Goals as goal
 
 pub returns-in_default : goal.returns-in_default
-returns-in_default c = past_bottom _ c.in_default.rest.0.0.1 c.in_default.rest.0.1
+returns-in_default c = past_bottom _ c.in_default.in_default-own.rest.0.0.1 c.in_default.in_default-own.rest.0.1

@@ -3,11 +3,5 @@ use mathlib.Core.Path.{sym}
 use Rattle.opcode.proofs.Grouped.{other_change}
 use Rattle.opcode.proofs.groups.change_of.Goals as goal
 
-pub returns-in-6 : goal.returns-in-6
-returns-in-6 c = rw c.in_default.keys1
-
-pub returns-in-7 : goal.returns-in-7
-returns-in-7 c = rw c.in_default.keys2
-
 pub returns-in_default : goal.returns-in_default
-returns-in_default c = sym (other_change c.args.number c.in_default.rest)
+returns-in_default c = sym (other_change c.args.number c.in_default.in_default-own.rest)
