@@ -34,6 +34,7 @@ step_items (b ∷ r) i k e = part_head b r i k e
 
 reads_items : (p : List ℕ) (is : List Item) → Reads p is → items_of p ≡ some is
 reads_items [] [] end = items_nil
+reads_items (_ ∷ _) [] r = elim r [ ]
 reads_items p (i ∷ is) (next {k} e r) = step_items p i k e ∙ ap (with_first i) (reads_items (drop (suc k) p) is r)
 
 -- what the computed items say
@@ -243,6 +244,7 @@ longer q r i k e =
 
 broken_items : (q r : List ℕ) (is : List Item) → Reads q is → Fault r → items_of (q ++ r) ≡ none
 broken_items [] r [] end f = fault_items r f
+broken_items (_ ∷ _) r [] d f = elim d [ ]
 broken_items q r (i ∷ is) (next {k} e s) f =
     let l = longer q r i k e in
     step_items (q ++ r) i k l.0

@@ -12,29 +12,29 @@ use Rattle.pattern.proofs.sets.piece_at.Goals as goal
 pub overflow_add-next : goal.overflow_add-next
 overflow_add-next c =
     let a = c.args in
-    let h = begins_inside a.p.now c.low-1.given.0.1.1.0 45 (sym c.begins.ensures ∙ c.if-begins.true) in record { fits = omega (arith, h) }
+    let h = begins_inside a.p.now c.in-Range.next 45 (sym c.begins.ensures ∙ c.if-begins.true) in record { fits = omega (arith, h) }
 
 pub returns-then-begins : goal.returns-then-begins
 returns-then-begins c =
     let a = c.args in
-    let g = c.low-1.given in
-    let e = sym g.1 ∙ c.member_at.ensures in
-    c.joined.ensures ∙ ap (joined_at g.0.0 g.0.1.1.0) c.member_at-then-begins.ensures
-    ∙ piece_joined a.mark a.p.now a.i g.0.0 g.0.1.0 g.0.1.1.0 e (sym c.begins.ensures ∙ c.if-begins.true)
+    let g = c.in-Range in
+    let e = sym g.is ∙ c.member_at.ensures in
+    c.joined.ensures ∙ ap (joined_at g.low g.next) c.member_at-then-begins.ensures
+    ∙ piece_joined a.mark a.p.now a.i g.low g.b g.next e (sym c.begins.ensures ∙ c.if-begins.true)
 
 pub returns-else-begins : goal.returns-else-begins
 returns-else-begins c =
     let a = c.args in
-    let g = c.low-1.given in
-    let e = sym g.1 ∙ c.member_at.ensures in
-    piece_alone a.mark a.p.now a.i g.0.0 g.0.1.0 g.0.1.1.0 e (sym c.begins.ensures ∙ c.if-begins.false)
+    let g = c.in-Range in
+    let e = sym g.is ∙ c.member_at.ensures in
+    piece_alone a.mark a.p.now a.i g.low g.b g.next e (sym c.begins.ensures ∙ c.if-begins.false)
 
 pub returns-in-Close : goal.returns-in-Close
 returns-in-Close c =
     let a = c.args in
-    piece_close a.mark a.p.now a.i (sym c.enum_told-1.given.1 ∙ c.member_at.ensures)
+    piece_close a.mark a.p.now a.i (sym c.in-Close.is ∙ c.member_at.ensures)
 
 pub returns-in-End : goal.returns-in-End
 returns-in-End c =
     let a = c.args in
-    piece_end a.mark a.p.now a.i (sym c.enum_told-in-End-1.given.1 ∙ c.member_at.ensures)
+    piece_end a.mark a.p.now a.i (sym c.in-End.is ∙ c.member_at.ensures)

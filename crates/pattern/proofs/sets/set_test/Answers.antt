@@ -16,18 +16,18 @@ returns-then-high-low c =
     let a = c.args in
     let l = c.loop-i in
     let t = folded a.mark a.p.now in
-    let g = c.low-1.given in
-    let e = sym g.1 ∙ c.piece_at.ensures in
-    read_falls t a.at a.c l.hit l.i l.invariant g.0.0 g.0.1.0 g.0.1.1.0 e (omega arith)
+    let g = c.in-Range in
+    let e = sym g.is ∙ c.piece_at.ensures in
+    read_falls t a.at a.c l.hit l.i l.invariant g.low g.high g.next e (omega arith)
 
 pub loop-i-smaller : goal.loop-i-smaller
 loop-i-smaller c =
     let a = c.args in
     let l = c.loop-i in
     let t = folded a.mark a.p.now in
-    let g = c.low-1.given in
-    let e = sym g.1 ∙ c.piece_at.ensures in
-    let n = read_next t a.at a.c l.hit l.i l.invariant g.0.0 g.0.1.0 g.0.1.1.0 e in
+    let g = c.in-Range in
+    let e = sym g.is ∙ c.piece_at.ensures in
+    let n = read_next t a.at a.c l.hit l.i l.invariant g.low g.high g.next e in
     omega (arith, n.0)
 
 pub loop-i-preserved : goal.loop-i-preserved
@@ -35,30 +35,30 @@ loop-i-preserved c =
     let a = c.args in
     let l = c.loop-i in
     let t = folded a.mark a.p.now in
-    let g = c.low-1.given in
-    let e = sym g.1 ∙ c.piece_at.ensures in
-    read_more t a.at a.c l.hit l.i l.invariant g.0.0 g.0.1.0 g.0.1.1.0 e (omega arith)
+    let g = c.in-Range in
+    let e = sym g.is ∙ c.piece_at.ensures in
+    read_more t a.at a.c l.hit l.i l.invariant g.low g.high g.next e (omega arith)
 
 pub returns-then-i-at : goal.returns-then-i-at
 returns-then-i-at c =
     let a = c.args in
     let l = c.loop-i in
     let t = folded a.mark a.p.now in
-    read_empty t a.at a.c l.hit l.i l.invariant (sym c.enum_told-1.given.1 ∙ c.piece_at.ensures) c.if-i-at.true
+    read_empty t a.at a.c l.hit l.i l.invariant (sym c.in-Close.is ∙ c.piece_at.ensures) c.if-i-at.true
 
 pub returns-in-Close : goal.returns-in-Close
 returns-in-Close c =
     let a = c.args in
     let l = c.loop-i in
     let t = folded a.mark a.p.now in
-    read_close t a.at a.c l.hit l.i l.invariant (sym c.enum_told-1.given.1 ∙ c.piece_at.ensures) c.if-i-at.false
+    read_close t a.at a.c l.hit l.i l.invariant (sym c.in-Close.is ∙ c.piece_at.ensures) c.if-i-at.false
 
 pub returns-in-End : goal.returns-in-End
 returns-in-End c =
     let a = c.args in
     let l = c.loop-i in
     let t = folded a.mark a.p.now in
-    read_end t a.at a.c l.hit l.i l.invariant (sym c.enum_told-in-End-1.given.1 ∙ c.piece_at.ensures)
+    read_end t a.at a.c l.hit l.i l.invariant (sym c.in-End.is ∙ c.piece_at.ensures)
 
 pub returns : goal.returns
 returns c =
