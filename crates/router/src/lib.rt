@@ -1,5 +1,5 @@
 // Translation, check and run together. Demand 3 is stated in specs/Demand.antt and proved in proofs/Demand.antt; `match_text` of matching.rt carries it.
-// Here are the functions of the static library, which C and Rust call (include/virentolex.h).
+// Here are the functions of the static library, which C and Rust call (include/virentolex.h); the crate router_c gives them to C.
 // Each calls one function of the crates below, answers the refusal's number, 0 if nothing is refused, and stores what else there is to say through the references that it is lent.
 #![tactic(auto)]
 
@@ -25,8 +25,7 @@ use notice::Layout;
 pub mod matching;
 
 // "Translation answers number, place and table length, 0 if refused.", in the edition that the caller names. A table stands at the buffer's start; a refusal changes no byte.
-#[unsafe(no_mangle)]
-pub extern "C" fn virentolex_translate(
+pub fn virentolex_translate(
     edition: usize,
     text: &[u8],
     buffer: &mut [u8],
@@ -42,16 +41,14 @@ pub extern "C" fn virentolex_translate(
 }
 
 // "12 | table fails layout or check"
-#[unsafe(no_mangle)]
-pub extern "C" fn virentolex_check(table: &[u8]) -> u8
+pub fn virentolex_check(table: &[u8]) -> u8
     ensures { result ≡ refusal_of (tableCheck table.now) }
 {
     if table::check(table) { 0 } else { 12 }
 }
 
 // "11 | notice fails layout", with its place.
-#[unsafe(no_mangle)]
-pub extern "C" fn virentolex_check_notice(notice: &[u8], place: &mut usize) -> u8
+pub fn virentolex_check_notice(notice: &[u8], place: &mut usize) -> u8
     ensures value { result ≡ number_of (noticeCheck notice.now) }
     ensures place_after { place.new ≡ place_of (noticeCheck notice.now) }
 {
@@ -69,8 +66,7 @@ pub extern "C" fn virentolex_check_notice(notice: &[u8], place: &mut usize) -> u
 }
 
 // "Running answers number, place, verdict (bottom if refused) and steps (0 if refused)." A verdict is false 0, true 1, bottom 2. Request 7: `undecided` is the first entry that left bottom on the stack, 65535 for none.
-#[unsafe(no_mangle)]
-pub extern "C" fn virentolex_run<'a>(
+pub fn virentolex_run<'a>(
     table: &'a [u8],
     notice: &'a [u8],
     place: &mut usize,
@@ -94,8 +90,7 @@ pub extern "C" fn virentolex_run<'a>(
 }
 
 // Request 7, for support staff: what the entry k of a table is, and for a string or a name its bytes, from `start` to `end` of the table. 12 if the table fails its check, 17 if it has no entry k.
-#[unsafe(no_mangle)]
-pub extern "C" fn virentolex_entry(
+pub fn virentolex_entry(
     table: &[u8],
     k: usize,
     op: &mut u16,
@@ -116,8 +111,7 @@ pub extern "C" fn virentolex_entry(
 }
 
 // "Reading field k gives its kind and its name and value as parts of the lent notice": the name from `name` to `value`, the value from there to `end`.
-#[unsafe(no_mangle)]
-pub extern "C" fn virentolex_read(
+pub fn virentolex_read(
     notice: &[u8],
     k: usize,
     place: &mut usize,
@@ -138,8 +132,7 @@ pub extern "C" fn virentolex_read(
 }
 
 // "it finds what a walk over all fields finds. Beside that it answers how many names it looked at": the field's index, 64 if there is no such field. "in a notice found well-formed": 11 with its place otherwise.
-#[unsafe(no_mangle)]
-pub extern "C" fn virentolex_find(
+pub fn virentolex_find(
     notice: &[u8],
     name: &[u8],
     place: &mut usize,
@@ -156,8 +149,7 @@ pub extern "C" fn virentolex_find(
 }
 
 // "writing answers number, place and the new length, or the old one if refused": `len` is the length that the caller names, `total` the answered one. A refusal changes no byte.
-#[unsafe(no_mangle)]
-pub extern "C" fn virentolex_write(
+pub fn virentolex_write(
     buffer: &mut [u8],
     len: usize,
     name: &[u8],
@@ -183,8 +175,7 @@ fn flag(b: bool) -> u8
 }
 
 // "A decision is opened with a table, which it keeps, and a needed number of 1 to 8 people." The decision stands at the buffer's start; a refusal changes no byte.
-#[unsafe(no_mangle)]
-pub extern "C" fn virentolex_quorum_open(
+pub fn virentolex_quorum_open(
     decision: &mut [u8],
     table: &[u8],
     needed: usize,
@@ -205,8 +196,7 @@ pub extern "C" fn virentolex_quorum_open(
 }
 
 // "The answer is the count and whether it has reached the needed number.", and the run's first undecided entry, which the counter "passes .. on". A refusal changes no byte.
-#[unsafe(no_mangle)]
-pub extern "C" fn virentolex_quorum_show(
+pub fn virentolex_quorum_show(
     decision: &mut [u8],
     notice: &[u8],
     place: &mut usize,
@@ -226,8 +216,7 @@ pub extern "C" fn virentolex_quorum_show(
 }
 
 // "reading into our notice, with fields put in name order": the notice that a UBF(A) text says, at the buffer's start. A refusal changes no byte.
-#[unsafe(no_mangle)]
-pub extern "C" fn virentolex_ubf_read(
+pub fn virentolex_ubf_read(
     text: &[u8],
     notice: &mut [u8],
     place: &mut usize,
@@ -243,8 +232,7 @@ pub extern "C" fn virentolex_ubf_read(
 }
 
 // "writing back in one fixed form": the UBF(A) text of a notice, at the buffer's start. A refusal changes no byte.
-#[unsafe(no_mangle)]
-pub extern "C" fn virentolex_ubf_write(
+pub fn virentolex_ubf_write(
     notice: &[u8],
     text: &mut [u8],
     place: &mut usize,
@@ -260,8 +248,7 @@ pub extern "C" fn virentolex_ubf_write(
 }
 
 // "A single call shall take up to 64 tables laid end to end and one notice, and write per table one byte: 0 false, 1 true, 2 bottom, 3 table refused." A refusal changes no byte.
-#[unsafe(no_mangle)]
-pub extern "C" fn virentolex_run_many<'a>(
+pub fn virentolex_run_many<'a>(
     tables: &'a [u8],
     notice: &'a [u8],
     verdicts: &mut [u8],
@@ -278,8 +265,7 @@ pub extern "C" fn virentolex_run_many<'a>(
 }
 
 // "a standing store in one lent buffer of at most 64 KiB: make it empty". A refusal changes no byte.
-#[unsafe(no_mangle)]
-pub extern "C" fn virentolex_store_make(store: &mut [u8]) -> u8
+pub fn virentolex_store_make(store: &mut [u8]) -> u8
     ensures value { result ≡ make_refusal store.old }
     ensures store_after { store.new ≡ made_bytes store.old }
 {
@@ -287,8 +273,7 @@ pub extern "C" fn virentolex_store_make(store: &mut [u8]) -> u8
 }
 
 // "add a table and get the lowest free number 0..63"; "Refused, add answers 64". A refusal changes no byte.
-#[unsafe(no_mangle)]
-pub extern "C" fn virentolex_store_add(store: &mut [u8], table: &[u8], number: &mut usize) -> u8
+pub fn virentolex_store_add(store: &mut [u8], table: &[u8], number: &mut usize) -> u8
     ensures number_after { record { refusal = result; number = number.new } ≡ added_of store.old table.now }
     ensures store_after { store.new ≡ added_bytes store.old table.now }
 {
@@ -298,8 +283,7 @@ pub extern "C" fn virentolex_store_add(store: &mut [u8], table: &[u8], number: &
 }
 
 // "remove by number". A refusal changes no byte.
-#[unsafe(no_mangle)]
-pub extern "C" fn virentolex_store_remove(store: &mut [u8], number: usize) -> u8
+pub fn virentolex_store_remove(store: &mut [u8], number: usize) -> u8
     ensures value { result ≡ held_refusal store.old number }
     ensures store_after { store.new ≡ removed_bytes store.old number }
 {
@@ -307,8 +291,7 @@ pub extern "C" fn virentolex_store_remove(store: &mut [u8], number: usize) -> u8
 }
 
 // "fetch by number as a part of the buffer": the table is the bytes from `start` to `end`, both 0 if refused.
-#[unsafe(no_mangle)]
-pub extern "C" fn virentolex_store_fetch(
+pub fn virentolex_store_fetch(
     store: &[u8],
     number: usize,
     start: &mut usize,
@@ -323,8 +306,7 @@ pub extern "C" fn virentolex_store_fetch(
 }
 
 // Every table that a store holds on one notice, one byte by number: 0 false, 1 true, 2 bottom, 3 table refused, 4 for a free place. A refusal changes no byte.
-#[unsafe(no_mangle)]
-pub extern "C" fn virentolex_store_match<'a>(
+pub fn virentolex_store_match<'a>(
     store: &'a [u8],
     notice: &'a [u8],
     verdicts: &mut [u8],
@@ -340,8 +322,7 @@ pub extern "C" fn virentolex_store_match<'a>(
 
 // "A tool takes such bytes, .. keeps each field that is right by itself and whose name was not kept before, and writes a well-formed notice": the notice at its buffer's start,
 // and in the list's 3 bytes a field, u16 offset and 0 kept, 1 moved, 2 repeated, 3 bad, 4 cut. A refusal changes no byte.
-#[unsafe(no_mangle)]
-pub extern "C" fn virentolex_mend(
+pub fn virentolex_mend(
     bytes: &[u8],
     list: &mut [u8],
     notice: &mut [u8],

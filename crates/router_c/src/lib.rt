@@ -1,0 +1,280 @@
+// The static library that C and Rust call (include/virentolex.h): each function of the crate router under the name that C calls it by, with the clauses that it has there.
+#![tactic(auto)]
+
+ghost use Rattle.std.specs.Prelude.{◌≡◌, length};
+ghost use Rattle.truth.specs.Truth.{number_of as verdictNumber};
+ghost use Rattle.translator.specs.Translation.{translation_of, Answers};
+ghost use Rattle.table.specs.Check.{check_of as tableCheck, refusal_of};
+ghost use Rattle.table.specs.Parts.{parts_of};
+ghost use Rattle.notice.specs.Layout.{check_of as noticeCheck, number_of, place_of};
+ghost use Rattle.notice.specs.Read.{Located};
+ghost use Rattle.notice.specs.Search.{find_of};
+ghost use Rattle.notice.specs.Write.{field, written_of, written_bytes};
+ghost use Rattle.interpreter.specs.Running.{running_of};
+ghost use Rattle.quorum.specs.Showing.{open_of, opened_bytes, show_of, shown_bytes, Gives};
+ghost use Rattle.many.specs.Many.{many_of, many_bytes};
+ghost use Rattle.many.specs.Held.{match_of, matched_bytes};
+ghost use Rattle.ubf.specs.Answer.{read_answer, read_bytes, write_answer, write_bytes};
+ghost use Rattle.mend.specs.Mend.{mended_of, list_after, notice_after};
+ghost use Rattle.store.specs.Calls.{make_refusal, made_bytes, added_of, added_bytes, held_refusal, removed_bytes, part_of};
+
+// "Translation answers number, place and table length, 0 if refused.", in the edition that the caller names. A table stands at the buffer's start; a refusal changes no byte.
+#[unsafe(no_mangle)]
+pub extern "C" fn virentolex_translate(
+    edition: usize,
+    text: &[u8],
+    buffer: &mut [u8],
+    place: &mut usize,
+    len: &mut usize,
+) -> u8
+    ensures { Answers (translation_of edition text.now (length buffer.old)) buffer.old buffer.new (record { number = result; place = place.new; length = len.new }) }
+{
+    router::virentolex_translate(edition, text, buffer, place, len)
+}
+
+// "12 | table fails layout or check"
+#[unsafe(no_mangle)]
+pub extern "C" fn virentolex_check(table: &[u8]) -> u8
+    ensures { result ≡ refusal_of (tableCheck table.now) }
+{
+    router::virentolex_check(table)
+}
+
+// "11 | notice fails layout", with its place.
+#[unsafe(no_mangle)]
+pub extern "C" fn virentolex_check_notice(notice: &[u8], place: &mut usize) -> u8
+    ensures value { result ≡ number_of (noticeCheck notice.now) }
+    ensures place_after { place.new ≡ place_of (noticeCheck notice.now) }
+{
+    router::virentolex_check_notice(notice, place)
+}
+
+// "Running answers number, place, verdict (bottom if refused) and steps (0 if refused)." A verdict is false 0, true 1, bottom 2. Request 7: `undecided` is the first entry that left bottom on the stack, 65535 for none.
+#[unsafe(no_mangle)]
+pub extern "C" fn virentolex_run<'a>(
+    table: &'a [u8],
+    notice: &'a [u8],
+    place: &mut usize,
+    verdict: &mut u8,
+    steps: &mut usize,
+    undecided: &mut u16,
+) -> u8
+    ensures value { result ≡ (running_of table.now notice.now).number }
+    ensures place_after { place.new ≡ (running_of table.now notice.now).place }
+    ensures verdict_after { verdict.new ≡ verdictNumber (running_of table.now notice.now).verdict }
+    ensures steps_after { steps.new ≡ (running_of table.now notice.now).steps }
+    ensures undecided_after { undecided.new ≡ (running_of table.now notice.now).undecided }
+{
+    router::virentolex_run(table, notice, place, verdict, steps, undecided)
+}
+
+// Request 7, for support staff: what the entry k of a table is, and for a string or a name its bytes, from `start` to `end` of the table. 12 if the table fails its check, 17 if it has no entry k.
+#[unsafe(no_mangle)]
+pub extern "C" fn virentolex_entry(
+    table: &[u8],
+    k: usize,
+    op: &mut u16,
+    a: &mut u16,
+    b: &mut u64,
+    start: &mut usize,
+    end: &mut usize,
+) -> u8
+    ensures { record { number = result; op = op.new; a = a.new; b = b.new; start = start.new; end = end.new } ≡ parts_of table.now k }
+{
+    router::virentolex_entry(table, k, op, a, b, start, end)
+}
+
+// "Reading field k gives its kind and its name and value as parts of the lent notice": the name from `name` to `value`, the value from there to `end`.
+#[unsafe(no_mangle)]
+pub extern "C" fn virentolex_read(
+    notice: &[u8],
+    k: usize,
+    place: &mut usize,
+    kind: &mut u16,
+    name: &mut usize,
+    value: &mut usize,
+    end: &mut usize,
+) -> u8
+    ensures { Located notice.now k (record { number = result; place = place.new; kind = kind.new; name = name.new; value = value.new; end = end.new }) }
+{
+    router::virentolex_read(notice, k, place, kind, name, value, end)
+}
+
+// "it finds what a walk over all fields finds. Beside that it answers how many names it looked at": the field's index, 64 if there is no such field. "in a notice found well-formed": 11 with its place otherwise.
+#[unsafe(no_mangle)]
+pub extern "C" fn virentolex_find(
+    notice: &[u8],
+    name: &[u8],
+    place: &mut usize,
+    index: &mut usize,
+    looked: &mut usize,
+) -> u8
+    ensures { record { number = result; place = place.new; index = index.new; looked = looked.new } ≡ find_of notice.now name.now }
+{
+    router::virentolex_find(notice, name, place, index, looked)
+}
+
+// "writing answers number, place and the new length, or the old one if refused": `len` is the length that the caller names, `total` the answered one. A refusal changes no byte.
+#[unsafe(no_mangle)]
+pub extern "C" fn virentolex_write(
+    buffer: &mut [u8],
+    len: usize,
+    name: &[u8],
+    kind: u16,
+    value: &[u8],
+    place: &mut usize,
+    total: &mut usize,
+) -> u8
+    ensures total_after { record { number = result; place = place.new; len = total.new } ≡ written_of buffer.old len (field kind name.now value.now) }
+    ensures buffer_after { buffer.new ≡ written_bytes buffer.old len (field kind name.now value.now) }
+{
+    router::virentolex_write(buffer, len, name, kind, value, place, total)
+}
+
+// "A decision is opened with a table, which it keeps, and a needed number of 1 to 8 people." The decision stands at the buffer's start; a refusal changes no byte.
+#[unsafe(no_mangle)]
+pub extern "C" fn virentolex_quorum_open(
+    decision: &mut [u8],
+    table: &[u8],
+    needed: usize,
+    place: &mut usize,
+    count: &mut u8,
+    reached: &mut u8,
+    undecided: &mut u16,
+) -> u8
+    ensures gives { Gives (open_of decision.old table.now needed) result place.new count.new reached.new undecided.new }
+    ensures decision_after { decision.new ≡ opened_bytes decision.old table.now needed }
+{
+    router::virentolex_quorum_open(decision, table, needed, place, count, reached, undecided)
+}
+
+// "The answer is the count and whether it has reached the needed number.", and the run's first undecided entry, which the counter "passes .. on". A refusal changes no byte.
+#[unsafe(no_mangle)]
+pub extern "C" fn virentolex_quorum_show(
+    decision: &mut [u8],
+    notice: &[u8],
+    place: &mut usize,
+    count: &mut u8,
+    reached: &mut u8,
+    undecided: &mut u16,
+) -> u8
+    ensures gives { Gives (show_of decision.old notice.now) result place.new count.new reached.new undecided.new }
+    ensures decision_after { decision.new ≡ shown_bytes decision.old notice.now }
+{
+    router::virentolex_quorum_show(decision, notice, place, count, reached, undecided)
+}
+
+// "reading into our notice, with fields put in name order": the notice that a UBF(A) text says, at the buffer's start. A refusal changes no byte.
+#[unsafe(no_mangle)]
+pub extern "C" fn virentolex_ubf_read(
+    text: &[u8],
+    notice: &mut [u8],
+    place: &mut usize,
+    len: &mut usize,
+) -> u8
+    ensures len_after { record { number = result; place = place.new; len = len.new } ≡ read_answer text.now notice.old }
+    ensures notice_after { notice.new ≡ read_bytes text.now notice.old }
+{
+    router::virentolex_ubf_read(text, notice, place, len)
+}
+
+// "writing back in one fixed form": the UBF(A) text of a notice, at the buffer's start. A refusal changes no byte.
+#[unsafe(no_mangle)]
+pub extern "C" fn virentolex_ubf_write(
+    notice: &[u8],
+    text: &mut [u8],
+    place: &mut usize,
+    len: &mut usize,
+) -> u8
+    ensures len_after { record { number = result; place = place.new; len = len.new } ≡ write_answer notice.now text.old }
+    ensures text_after { text.new ≡ write_bytes notice.now text.old }
+{
+    router::virentolex_ubf_write(notice, text, place, len)
+}
+
+// "A single call shall take up to 64 tables laid end to end and one notice, and write per table one byte: 0 false, 1 true, 2 bottom, 3 table refused." A refusal changes no byte.
+#[unsafe(no_mangle)]
+pub extern "C" fn virentolex_run_many<'a>(
+    tables: &'a [u8],
+    notice: &'a [u8],
+    verdicts: &mut [u8],
+    place: &mut usize,
+    count: &mut usize,
+) -> u8
+    ensures count_after { record { number = result; place = place.new; count = count.new } ≡ many_of tables.now notice.now (length verdicts.old) }
+    ensures verdicts_after { verdicts.new ≡ many_bytes tables.now notice.now verdicts.old }
+{
+    router::virentolex_run_many(tables, notice, verdicts, place, count)
+}
+
+// "a standing store in one lent buffer of at most 64 KiB: make it empty". A refusal changes no byte.
+#[unsafe(no_mangle)]
+pub extern "C" fn virentolex_store_make(store: &mut [u8]) -> u8
+    ensures value { result ≡ make_refusal store.old }
+    ensures store_after { store.new ≡ made_bytes store.old }
+{
+    router::virentolex_store_make(store)
+}
+
+// "add a table and get the lowest free number 0..63"; "Refused, add answers 64". A refusal changes no byte.
+#[unsafe(no_mangle)]
+pub extern "C" fn virentolex_store_add(store: &mut [u8], table: &[u8], number: &mut usize) -> u8
+    ensures number_after { record { refusal = result; number = number.new } ≡ added_of store.old table.now }
+    ensures store_after { store.new ≡ added_bytes store.old table.now }
+{
+    router::virentolex_store_add(store, table, number)
+}
+
+// "remove by number". A refusal changes no byte.
+#[unsafe(no_mangle)]
+pub extern "C" fn virentolex_store_remove(store: &mut [u8], number: usize) -> u8
+    ensures value { result ≡ held_refusal store.old number }
+    ensures store_after { store.new ≡ removed_bytes store.old number }
+{
+    router::virentolex_store_remove(store, number)
+}
+
+// "fetch by number as a part of the buffer": the table is the bytes from `start` to `end`, both 0 if refused.
+#[unsafe(no_mangle)]
+pub extern "C" fn virentolex_store_fetch(
+    store: &[u8],
+    number: usize,
+    start: &mut usize,
+    end: &mut usize,
+) -> u8
+    ensures { record { refusal = result; start = start.new; end = end.new } ≡ part_of store.now number }
+{
+    router::virentolex_store_fetch(store, number, start, end)
+}
+
+// Every table that a store holds on one notice, one byte by number: 0 false, 1 true, 2 bottom, 3 table refused, 4 for a free place. A refusal changes no byte.
+#[unsafe(no_mangle)]
+pub extern "C" fn virentolex_store_match<'a>(
+    store: &'a [u8],
+    notice: &'a [u8],
+    verdicts: &mut [u8],
+    place: &mut usize,
+) -> u8
+    ensures place_after { record { number = result; place = place.new } ≡ match_of store.now notice.now (length verdicts.old) }
+    ensures verdicts_after { verdicts.new ≡ matched_bytes store.now notice.now verdicts.old }
+{
+    router::virentolex_store_match(store, notice, verdicts, place)
+}
+
+// "A tool takes such bytes, .. keeps each field that is right by itself and whose name was not kept before, and writes a well-formed notice": the notice at its buffer's start,
+// and in the list's 3 bytes a field, u16 offset and 0 kept, 1 moved, 2 repeated, 3 bad, 4 cut. A refusal changes no byte.
+#[unsafe(no_mangle)]
+pub extern "C" fn virentolex_mend(
+    bytes: &[u8],
+    list: &mut [u8],
+    notice: &mut [u8],
+    place: &mut usize,
+    len: &mut usize,
+    fields: &mut usize,
+) -> u8
+    ensures fields_after { record { number = result; place = place.new; length = len.new; fields = fields.new } ≡ mended_of bytes.now (length list.old) (length notice.old) }
+    ensures list_after { list.new ≡ list_after bytes.now list.old notice.old }
+    ensures notice_after { notice.new ≡ notice_after bytes.now list.old notice.old }
+{
+    router::virentolex_mend(bytes, list, notice, place, len, fields)
+}
