@@ -47,11 +47,11 @@ module _ (a c : ℤ) where
       neg_real (nat_abs a + nat_abs c) k ∙ ap nearest_real (sym (to_neg z k (omega arith) (omega arith)))
 
   apart_fits : mag a < 2 ^ 63 → Z.up c ≤ 2 ^ 63 → Z.dn c ≤ 2 ^ 63 → ((Z.dn a ≡ 0) × (Z.up c ≡ 0)) → SFits w64 z
-  apart_fits f g g' h = let s = Z.sum a c in let t = Z.apart z in let r = Z.range a f in record { sfits = Z.in_range z (omega (arith, h.0, h.1)) (omega (arith, h.0, h.1)) }
+  apart_fits f g g' h = let s = Z.sum a c in let t = Z.apart z in let r = Z.range a f in record { sfits = Z.in_range_lem z (omega (arith, h.0, h.1)) (omega (arith, h.0, h.1)) }
 
   fits_apart : mag a < 2 ^ 63 → 0 < Z.dn a → Z.up c ≤ 2 ^ 63 → Z.dn c ≤ 2 ^ 63 → Z.dn c ≡ 0 → SFits w64 z
   fits_apart f l g g' h =
-      let s = Z.sum a c in let t = Z.apart z in let r = Z.range a f in let q = Z.apart a in record { sfits = Z.in_range z (omega arith) (omega arith) }
+      let s = Z.sum a c in let t = Z.apart z in let r = Z.range a f in let q = Z.apart a in record { sfits = Z.in_range_lem z (omega arith) (omega arith) }
 
 -- ---- as the machine has it: `op` adds c to a
 pub below : (b : ℤ) → SFits w64 b → lt_z (R b) (pos 0) ≡ true → (Z.up b ≡ 0) × (0 < Z.dn b)

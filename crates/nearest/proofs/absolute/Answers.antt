@@ -8,8 +8,7 @@ overflow_cast-result c = cast_flip w64 c.args.a c.ranges.a c.if-a-lt0.true
 
 pub overflow_add-result : goal.overflow_add-result
 overflow_add-result c =
-    let s = c.before.before in
-    omega (arith, abs_flip w64 s.args.a s.ranges.a c.if-a-lt0.true, nat_abs-le s.args.a s.ranges.a.sfits)
+    omega (arith, abs_flip w64 c.args.a c.ranges.a c.if-a-lt0.true, nat_abs-le c.args.a c.ranges.a.sfits)
 
 pub overflow_cast-result-else-a-lt0 : goal.overflow_cast-result-else-a-lt0
 overflow_cast-result-else-a-lt0 c = cast_keep w64 c.args.a c.ranges.a c.if-a-lt0.false
