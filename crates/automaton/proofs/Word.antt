@@ -10,7 +10,7 @@ use lib.ListN.{length, get_or, drop, replicate, length-drop, drop_of_length-le}
 use lib.Pow.{pow_mono}
 use lib.Seq.{drop-cons}
 use lib.Dec.{eqb, leb, ltb}
-use borrow.Author.Tests.{ltb-true, leb-true, le-leb, lt-leb, eqb-true, not-true, not-false, ne_eqb}
+use borrow.Author.Tests.{ltb-true, leb-true, le-leb, lt-leb, eqb-true, not-true, ne_eqb}
 use Rattle.common.proofs.Choice.{true_false}
 use Rattle.octets.proofs.Theorems.{and_parts}
 use Rattle.automaton.specs.Pass.{Token, one, started, passed, Left, left, onto, pass}
@@ -83,11 +83,11 @@ grown i out bit b h e o l =
 -- ---- tables without groups
 
 module _ (p : ℕ → Bool) (ks : List ℕ) (i : ℕ) where
-  pub every_no : (b : Bool) → i < length ks → b ≡ p (get_or ks i 0) → not b ≡ true → false ≡ every p (drop i ks)
-  every_no b h e f = let g = sym e ∙ not-true b f in rw (drop-cons ks i 0 h, g)
+  pub every_no : (b : Bool) → i < length ks → b ≡ p (get_or ks i 0) → b ≡ false → false ≡ every p (drop i ks)
+  every_no b h e f = let g = sym e ∙ f in rw (drop-cons ks i 0 h, g)
 
-  pub every_on : (b : Bool) → i < length ks → b ≡ p (get_or ks i 0) → not b ≡ false → every p (drop (i + 1) ks) ≡ every p (drop i ks)
-  every_on b h e f = let g = sym e ∙ not-false b f in rw (add-one i, drop-cons ks i 0 h, g)
+  pub every_on : (b : Bool) → i < length ks → b ≡ p (get_or ks i 0) → b ≡ true → every p (drop (i + 1) ks) ≡ every p (drop i ks)
+  every_on b h e f = let g = sym e ∙ f in rw (add-one i, drop-cons ks i 0 h, g)
 
   pub every_end : length ks ≤ i → true ≡ every p (drop i ks)
   every_end h = rw (drop_of_length-le ks h)

@@ -19,29 +19,27 @@ use Rattle.automaton.proofs.finds_long.Goals as goal
 
 pub returns-then-ef-l : goal.returns-then-ef-l
 returns-then-ef-l c =
-    let z = c.before.before.before.before.before.before.before.before.before.before.before.before.before.before.before.before in
-    let a = z.args in
+    let a = c.args in
     let n = length a.kinds.now in
-    let e = c.clear.ensures ∙ ap (λ (m : ℕ). replicate m false) z.requires.2 in
-    long_seen (tokens_of a.text.now a.kinds.now a.args.now) n a.sf a.ef (fold a.mark) a.value.now a.from _ _ c.shift-l.result e c.shift-l.ensures z.requires.3 c.if-ef-l.true
+    let e = c.clear.ensures ∙ ap (λ (m : ℕ). replicate m false) c.requires.2 in
+    long_seen (tokens_of a.text.now a.kinds.now a.args.now) n a.sf a.ef (fold a.mark) a.value.now a.from _ _ c.shift-l.result e c.shift-l.ensures c.requires.3 c.if-ef-l.true
 
 pub lead-x-requires : goal.lead-x-requires
 lead-x-requires c =
-    let z = c.before.before.before.before.before.before.before.before.before.before.before.before.before.before.before.before.before.before.before.before.before.before in (z.requires.0, z.requires.1, c.marks-2-1.given ∙ c.marks-1.given ∙ z.requires.2)
+    (c.requires.0, c.requires.1, c.marks-2-1.given ∙ c.marks-1.given ∙ c.requires.2)
 
 pub overflow_add-from : goal.overflow_add-from
 overflow_add-from c = record { fits = omega (arith, c.well_formed, c.requires.3) }
 
 pub walk_told-requires : goal.walk_told-requires
 walk_told-requires c =
-    let z = c.before.before.before.before.before.before.before.before.before.before.before.before.before.before.before.before.before.before.before.before.before.before.before.before.before.before in (z.requires.0, z.requires.1, c.marks-3-1.given ∙ c.marks-2-1.given ∙ c.marks-1.given ∙ z.requires.2, c.plain-single.ensures, omega (arith, z.requires.3))
+    (c.requires.0, c.requires.1, c.marks-3-1.given ∙ c.marks-2-1.given ∙ c.marks-1.given ∙ c.requires.2, c.plain-single.ensures, omega (arith, c.requires.3))
 
 pub returns : goal.returns
 returns c =
-    let z = c.before.before.before.before.before.before.before.before.before.before.before.before.before.before.before.before.before.before.before.before.before.before.before.before.before.before.before.before.before in
-    let a = z.args in
+    let a = c.args in
     let n = length a.kinds.now in
-    let e = c.clear.ensures ∙ ap (λ (m : ℕ). replicate m false) z.requires.2 in
+    let e = c.clear.ensures ∙ ap (λ (m : ℕ). replicate m false) c.requires.2 in
     let p = c.pack-w in
-    let m = c.marks-2-1.given ∙ c.marks-1.given ∙ z.requires.2 in
-    long_first (tokens_of a.text.now a.kinds.now a.args.now) n a.sf a.ef (fold a.mark) a.value.now a.from _ _ c.shift-l.result e c.shift-l.ensures z.requires.3 c.if-ef-l.false p.result (sym (ap (λ (k : ℕ). cells_in k p.result) m) ∙ p.ensures.0) p.ensures.1 c.fold.result c.fold.ensures c.lead-x.result c.lead-x.ensures c.walk_told.result c.walk_told.ensures
+    let m = c.marks-2-1.given ∙ c.marks-1.given ∙ c.requires.2 in
+    long_first (tokens_of a.text.now a.kinds.now a.args.now) n a.sf a.ef (fold a.mark) a.value.now a.from _ _ c.shift-l.result e c.shift-l.ensures c.requires.3 c.if-ef-l.false p.result (sym (ap (λ (k : ℕ). cells_in k p.result) m) ∙ p.ensures.0) p.ensures.1 c.fold.result c.fold.ensures c.lead-x.result c.lead-x.ensures c.walk_told.result c.walk_told.ensures

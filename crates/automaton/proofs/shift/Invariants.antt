@@ -24,7 +24,7 @@ use Rattle.automaton.proofs.wide.Reads as wide-reads
 use Rattle.automaton.proofs.shift.Given as goal
 
 abbrev pub invariant-loop-i : goal.invariant-loop-i
-invariant-loop-i l = (l.i ≤ length l.l.kinds) × (l.depth ≤ 8) × (length l.l.marks ≡ length l.l.kinds) × (length l.stack ≡ 9) × (going l.l.text l.l.kinds l.l.args l.l.marks l.l.c l.l l.stack l.depth l.i ≡ pass (tokens_of l.l.text l.l.kinds l.l.args) l.l.initial.marks l.l.c (started l.l.k) [])
+invariant-loop-i l = (l.i ≤ length l.kinds) × (l.depth ≤ 8) × (length l.marks ≡ length l.kinds) × (length l.stack ≡ 9) × (going l.text l.kinds l.args l.marks l.c l.l l.stack l.depth l.i ≡ pass (tokens_of l.text l.kinds l.args) l.initial.marks l.c (started l.k) [])
 
 abbrev pub decreases-loop-i : goal.decreases-loop-i
-decreases-loop-i l = length l.l.kinds - l.i
+decreases-loop-i l = length l.kinds - l.i
