@@ -9,5 +9,4 @@ use Rattle.mixed.proofs.equal.Goals as goal
 
 pub returns : goal.returns
 returns c =
-    let q = c.before.before in let s = q.before in
-    q.sides-s.ensures.same ∙ ap (λ (y : ℤ). eq (exactly y) s.args.x) (to_z-of_z w64 s.args.z s.ranges.z)
+    c.sides-s.ensures.same ∙ ap (λ (y : ℤ). eq (exactly y) c.args.x) (to_z-of_z w64 c.args.z c.ranges.z)

@@ -9,7 +9,6 @@ use Rattle.mixed.proofs.order.Goals as goal
 
 pub returns : goal.returns
 returns c =
-    let q = c.before.before in let s = q.before in
     c.order_real.ensures
-    ∙ same_order s.args.op _ _ _ _ q.sides-s.ensures
-    ∙ ap (λ (y : ℤ). order_real s.args.op (exactly y) s.args.x) (to_z-of_z w64 s.args.z s.ranges.z)
+    ∙ same_order c.args.op _ _ _ _ c.sides-s.ensures
+    ∙ ap (λ (y : ℤ). order_real c.args.op (exactly y) c.args.x) (to_z-of_z w64 c.args.z c.ranges.z)

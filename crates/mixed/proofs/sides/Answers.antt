@@ -5,18 +5,17 @@ use Rattle.mixed.proofs.Beyond.{masked_holds, shifted_holds, near, far}
 use Rattle.mixed.proofs.sides.Goals as goal
 
 pub int_to_float-result : goal.int_to_float-result
-int_to_float-result c = let i = c.before.before in let s = i.before in cast_holds s.args.z s.ranges.z i.if-z.true
+int_to_float-result c = cast_holds c.args.z c.ranges.z c.if-z.true
 
 pub returns-then-z : goal.returns-then-z
-returns-then-z c = let i = c.before.before in let s = i.before in near s.args.z s.ranges.z i.if-z.true s.args.x
+returns-then-z c = near c.args.z c.ranges.z c.if-z.true c.args.x
 
 pub int_to_float-result-2 : goal.int_to_float-result-2
-int_to_float-result-2 c = let s = c.before.before.before in masked_holds s.args.z s.ranges.z
+int_to_float-result-2 c = masked_holds c.args.z c.ranges.z
 
 pub int_to_float-result-3 : goal.int_to_float-result-3
-int_to_float-result-3 c = let s = c.before.before.before.before in shifted_holds s.args.z s.ranges.z
+int_to_float-result-3 c = shifted_holds c.args.z c.ranges.z
 
 pub returns : goal.returns
 returns c =
-    let i = c.before.before.before in let s = i.before in
-    far s.args.z s.ranges.z i.if-z.false s.args.x (subst T (sym s.well_formed.1.0.1) tt)
+    far c.args.z c.ranges.z c.if-z.false c.args.x (subst T (sym c.well_formed.1.0.1) tt)
