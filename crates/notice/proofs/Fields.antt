@@ -15,7 +15,7 @@ use Rattle.notice.proofs.Places.{Lies, true_lies, length_name, length_value}
 pub record Small (f : Field) : Type 0 where
   pub kind_fits : f.kind ≤ 5
   pub some_name : 1 ≤ length f.name
-  pub name_fits_lem : length f.name ≤ 64
+  pub name_fits : length f.name ≤ 64
   pub value_fits : length f.value ≤ 1024
 
 kind_size : (k n : ℕ) → size_right k n ≡ true → (k ≤ 5) × (n ≤ 1024)
@@ -49,7 +49,7 @@ right_small f e =
     record {
       kind_fits = k.0;
       some_name = leb-true 1 (length f.name) r.0;
-      name_fits_lem = leb-true (length f.name) 64 r.1;
+      name_fits = leb-true (length f.name) 64 r.1;
       value_fits = k.1;
     }
 

@@ -263,7 +263,7 @@ module _ (b : List ℕ) (bytes : Bytes b) (len : ℕ) (f : Field) (ins : Inserta
     pub header : 8 ≤ len
     pub short : len + field_size f ≤ 16384
     pub fits : len + field_size f ≤ length b
-    pub name_fits_lem : length f.name ≤ 64
+    pub name_fits : length f.name ≤ 64
     pub value_fits : length f.value ≤ 1024
     pub few : count_of s < 64
     pub after_header : 8 ≤ place_for s f.name
@@ -276,7 +276,7 @@ module _ (b : List ℕ) (bytes : Bytes b) (len : ℕ) (f : Field) (ins : Inserta
         header = head.0;
         short = omega (arith, a.short, long);
         fits = omega (arith, a.fits, long);
-        name_fits_lem = sizes.name_fits;
+        name_fits = sizes.name_fits;
         value_fits = sizes.value_fits;
         few = a.few;
         after_header = placed.0;

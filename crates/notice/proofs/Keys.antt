@@ -8,7 +8,7 @@ use Rattle.octets.proofs.Theorems.{and_parts}
 use Rattle.octets.proofs.Leads.{same_first, lead_less, lead_nil, lead_from, lead_parts, lead_take, lead_short}
 use Rattle.notice.specs.Field.{printable, name_right, field_right}
 use Rattle.notice.specs.Layout.{name_size_at, name_at, field_at, lies_at, right_at, stands_at}
-use Rattle.notice.specs.Key.{key_of, right_key_lem, key_at, last_name_at, Last}
+use Rattle.notice.specs.Key.{key_of, right_key, key_at, last_name_at, Last}
 use Rattle.notice.proofs.Words.{two_power}
 use Rattle.notice.proofs.Names.{printable_append, by_bytes}
 use Rattle.notice.proofs.Places.{length_name, right_lies, right_name}
@@ -146,10 +146,10 @@ short_word n s x r b l u e f =
 
 -- ---- the keys of right names, and 0 of all else
 module _ (s : List ℕ) where
-  pub right_key_lem : (k : ℕ) → (length s ≡ 0 → ⊥) → length s ≤ 64 → printable s ≡ true → k ≡ key_of s → k ≡ right_key_lem s
+  pub right_key_lem : (k : ℕ) → (length s ≡ 0 → ⊥) → length s ≤ 64 → printable s ≡ true → k ≡ key_of s → k ≡ right_key s
   right_key_lem k z h p e = e ∙ ap (λ (t : Bool). cond t (key_of s) 0) (sym p ∙ by_bytes s z h)
 
-  pub wrong_key : false ≡ name_right s → 0 ≡ right_key_lem s
+  pub wrong_key : false ≡ name_right s → 0 ≡ right_key s
   wrong_key e = ap (λ (t : Bool). cond t (key_of s) 0) e
 
 module _ (s : List ℕ) (at : ℕ) where
@@ -159,7 +159,7 @@ module _ (s : List ℕ) (at : ℕ) where
   pub no_key_here : false ≡ right_at s at → 0 ≡ key_at s at
   no_key_here e = ap (λ (t : Bool). cond t (key_of (name_at s at)) 0) e
 
-  pub key_named : name_right (name_at s at) ≡ right_at s at → right_key_lem (name_at s at) ≡ key_at s at
+  pub key_named : name_right (name_at s at) ≡ right_at s at → right_key (name_at s at) ≡ key_at s at
   key_named e = ap (λ (t : Bool). cond t (key_of (name_at s at)) 0) e
 
   pub some_key : (key : ℕ) → key ≡ key_at s at → 0 < key → right_at s at ≡ true

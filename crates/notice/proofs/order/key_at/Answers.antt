@@ -1,7 +1,7 @@
 use Rattle.std.proofs.Common.{◌≡◌, ℕ, ◌+◌, ◌-◌, true, take, drop, sym, ap, ◌∙◌, ap₂, arith, rules}
 use Rattle.notice.specs.Field.{size_right}
 use Rattle.notice.specs.Layout.{kind_at, value_size_at, lies_at}
-use Rattle.notice.specs.Key.{right_key_lem}
+use Rattle.notice.specs.Key.{right_key}
 use Rattle.notice.proofs.Places.{Lies, lies_true, lies_not, wrong_size, by_name}
 use Rattle.notice.proofs.Keys.{no_key_here, key_named}
 use Rattle.notice.proofs.order.key_at.Lts as lts
@@ -40,7 +40,7 @@ returns-then-size_right c =
     let d = c.before.before.before in
     let a = d.args in
     let s = a.notice.now in
-    c.key_of.ensures ∙ (ap (λ (n : ℕ). right_key_lem (take n (drop (a.at + 5) s))) d.name_size-n.ensures.0
+    c.key_of.ensures ∙ (ap (λ (n : ℕ). right_key (take n (drop (a.at + 5) s))) d.name_size-n.ensures.0
     ∙ key_named s a.at (by_name s a.at (lies_here d.before.before.before.before) (sym (size_is d) ∙ c.if-size_right.true)))
 
 pub returns-else-size_right : goal.returns-else-size_right

@@ -1,6 +1,7 @@
 use Rattle.std.proofs.Common.{⊎_elim, arith, rules}
 use Rattle.notice.proofs.Readings.{is_part_lem, backwards, past_end}
 use Rattle.notice.proofs.reading.part.Goals as goal
+use Rattle.notice.proofs.reading.part.Goals.{then-a-e+else-e-s, else-a-e}
 
 pub returns-then-e-s : goal.returns-then-e-s
 returns-then-e-s c = is_part_lem c.args.s.now c.args.a c.args.e c.if-a-e.true c.if-e-s.true
@@ -8,4 +9,7 @@ returns-then-e-s c = is_part_lem c.args.s.now c.args.a c.args.e c.if-a-e.true c.
 pub returns : goal.returns
 returns c =
     let a = c.args in
-    ⊎_elim (λ w. past_end a.s.now a.a a.e (omega arith)) (λ w. backwards a.s.now a.a a.e (omega arith)) c.if-a-e.branch
+    elim c.if-a-e.branch [
+      | then-a-e+else-e-s w ↦ past_end a.s.now a.a a.e (omega arith)
+      | else-a-e w ↦ backwards a.s.now a.a a.e (omega arith)
+    ]
