@@ -390,8 +390,8 @@ module _ (text ks xs : List ℕ) (from : ℕ) (os : List ℕ) (room last : ℕ) 
   abbrev pub walked : Walks text from room some i
   walked = (s.0, s.1, s.2, s.3, s.4, s.5)
 
-  bare : (bs : List Tree) → Steps (goes (drop from text) start) (goes (drop i text) (spot room bs s.1 [])) → of_bars bs ≡ []
-  bare bs p = ap of_bars (base p)
+  bare : (ts : List Tree) → Steps (goes (drop from text) start) (goes (drop i text) (spot room ts s.1 [])) → of_bars ts ≡ []
+  bare ts p = ap of_bars (base p)
 
   whole : (qs : List Tree) → of_pieces qs ≡ tokens (re_of (tree_of qs))
   whole [] = refl

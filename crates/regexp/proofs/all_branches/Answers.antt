@@ -16,15 +16,15 @@ next_end-requires c = let l = c.loop-n in l.invariant.0
 
 pub returns-in-Last : goal.returns-in-Last
 returns-in-Last c =
-    let l = c.loop-n in formed_last c.args.p.now l.i l.first _ l.invariant.1 0 _ _ (rw c.n-1.given.1 at c.next_end.ensures)
+    let l = c.loop-n in formed_last c.args.p.now l.i l.first _ l.invariant.1 0 _ _ (rw c.in-Last.is at c.next_end.ensures)
 
 pub loop-n-smaller : goal.loop-n-smaller
-loop-n-smaller c = let q = rw c.n-in-More-1.given.1 at c.next_end.ensures in omega (arith, q.0, q.1)
+loop-n-smaller c = let q = rw c.in-More.is at c.next_end.ensures in omega (arith, q.0, q.1)
 
 pub loop-n-preserved : goal.loop-n-preserved
 loop-n-preserved c =
-    let l = c.loop-n in let q = rw c.n-in-More-1.given.1 at c.next_end.ensures in (q.1, formed_more c.args.p.now l.i l.first _ l.invariant.1 0 _ _ q)
+    let l = c.loop-n in let q = rw c.in-More.is at c.next_end.ensures in (q.1, formed_more c.args.p.now l.i l.first _ l.invariant.1 0 _ _ q)
 
 pub returns-in-Bad : goal.returns-in-Bad
 returns-in-Bad c =
-    let l = c.loop-n in formed_bad c.args.p.now l.i l.first _ l.invariant.1 (rw c.enum_told-1.given.1 at c.next_end.ensures)
+    let l = c.loop-n in formed_bad c.args.p.now l.i l.first _ l.invariant.1 (rw c.in-Bad.is at c.next_end.ensures)

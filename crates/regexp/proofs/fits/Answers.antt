@@ -10,8 +10,8 @@ use Rattle.regexp.proofs.fits.Goals as goal
 
 pub returns-then-p_mark : goal.returns-then-p_mark
 returns-then-p_mark c =
-    let z = c.before.before.before.before.before in c.fits_folded.ensures ∙ ap (λ (m : Bool). regex_of (folded z.args.s_mark z.args.s.now) (folded m z.args.p.now)) (sym c.if-p_mark.true)
+    c.fits_folded.ensures ∙ ap (λ (m : Bool). regex_of (folded c.args.s_mark c.args.s.now) (folded m c.args.p.now)) (sym c.if-p_mark.true)
 
 pub returns : goal.returns
 returns c =
-    let z = c.before.before.before.before.before in c.fits_plain.ensures ∙ ap (regex_of (folded z.args.s_mark z.args.s.now)) (sym (not_folded z.args.p.now)) ∙ ap (λ (m : Bool). regex_of (folded z.args.s_mark z.args.s.now) (folded m z.args.p.now)) (sym c.if-p_mark.false)
+    c.fits_plain.ensures ∙ ap (regex_of (folded c.args.s_mark c.args.s.now)) (sym (not_folded c.args.p.now)) ∙ ap (λ (m : Bool). regex_of (folded c.args.s_mark c.args.s.now) (folded m c.args.p.now)) (sym c.if-p_mark.false)

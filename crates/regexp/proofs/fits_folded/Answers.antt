@@ -10,11 +10,11 @@ use Rattle.regexp.proofs.fits_folded.Goals as goal
 
 pub returns-then-n-gt4096 : goal.returns-then-n-gt4096
 returns-then-n-gt4096 c =
-    let z = c.before.before.before.before in regex_long (folded z.args.s_mark z.args.s.now) (folded true z.args.p.now) (rw (folded_length z.args.p.now) (omega arith))
+    regex_long (folded c.args.s_mark c.args.s.now) (folded true c.args.p.now) (rw (folded_length c.args.p.now) (omega arith))
 
 pub copy_folded-requires : goal.copy_folded-requires
 copy_folded-requires c = omega (arith, c.if-n-gt4096)
 
 pub returns : goal.returns
 returns c =
-    let z = c.before.before.before.before.before.before.before.before.before.before in folded_part (folded z.args.s_mark z.args.s.now) z.args.p.now _ _ c.fits_plain.ensures c.copy_folded.ensures
+    folded_part (folded c.args.s_mark c.args.s.now) c.args.p.now _ _ c.fits_plain.ensures c.copy_folded.ensures

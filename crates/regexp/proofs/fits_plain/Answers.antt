@@ -18,4 +18,4 @@ returns-then-p-le4096 c = c.search_long.ensures
 
 pub returns : goal.returns
 returns c =
-    let z = c.before.before.before.before.before.before in regex_long (folded z.args.s_mark z.args.s.now) z.args.p.now (omega arith)
+    regex_long (folded c.args.s_mark c.args.s.now) c.args.p.now (omega arith)

@@ -14,8 +14,8 @@ branch-n-requires c =
 
 pub returns-in_Branch-n : goal.returns-in_Branch-n
 returns-in_Branch-n c =
-    let a = c.args in table_turn a.text.now a.i a.first c.hat-h.result c.hat-h.ensures c.past.result c.past.ensures _ _ c.n-1.given.0.0 c.n-1.given.0.1.0 c.n-1.given.0.1.1.0 (rw c.n-1.given.1 at c.branch-n.ensures) c.behind.result c.behind.ensures
+    let a = c.args in table_turn a.text.now a.i a.first c.hat-h.result c.hat-h.ensures c.past.result c.past.ensures _ _ c.in_Branch-n.n c.in_Branch-n.some c.in_Branch-n.j (rw c.in_Branch-n.is at c.branch-n.ensures) c.behind.result c.behind.ensures
 
 pub returns-in_Bad-n : goal.returns-in_Bad-n
 returns-in_Bad-n c =
-    let a = c.args in table_bad a.text.now a.i a.first c.hat-h.result c.hat-h.ensures c.past.result c.past.ensures [] [] (rw c.enum_told-1.given.1 at c.branch-n.ensures)
+    let a = c.args in table_bad a.text.now a.i a.first c.hat-h.result c.hat-h.ensures c.past.result c.past.ensures [] [] (rw c.in_Bad-n.is at c.branch-n.ensures)

@@ -12,8 +12,8 @@ branch_end-requires c = let a = c.args in rw c.past.ensures (from_inside a.text.
 
 pub returns-in-Branch : goal.returns-in-Branch
 returns-in-Branch c =
-    let a = c.args in turn a.text.now a.i a.first c.hat-h.result c.hat-h.ensures c.past.result c.past.ensures c.n-1.given.0.0 c.n-1.given.0.1.0 c.n-1.given.0.1.1.0 (rw c.n-1.given.1 at c.branch_end.ensures) c.behind.result c.behind.ensures
+    let a = c.args in turn a.text.now a.i a.first c.hat-h.result c.hat-h.ensures c.past.result c.past.ensures c.in-Branch.n c.in-Branch.some c.in-Branch.j (rw c.in-Branch.is at c.branch_end.ensures) c.behind.result c.behind.ensures
 
 pub returns-in-Bad : goal.returns-in-Bad
 returns-in-Bad c =
-    let a = c.args in turn_bad a.text.now a.i a.first c.hat-h.result c.hat-h.ensures c.past.result c.past.ensures (rw c.enum_told-1.given.1 at c.branch_end.ensures)
+    let a = c.args in turn_bad a.text.now a.i a.first c.hat-h.result c.hat-h.ensures c.past.result c.past.ensures (rw c.in-Bad.is at c.branch_end.ensures)

@@ -7,8 +7,8 @@ use Rattle.regexp.proofs.search_middle.Goals as goal
 
 pub search-requires : goal.search-requires
 search-requires c =
-    let z = c.before.before.before.before.before.before in (omega (arith, z.requires), z.requires, z.requires, z.requires)
+    (omega (arith, c.requires), c.requires, c.requires, c.requires)
 
 pub returns : goal.returns
 returns c =
-    let z = c.before.before.before.before.before.before.before.before.before.before in regex_short (folded z.args.s_mark z.args.s.now) z.args.p.now (omega (arith, z.requires)) _ c.search.ensures
+    regex_short (folded c.args.s_mark c.args.s.now) c.args.p.now (omega (arith, c.requires)) _ c.search.ensures
