@@ -13,5 +13,5 @@ overflow_cast-y c = wide_fits c.args.y c.ranges.y
 
 pub returns : goal.returns
 returns c =
-    let s : tie.Start = search in let x = s.args.x in let y = s.args.y in
-    c.of_bool.ensures ∙ two_int32 eq (Int32 x) (Int32 y) refl x y s.fits.x s.fits.y refl refl c.equal_i64.ensures
+    let x = c.args.x in let y = c.args.y in
+    c.of_bool.ensures ∙ two_int32 eq (Int32 x) (Int32 y) refl x y c.ranges.x c.ranges.y refl refl c.equal_i64.ensures

@@ -7,27 +7,27 @@ use Rattle.number.proofs.Numbers.{compared, reread, int32_left}
 use Rattle.number.proofs.int32_equal.Goals as goal
 
 pub overflow_cast-x : goal.overflow_cast-x
-overflow_cast-x c = let s = c.before.before.before.before in wide_fits s.args.x s.ranges.x
+overflow_cast-x c = wide_fits c.args.x c.ranges.x
 
 pub overflow_cast-y : goal.overflow_cast-y
-overflow_cast-y c = wide_fits c.b-1.given.0.0 (record { sfits = c.known_told-1.given.0.1 })
+overflow_cast-y c = wide_fits c.in-Int32.y (record { sfits = search rules })
 
 pub overflow_cast-x-in-Int64 : goal.overflow_cast-x-in-Int64
-overflow_cast-x-in-Int64 c = let s = c.before.before.before.before in wide_fits s.args.x s.ranges.x
+overflow_cast-x-in-Int64 c = wide_fits c.args.x c.ranges.x
 
 pub returns-in-Int32 : goal.returns-in-Int32
 returns-in-Int32 c =
-    let e = c.before.before in let m = e.before in let g = m.before in let s = g.before.before in let x = s.args.x in let y = g.b-1.given.0.0 in
+    let x = c.args.x in let y = c.in-Int32.y in
     c.of_bool.ensures
-    ∙ compared eq (Int32 x) (Int32 y) s.args.b refl refl g.b-1.given.1 (e.equal_i64.ensures ∙ reread eq (wide_is x s.ranges.x) (wide_is y (record { sfits = m.known_told-1.given.0.1 })))
+    ∙ compared eq (Int32 x) (Int32 y) c.args.b refl refl c.in-Int32.is (c.equal_i64.ensures ∙ reread eq (wide_is x c.ranges.x) (wide_is y (record { sfits = search rules })))
 
 pub returns-in-Int64 : goal.returns-in-Int64
 returns-in-Int64 c =
-    let e = c.before.before in let m = e.before in let g = m.before in let s = g.before.before in let x = s.args.x in let y = g.b-in-Int64-1.given.0.0 in
+    let x = c.args.x in let y = c.in-Int64.y in
     c.of_bool-in-Int64.ensures
-    ∙ compared eq (Int32 x) (Int64 y) s.args.b refl refl g.b-in-Int64-1.given.1 (e.equal_i64-in-Int64.ensures ∙ reread eq (wide_is x s.ranges.x) (to_z-of_z w64 y (record { sfits = m.known_told-in-Int64-1.given.0.1 })))
+    ∙ compared eq (Int32 x) (Int64 y) c.args.b refl refl c.in-Int64.is (c.equal_i64-in-Int64.ensures ∙ reread eq (wide_is x c.ranges.x) (to_z-of_z w64 y (record { sfits = search rules })))
 
 pub returns-in-Real : goal.returns-in-Real
 returns-in-Real c =
-    let m = c.before.before.before in let g = m.before in let s = g.before.before in let x = s.args.x in let y = g.b-in-Real-1.given.0.0 in
-    c.of_bool-in-Real.ensures ∙ compared eq (Int32 x) (Real y) s.args.b refl refl g.b-in-Real-1.given.1 (int32_left x s.ranges.x y).same
+    let x = c.args.x in let y = c.in-Real.y in
+    c.of_bool-in-Real.ensures ∙ compared eq (Int32 x) (Real y) c.args.b refl refl c.in-Real.is (int32_left x c.ranges.x y).same

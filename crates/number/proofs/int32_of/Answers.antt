@@ -4,13 +4,13 @@ use Rattle.number.specs.Number.{int32Of}
 use Rattle.number.proofs.int32_of.Goals as goal
 
 pub returns-in-Int32 : goal.returns-in-Int32
-returns-in-Int32 c = to_z-of_z w32 _ (record { sfits = c.known_told-1.given.0.1 }) ∙ sym (ap int32Of c.a-1.given.1)
+returns-in-Int32 c = to_z-of_z w32 c.in-Int32.x (record { sfits = search rules }) ∙ sym (ap int32Of c.in-Int32.is)
 
 pub returns-in-Int64 : goal.returns-in-Int64
-returns-in-Int64 c = sym (ap int32Of c.enum_told-1.given.1)
+returns-in-Int64 c = sym (ap int32Of c.in-Int64.is)
 
 pub returns-in-Real : goal.returns-in-Real
-returns-in-Real c = sym (ap int32Of c.enum_told-in-Real-1.given.1)
+returns-in-Real c = sym (ap int32Of c.in-Real.is)
 
 pub returns-in-None : goal.returns-in-None
-returns-in-None c = sym (ap int32Of c.enum_told-in-None-1.given.1)
+returns-in-None c = sym (ap int32Of c.in-None.is)

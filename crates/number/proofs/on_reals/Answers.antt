@@ -4,11 +4,9 @@ use Rattle.number.proofs.on_reals.Goals as goal
 
 pub returns-then-is_real : goal.returns-then-is_real
 returns-then-is_real c =
-    let v2 = c.before.before in let v1 = v2.before in let i = v1.before in let r2 = i.before in let r1 = r2.before in let s = r1.before in
     c.real_arithmetic.ensures
-    ∙ reals_are s.args.op s.args.a s.args.b _ _ (joined r1.is_real.ensures r2.is_real-2.ensures i.if-is_real.true) v1.real_of.ensures v2.real_of-then-is_real.ensures
+    ∙ reals_are c.args.op c.args.a c.args.b _ _ (joined c.is_real.ensures c.is_real-2.ensures c.if-is_real.true) c.real_of.ensures c.real_of-then-is_real.ensures
 
 pub returns : goal.returns
 returns c =
-    let r2 = c.before.before in let r1 = r2.before in let s = r1.before in
-    no_reals s.args.op s.args.a s.args.b (joined r1.is_real.ensures r2.is_real-2.ensures c.if-is_real.false)
+    no_reals c.args.op c.args.a c.args.b (joined c.is_real.ensures c.is_real-2.ensures c.if-is_real.false)

@@ -4,10 +4,8 @@ use Rattle.number.proofs.places_in.Goals as goal
 
 pub returns-in-First : goal.returns-in-First
 returns-in-First c =
-    let t = c.before.before in let s = t.before.before in
-    first_count s.args.edition s.args.width s.args.b _ t.enum_told-1.given.1 c.places.ensures
+    first_count c.args.edition c.args.width c.args.b _ c.in-First.is c.places.ensures
 
 pub returns-in-Second : goal.returns-in-Second
 returns-in-Second c =
-    let t = c.before.before in let s = t.before.before in
-    second_count s.args.edition s.args.width s.args.b _ t.enum_told-in-Second-1.given.1 c.remainder_places.ensures
+    second_count c.args.edition c.args.width c.args.b _ c.in-Second.is c.remainder_places.ensures

@@ -6,16 +6,15 @@ use Rattle.number.proofs.real_equal.Goals as goal
 
 pub returns-in-Int32 : goal.returns-in-Int32
 returns-in-Int32 c =
-    let m = c.before.before.before in let g = m.before in let s = g.before.before in let x = s.args.x in let y = g.b-1.given.0.0 in
-    c.of_bool.ensures ∙ compared eq (Real x) (Int32 y) s.args.b refl refl g.b-1.given.1 (int32_right y (record { sfits = m.known_told-1.given.0.1 }) x).same
+    let x = c.args.x in let y = c.in-Int32.y in
+    c.of_bool.ensures ∙ compared eq (Real x) (Int32 y) c.args.b refl refl c.in-Int32.is (int32_right y (record { sfits = search rules }) x).same
 
 pub returns-in-Int64 : goal.returns-in-Int64
 returns-in-Int64 c =
-    let q = c.before.before in let m = q.before in let g = m.before in let s = g.before.before in let x = s.args.x in let y = g.b-in-Int64-1.given.0.0 in
+    let x = c.args.x in let y = c.in-Int64.y in
     c.of_bool-in-Int64.ensures
-    ∙ compared eq (Real x) (Int64 y) s.args.b refl refl g.b-in-Int64-1.given.1 (equal_right y m.known_told-in-Int64-1.given.0.1 x q.equal.ensures)
+    ∙ compared eq (Real x) (Int64 y) c.args.b refl refl c.in-Int64.is (equal_right y (search rules) x c.equal.ensures)
 
 pub returns-in-Real : goal.returns-in-Real
 returns-in-Real c =
-    let m = c.before.before in let g = m.before in let s = g.before.before in
-    c.of_bool-in-Real.ensures ∙ compared eq (Real s.args.x) (Real g.b-in-Real-1.given.0.0) s.args.b refl refl g.b-in-Real-1.given.1 refl
+    c.of_bool-in-Real.ensures ∙ compared eq (Real c.args.x) (Real c.in-Real.y) c.args.b refl refl c.in-Real.is refl

@@ -4,10 +4,10 @@ use Rattle.number.proofs.Numbers.{zero_real_lem}
 use Rattle.number.proofs.real_of.Goals as goal
 
 pub returns-in-Int32 : goal.returns-in-Int32
-returns-in-Int32 c = zero_real_lem ∙ sym (ap real_of c.enum_told-1.given.1)
+returns-in-Int32 c = zero_real_lem ∙ sym (ap real_of c.in-Int32.is)
 
 pub returns-in-Int64 : goal.returns-in-Int64
-returns-in-Int64 c = zero_real_lem ∙ sym (ap real_of c.enum_told-in-Int64-1.given.1)
+returns-in-Int64 c = zero_real_lem ∙ sym (ap real_of c.in-Int64.is)
 
 pub returns-in-None : goal.returns-in-None
-returns-in-None c = zero_real_lem ∙ sym (ap real_of c.enum_told-in-None-1.given.1)
+returns-in-None c = zero_real_lem ∙ sym (ap real_of c.in-None.is)

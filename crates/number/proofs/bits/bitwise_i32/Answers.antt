@@ -5,12 +5,12 @@ use Rattle.number.proofs.bits.bitwise_i32.Goals as goal
 
 pub returns-in-And : goal.returns-in-And
 returns-in-And c =
-    let s = c.before.before.before in sym (ap (λ (o : Bitwise). on_bits o w32 s.args.a s.args.b) c.enum_told-1.given.1)
+    sym (ap (λ (o : Bitwise). on_bits o w32 c.args.a c.args.b) c.in-And.is)
 
 pub returns-in-Xor : goal.returns-in-Xor
 returns-in-Xor c =
-    let s = c.before.before.before in sym (ap (λ (o : Bitwise). on_bits o w32 s.args.a s.args.b) c.enum_told-in-Xor-1.given.1)
+    sym (ap (λ (o : Bitwise). on_bits o w32 c.args.a c.args.b) c.in-Xor.is)
 
 pub returns-in-Or : goal.returns-in-Or
 returns-in-Or c =
-    let s = c.before.before.before in sym (ap (λ (o : Bitwise). on_bits o w32 s.args.a s.args.b) c.enum_told-in-Or-1.given.1)
+    sym (ap (λ (o : Bitwise). on_bits o w32 c.args.a c.args.b) c.in-Or.is)

@@ -6,11 +6,11 @@ returns-then-z-ltminus2147483648 c = too_low c.args.z c.ranges.z c.if-z-ltminus2
 
 pub overflow_cast-result : goal.overflow_cast-result
 overflow_cast-result c =
-    let s = c.before.before.before in small_fits s.args.z s.ranges.z c.if-z-ltminus2147483648.false c.if-z-lt2147483648.true
+    small_fits c.args.z c.ranges.z c.if-z-ltminus2147483648.false c.if-z-lt2147483648.true
 
 pub returns-then-z-lt2147483648 : goal.returns-then-z-lt2147483648
 returns-then-z-lt2147483648 c =
-    let s = c.before.before.before in small_is s.args.z s.ranges.z c.if-z-ltminus2147483648.false c.if-z-lt2147483648.true
+    small_is c.args.z c.ranges.z c.if-z-ltminus2147483648.false c.if-z-lt2147483648.true
 
 pub returns : goal.returns
-returns c = let s = c.before.before.before in too_high s.args.z s.ranges.z c.if-z-lt2147483648.false
+returns c = too_high c.args.z c.ranges.z c.if-z-lt2147483648.false

@@ -6,10 +6,10 @@ pub returns-then-n-eq0 : goal.returns-then-n-eq0
 returns-then-n-eq0 c = none_is c.args.m c.args.n c.if-n-eq0.true
 
 pub returns-then-n-m : goal.returns-then-n-m
-returns-then-n-m c = let s = c.before.before.before in past_is s.args.m s.args.n c.if-n-eq0.false c.if-n-m.true
+returns-then-n-m c = past_is c.args.m c.args.n c.if-n-eq0.false c.if-n-m.true
 
 pub overflow_mul-result : goal.overflow_mul-result
-overflow_mul-result c = let s = c.before.before.before in holds_in s.args.m s.args.n c.if-n-eq0.false c.if-n-m.false
+overflow_mul-result c = holds_in c.args.m c.args.n c.if-n-eq0.false c.if-n-m.false
 
 pub returns : goal.returns
-returns c = let s = c.before.before.before in held_is s.args.m s.args.n c.if-n-eq0.false c.if-n-m.false
+returns c = held_is c.args.m c.args.n c.if-n-eq0.false c.if-n-m.false

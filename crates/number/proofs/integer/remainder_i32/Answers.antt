@@ -4,15 +4,12 @@ use Rattle.number.proofs.integer.remainder_i32.Goals as goal
 
 pub returns-then-leaves_i32 : goal.returns-then-leaves_i32
 returns-then-leaves_i32 c =
-    let l = c.before.before in let s = l.before in
-    remainder_out w32 s.args.a s.args.b s.ranges.a s.ranges.b _ l.leaves_i32.ensures c.if-leaves_i32.true
+    remainder_out w32 c.args.a c.args.b c.ranges.a c.ranges.b _ c.leaves_i32.ensures c.if-leaves_i32.true
 
 pub nonzero_rem-result : goal.nonzero_rem-result
 nonzero_rem-result c =
-    let l = c.before.before in let s = l.before in
-    asked w32 s.args.a s.args.b s.ranges.a s.ranges.b _ l.leaves_i32.ensures s.requires c.if-leaves_i32.false
+    asked w32 c.args.a c.args.b c.ranges.a c.ranges.b _ c.leaves_i32.ensures c.requires c.if-leaves_i32.false
 
 pub returns : goal.returns
 returns c =
-    let l = c.before.before in let s = l.before in
-    remainder_is w32 s.args.a s.args.b s.ranges.a s.ranges.b _ l.leaves_i32.ensures
+    remainder_is w32 c.args.a c.args.b c.ranges.a c.ranges.b _ c.leaves_i32.ensures
