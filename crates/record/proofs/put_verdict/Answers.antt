@@ -9,12 +9,12 @@ use Rattle.record.proofs.put_verdict.Goals as goal
 
 pub returns-in-True : goal.returns-in-True
 returns-in-True c =
-    spelled (verdict_of True) (verdict_of c.args.t) (sym (ap verdict_of c.enum_told-1.given.1)) (omega arith) c.put_bytes.ensures
+    spelled (verdict_of True) (verdict_of c.args.t) (sym (ap verdict_of c.in-True.is)) (omega arith) c.put_bytes.ensures
 
 pub returns-in-False : goal.returns-in-False
 returns-in-False c =
-    spelled (verdict_of False) (verdict_of c.args.t) (sym (ap verdict_of c.enum_told-in-False-1.given.1)) (omega arith) c.put_bytes-in-False.ensures
+    spelled (verdict_of False) (verdict_of c.args.t) (sym (ap verdict_of c.in-False.is)) (omega arith) c.put_bytes-in-False.ensures
 
 pub returns-in-Bottom : goal.returns-in-Bottom
 returns-in-Bottom c =
-    spelled (verdict_of Bottom) (verdict_of c.args.t) (sym (ap verdict_of c.enum_told-in-Bottom-1.given.1)) (omega arith) c.put_bytes-in-Bottom.ensures
+    spelled (verdict_of Bottom) (verdict_of c.args.t) (sym (ap verdict_of c.in-Bottom.is)) (omega arith) c.put_bytes-in-Bottom.ensures
