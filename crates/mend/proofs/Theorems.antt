@@ -64,12 +64,12 @@ module _ (s list notice : List ℕ) (m : MendCall s list notice) (z : m.answer.n
 
   result : result_of m ≡ notice_of s
   result =
-      let n : m.notice_after ≡ onto (notice_of s) notice = m.promise.2 ∙ ap (λ (k : ℕ). cond (eqb k 0) (onto (notice_of s) notice) notice) none_refused in
+      let n : m.after_notice ≡ onto (notice_of s) notice = m.promise.2 ∙ ap (λ (k : ℕ). cond (eqb k 0) (onto (notice_of s) notice) notice) none_refused in
       ap₂ (λ (a : Mended) (x : List ℕ). take a.length x) answered n ∙ take_at (notice_of s) (drop (length (notice_of s)) notice) (length (notice_of s)) refl
 
   listed : listed_in m ≡ list_of s
   listed =
-      let l : m.list_after ≡ onto (list_bytes (list_of s)) list = m.promise.1 ∙ ap (λ (k : ℕ). cond (eqb k 0) (onto (list_bytes (list_of s)) list) list) none_refused in
+      let l : m.after_list ≡ onto (list_bytes (list_of s)) list = m.promise.1 ∙ ap (λ (k : ℕ). cond (eqb k 0) (onto (list_bytes (list_of s)) list) list) none_refused in
       let below : Each (λ (e : Entry). e.offset < 65536) (list_of s) = each_map (list_of s) (λ e h. omega (arith, h.0, accepted.short)) (listed_below (length s) s [] 8) in
       ap₂ (λ (a : Mended) (x : List ℕ). entries_in a.fields x) answered l ∙ entries_read (list_of s) (drop (length (list_bytes (list_of s))) list) below
 

@@ -18,7 +18,7 @@ pub record MendCall (s list notice : List ℕ) : Type 0 where
 
 -- the notice that a call leaves, of the length that it answers
 abbrev pub result_of : {s list notice : List ℕ} → MendCall s list notice → List ℕ
-result_of m = take m.answer.length m.notice_after
+result_of m = take m.answer.length m.after_notice
 
 -- the list that a call leaves, of as many fields as it answers: "3 bytes a field, u16 offset and one byte 0..4"
 unfoldable pub entries_in : ℕ → List ℕ → List Entry
@@ -26,7 +26,7 @@ entries_in zero l = []
 entries_in (suc n) l = record { offset = word_at 2 l 0; code = get_or l 2 0 } ∷ entries_in n (drop 3 l)
 
 abbrev pub listed_in : {s list notice : List ℕ} → MendCall s list notice → List Entry
-listed_in m = entries_in m.answer.fields m.list_after
+listed_in m = entries_in m.answer.fields m.after_list
 
 -- What a reader of the lent buffer finds is the list of the walk.
 abbrev pub ListRead : Type 0
@@ -54,8 +54,8 @@ all_kept ats = map (λ at. record { offset = at; code = 0 }) ats
 -- bytes that come out the same, with each of their fields listed as kept
 pub record ComesOut (s list notice : List ℕ) (m : MendCall s list notice) : Type 0 where
   pub answer_is : m.answer ≡ record { number = 0; place = 0; length = length s; fields = count_of s }
-  pub same_bytes : m.notice_after ≡ onto s notice
-  pub every_kept : m.list_after ≡ onto (list_bytes (all_kept (starts_of s))) list
+  pub same_bytes : m.after_notice ≡ onto s notice
+  pub every_kept : m.after_list ≡ onto (list_bytes (all_kept (starts_of s))) list
 
 -- "A well-formed notice comes out the same, with every field kept."
 abbrev pub Unchanged : Type 0
@@ -87,13 +87,13 @@ SingleByteCut = (s : List ℕ) (at : ℕ) → length s ≡ at + 1 → cut_at s a
 abbrev pub HeaderNotBelieved : Type 0
 HeaderNotBelieved =
     (s t list notice : List ℕ) → length s ≡ length t → drop 8 s ≡ drop 8 t → (m : MendCall s list notice) (k : MendCall t list notice)
-    → (m.answer ≡ k.answer) × (m.list_after ≡ k.list_after) × (m.notice_after ≡ k.notice_after)
+    → (m.answer ≡ k.answer) × (m.after_list ≡ k.after_list) × (m.after_notice ≡ k.after_notice)
 
 -- "the last two 0 if refused", "nothing is written then"
 abbrev pub NothingWritten : Type 0
 NothingWritten =
     (s list notice : List ℕ) (m : MendCall s list notice) → (m.answer.number ≡ 0 → ⊥)
-    → (m.answer.length ≡ 0) × (m.answer.fields ≡ 0) × (m.list_after ≡ list) × (m.notice_after ≡ notice)
+    → (m.answer.length ≡ 0) × (m.answer.fields ≡ 0) × (m.after_list ≡ list) × (m.after_notice ≡ notice)
 
 -- Examples: eight bytes of any header, then the fields `b`, `a`, `b` again, one of kind 9, and a single byte.
 abbrev pub damaged : List ℕ

@@ -17,7 +17,7 @@ returns c =
     let w2 = c.write_u64-2 in
     let w3 = c.write_u64-3 in
     let w4 = c.write_u64-4 in
-    let one = first_word s bytes a.from d w1.new.0 a.to c.read_u64-a.result c.read_u64-a.ensures w1.ensures (omega arith) in
-    let two = word_copied s bytes a.from d w1.new.0 w2.new.0 a.to 8 c.read_u64-b.result 16 one c.read_u64-b.ensures w2.ensures (omega arith) refl in
-    let three = word_copied s bytes a.from d w2.new.0 w3.new.0 a.to 16 c.read_u64-c.result 24 two c.read_u64-c.ensures w3.ensures (omega arith) refl in
-    word_copied s bytes a.from d w3.new.0 w4.new.0 a.to 24 c.read_u64-d.result 32 three c.read_u64-d.ensures w4.ensures (omega arith) refl
+    let one = first_word s bytes a.from d w1.new.d a.to c.read_u64-a.result c.read_u64-a.ensures w1.ensures (omega arith) in
+    let two = word_copied s bytes a.from d w1.new.d w2.new.d a.to 8 c.read_u64-b.result 16 one c.read_u64-b.ensures w2.ensures (omega arith) refl in
+    let three = word_copied s bytes a.from d w2.new.d w3.new.d a.to 16 c.read_u64-c.result 24 two c.read_u64-c.ensures w3.ensures (omega arith) refl in
+    word_copied s bytes a.from d w3.new.d w4.new.d a.to 24 c.read_u64-d.result 32 three c.read_u64-d.ensures w4.ensures (omega arith) refl

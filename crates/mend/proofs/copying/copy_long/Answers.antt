@@ -31,7 +31,7 @@ loop-i-preserved c =
     let a = c.args in
     let l = c.loop-i in
     let k = c.copy_block in
-    (omega (arith, c.loop-i-test.true), k.auto.0 ∙ l.invariant.1, more_copied a.buffer.now l.buffer k.new.0 a.s.now a.at l.i 32 l.invariant.2 k.ensures (omega (arith, c.loop-i-test.true)))
+    (omega (arith, c.loop-i-test.true), k.auto.buffer ∙ l.invariant.1, more_copied a.buffer.now l.buffer k.new.buffer a.s.now a.at l.i 32 l.invariant.2 k.ensures (omega (arith, c.loop-i-test.true)))
 
 pub overflow_add-at-2 : goal.overflow_add-at-2
 overflow_add-at-2 c = omega (arith, c.requires.0, c.requires.1)
@@ -40,11 +40,11 @@ pub copy_block-requires-2 : goal.copy_block-requires-2
 copy_block-requires-2 c = (omega (arith, c.requires.0, c.requires.1, c.loop-i.invariant.1), omega (arith, c.requires.0))
 
 pub shape_of-buffer : goal.shape_of-buffer
-shape_of-buffer c = c.copy_block-2.auto.0 ∙ c.loop-i.invariant.1
+shape_of-buffer c = c.copy_block-2.auto.buffer ∙ c.loop-i.invariant.1
 
 pub returns : goal.returns
 returns c =
     let a = c.args in
     let l = c.loop-i in
     let k = c.copy_block-2 in
-    last_copied a.buffer.now l.buffer k.new.0 a.s.now a.at l.i (length a.s.now - 32) l.invariant.2 k.ensures (omega (arith, c.loop-i-test.false)) (omega (arith, l.invariant.0, c.requires.0)) (omega (arith, c.requires.0)) c.requires.1
+    last_copied a.buffer.now l.buffer k.new.buffer a.s.now a.at l.i (length a.s.now - 32) l.invariant.2 k.ensures (omega (arith, c.loop-i-test.false)) (omega (arith, l.invariant.0, c.requires.0)) (omega (arith, c.requires.0)) c.requires.1

@@ -9,17 +9,7 @@ use Rattle.notice.specs.Write.{place_among}
 use Rattle.notice.proofs.Places.{right_lies}
 use Rattle.mend.specs.Order.{fields_in}
 use Rattle.mend.proofs.Orders.{right_at_lem, place_within, not_after, after}
-use Rattle.mend.proofs.ordering.place_for.Lts as lts
-use Rattle.mend.proofs.ordering.place_for.Tie as tie
-use Rattle.mend.proofs.ordering.place_for.Reads as reads
 use Rattle.mend.proofs.ordering.place_for.Goals as goal
-
--- the field that is compared
-there : (c : lts.In-loop tie.the-claims reads.Pre reads.Post goal.the-invariant-loop-low goal.the-decreases-loop-low) → right_at c.args.bytes.now (get_or c.args.order.now (c.loop-low.low + (c.loop-low.high - c.loop-low.low) / 2) 0) ≡ true
-there c =
-    let a = c.args in
-    let l = c.loop-low in
-    right_at_lem a.bytes.now a.order.now a.n c.requires.1 (l.low + (l.high - l.low) / 2) (omega (arith, c.loop-low-test.true, l.invariant))
 
 pub loop-low-init : goal.loop-low-init
 loop-low-init c =
@@ -39,10 +29,10 @@ pub bounds-order-middle : goal.bounds-order-middle
 bounds-order-middle c = omega (arith, c.loop-low-test.true, c.loop-low.invariant, c.requires.1.few, c.requires.1.long)
 
 pub overflow_cast-order : goal.overflow_cast-order
-overflow_cast-order c = let l = right_lies c.args.bytes.now _ (there c.before.before) in omega (arith, l.within)
+overflow_cast-order c = let l = right_lies c.args.bytes.now _ (right_at_lem c.args.bytes.now c.args.order.now c.args.n c.requires.1 (c.loop-low.low + (c.loop-low.high - c.loop-low.low) / 2) (omega (arith, c.loop-low-test.true, c.loop-low.invariant))) in omega (arith, l.within)
 
 pub name_before-requires : goal.name_before-requires
-name_before-requires c = (c.requires.0, there c.before.before)
+name_before-requires c = (c.requires.0, (right_at_lem c.args.bytes.now c.args.order.now c.args.n c.requires.1 (c.loop-low.low + (c.loop-low.high - c.loop-low.low) / 2) (omega (arith, c.loop-low-test.true, c.loop-low.invariant))))
 
 pub loop-low-smaller-then-name_before : goal.loop-low-smaller-then-name_before
 loop-low-smaller-then-name_before c = omega (arith, c.loop-low-test.true)

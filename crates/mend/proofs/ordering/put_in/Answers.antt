@@ -13,6 +13,6 @@ pub returns : goal.returns
 returns c =
     let a = c.args in
     let p = c.requires in (
-      length-set c.make_place.new.0 a.place a.at ∙ (ap length c.make_place.ensures ∙ (length-sets a.order.now (a.place + 1) (take (a.n - a.place) (drop a.place a.order.now)) ∙ p.0)),
+      length-set c.make_place.new.order a.place a.at ∙ (ap length c.make_place.ensures ∙ (length-sets a.order.now (a.place + 1) (take (a.n - a.place) (drop a.place a.order.now)) ∙ p.0)),
       ap (λ (l : List ℕ). take (a.n + 1) (set l a.place a.at)) c.make_place.ensures ∙ places_more a.order.now a.n a.place a.at p.1 (omega (arith, p.0, p.2)),
     )

@@ -8,16 +8,7 @@ use Rattle.notice.specs.Layout.{name_at, right_at}
 use Rattle.notice.proofs.Places.{right_lies}
 use Rattle.mend.proofs.Orders.{right_at_lem, place_within, first_new, by_before}
 use borrow.Author.Rules.{rules}
-use Rattle.mend.proofs.ordering.repeated.Lts as lts
-use Rattle.mend.proofs.ordering.repeated.Tie as tie
-use Rattle.mend.proofs.ordering.repeated.Reads as reads
 use Rattle.mend.proofs.ordering.repeated.Goals as goal
-
-within : (c : lts.Start tie.the-claims reads.Pre reads.Post) → c.args.place ≤ c.args.n
-within c = let w = place_within c.args.bytes.now c.args.order.now c.args.n c.requires.1 (name_at c.args.bytes.now c.args.at) in omega (arith, w, c.requires.2)
-
-there : (c : lts.Else1 tie.the-claims reads.Pre reads.Post) → right_at c.args.bytes.now (get_or c.args.order.now (c.args.place - 1) 0) ≡ true
-there c = let a = c.args in right_at_lem a.bytes.now a.order.now a.n c.requires.1 (a.place - 1) (omega (arith, within c.before.before, c.if-place-eq0.false))
 
 pub returns-then-place-eq0 : goal.returns-then-place-eq0
 returns-then-place-eq0 c =
@@ -25,17 +16,17 @@ returns-then-place-eq0 c =
     sym (first_new a.bytes.now a.order.now a.n c.requires.1 (name_at a.bytes.now a.at) a.place c.requires.2 (omega (arith, c.if-place-eq0.true)))
 
 pub offset_bounds-order-place : goal.offset_bounds-order-place
-offset_bounds-order-place c = omega (arith, within c.before.before.before, c.requires.1.few)
+offset_bounds-order-place c = omega (arith, place_within c.args.bytes.now c.args.order.now c.args.n c.requires.1 (name_at c.args.bytes.now c.args.at), c.requires.2, c.requires.1.few)
 
 pub bounds-order-place : goal.bounds-order-place
 bounds-order-place c =
-    omega (arith, within c.before.before.before, c.if-place-eq0.false, c.requires.1.few, c.requires.1.long)
+    omega (arith, place_within c.args.bytes.now c.args.order.now c.args.n c.requires.1 (name_at c.args.bytes.now c.args.at), c.requires.2, c.if-place-eq0.false, c.requires.1.few, c.requires.1.long)
 
 pub overflow_cast-order : goal.overflow_cast-order
-overflow_cast-order c = let l = right_lies c.args.bytes.now _ (there c.before.before) in omega (arith, l.within)
+overflow_cast-order c = let l = right_lies c.args.bytes.now _ (right_at_lem c.args.bytes.now c.args.order.now c.args.n c.requires.1 (c.args.place - 1) (omega (arith, place_within c.args.bytes.now c.args.order.now c.args.n c.requires.1 (name_at c.args.bytes.now c.args.at), c.requires.2, c.if-place-eq0.false))) in omega (arith, l.within)
 
 pub same_name-requires : goal.same_name-requires
-same_name-requires c = (there c.before.before, c.requires.0)
+same_name-requires c = ((right_at_lem c.args.bytes.now c.args.order.now c.args.n c.requires.1 (c.args.place - 1) (omega (arith, place_within c.args.bytes.now c.args.order.now c.args.n c.requires.1 (name_at c.args.bytes.now c.args.at), c.requires.2, c.if-place-eq0.false))), c.requires.0)
 
 pub returns : goal.returns
 returns c =

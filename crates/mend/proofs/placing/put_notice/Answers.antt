@@ -24,15 +24,15 @@ write_u32-requires c =
 
 pub write_u16-requires : goal.write_u16-requires
 write_u16-requires c =
-    let a = c.args in omega (arith, c.requires.1, c.requires.2, length_render (fields_in a.bytes.now a.order.now a.n), c.write_u32.auto.0)
+    let a = c.args in omega (arith, c.requires.1, c.requires.2, length_render (fields_in a.bytes.now a.order.now a.n), c.write_u32.auto.d)
 
 pub write_u16-requires-2 : goal.write_u16-requires-2
 write_u16-requires-2 c =
-    let a = c.args in omega (arith, c.requires.1, c.requires.2, length_render (fields_in a.bytes.now a.order.now a.n), c.write_u32.auto.0, c.write_u16.auto.0)
+    let a = c.args in omega (arith, c.requires.1, c.requires.2, length_render (fields_in a.bytes.now a.order.now a.n), c.write_u32.auto.d, c.write_u16.auto.d)
 
 pub put_fields-requires : goal.put_fields-requires
 put_fields-requires c =
-    let a = c.args in (c.requires.0, omega (arith, c.requires.1, c.requires.2, length_render (fields_in a.bytes.now a.order.now a.n), c.write_u32.auto.0, c.write_u16.auto.0, c.write_u16-2.auto.0))
+    let a = c.args in (c.requires.0, omega (arith, c.requires.1, c.requires.2, length_render (fields_in a.bytes.now a.order.now a.n), c.write_u32.auto.d, c.write_u16.auto.d, c.write_u16-2.auto.d))
 
 pub returns : goal.returns
 returns c =

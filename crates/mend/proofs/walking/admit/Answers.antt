@@ -20,4 +20,4 @@ put_in-requires c =
 pub returns : goal.returns
 returns c =
     let a = c.args in
-    admitted a.bytes.now a.order.now a.n a.at c.requires.4 c.judge-j.result c.judge-j.ensures c.if-j-gt1.false c.requires.3 c.put_in.new.0 c.put_in.ensures
+    admitted a.bytes.now a.order.now a.n a.at c.requires.4 c.judge-j.result c.judge-j.ensures c.if-j-gt1.false c.requires.3 c.put_in.new.order c.put_in.ensures

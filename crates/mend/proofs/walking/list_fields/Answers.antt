@@ -33,13 +33,13 @@ pub overflow_add-count : goal.overflow_add-count
 overflow_add-count c = let i = c.loop-at in omega (arith, i.invariant.from, i.invariant.below)
 
 pub loop-at-smaller : goal.loop-at-smaller
-loop-at-smaller c = omega (arith, c.loop-at-test.true, c.next_at.ensures.0)
+loop-at-smaller c = omega (arith, c.loop-at-test.true, c.next-at.ensures.0)
 
 pub loop-at-preserved : goal.loop-at-preserved
 loop-at-preserved c =
     let a = c.args in
     let i = c.loop-at in
-    lists_on a.bytes.now a.list.now i.list a.codes.now i.at i.count i.invariant c.loop-at-test.true c.put_entry.new.0 c.next_at.result c.next_at.ensures.0 c.next_at.ensures.1 c.put_entry.ensures
+    lists_on a.bytes.now a.list.now i.list a.codes.now i.at i.count i.invariant c.loop-at-test.true c.put_entry.new.list c.next-at.result c.next-at.ensures.0 c.next-at.ensures.1 c.put_entry.ensures
 
 pub shape_of-list : goal.shape_of-list
 shape_of-list c = c.loop-at.invariant.same_long

@@ -5,4 +5,4 @@ use Rattle.mend.proofs.walking.put_entry.Goals as goal
 
 pub returns : goal.returns
 returns c =
-    entry_stored c.args.list.now c.write_u16.new.0 c.args.place c.args.at c.args.code c.write_u16.ensures
+    entry_stored c.args.list.now c.write_u16.new.d c.args.place c.args.at c.args.code c.write_u16.ensures
