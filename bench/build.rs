@@ -1,4 +1,4 @@
-//! Links the static libraries that `rt staticlib router` and `rt staticlib repeat` write, and says by how many bytes the program's code is moved.
+//! Links the static libraries that `tools/staticlib router` and `tools/staticlib repeat` write, and says by how many bytes the program's code is moved.
 
 use std::path::PathBuf;
 

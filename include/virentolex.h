@@ -1,10 +1,10 @@
 /*
  * Virentolex, a verified notification router core: the interface for C.
- * Link with librouter.a, which `rt staticlib router` writes to target/staticlib/.
+ * Link with librouter.a, which `tools/staticlib router` writes to target/staticlib/.
  *
  * "Document 01" and "document 02" are the customer's papers; docs/FORMATS.md has the layouts of what is
  * lent. Each function answers 0, or the number of a refusal: VIRENTOLEX_REFUSAL_TOKEN and so on, below. Each
- * is proved, for all bytes, to keep its promise in crates/router/src/lib.rt; what stands here is that promise
+ * is proved, for all bytes, to keep its promise in crates/router_c/src/lib.rt; what stands here is that promise
  * in plain words.
  *
  * What every caller must see to, since nothing checks a caller in C:

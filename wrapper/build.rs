@@ -1,4 +1,4 @@
-//! Links librouter.a, which `rt staticlib router` writes. VIRENTOLEX_LIB names its folder; without it
+//! Links librouter.a, which `tools/staticlib router` writes. VIRENTOLEX_LIB names its folder; without it
 //! that is target/staticlib of the repository.
 use std::env;
 use std::path::{Path, PathBuf};
@@ -17,7 +17,7 @@ fn main() {
     println!("cargo::rerun-if-changed={}", archive.display());
     if !archive.is_file() {
         println!(
-            "cargo::error={} is missing: run `rt staticlib router` in the repository, or name the library's folder by VIRENTOLEX_LIB",
+            "cargo::error={} is missing: run `tools/staticlib router` in the repository, or name the library's folder by VIRENTOLEX_LIB",
             archive.display()
         );
         return;

@@ -10,7 +10,7 @@ pub fn started(path: &str) -> Result<(), String> {
     match command.status() {
         Ok(_) => Ok(()),
         Err(error) if error.kind() == ErrorKind::NotFound => Err(format!(
-            "{path} is not built: run `rt check verdict`, or name the program by --program"
+            "{path} is not built: run `tools/program verdict`, or name the program by --program"
         )),
         Err(error) => Err(format!("{path} cannot be run: {error}")),
     }

@@ -10,7 +10,7 @@ fn compare(words: &[&str]) -> Output {
 fn a_program_that_is_not_built_is_no_difference() {
     let ran = compare(&["--cases", "5", "--program", "no-such-folder/verdict"]);
     let told = String::from_utf8(ran.stderr).unwrap();
-    let meant = "compare: no-such-folder/verdict is not built: run `rt check verdict`, or name the program by --program\n";
+    let meant = "compare: no-such-folder/verdict is not built: run `tools/program verdict`, or name the program by --program\n";
     assert_eq!((ran.status.code(), told.as_str()), (Some(2), meant));
     assert_eq!(ran.stdout, b"");
 }

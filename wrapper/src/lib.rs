@@ -45,7 +45,7 @@
 //! # fn main() {}
 //! ```
 //!
-//! The build links librouter.a, which `rt staticlib router` writes to target/staticlib of the repository; the variable
+//! The build links librouter.a, which `tools/staticlib router` writes to target/staticlib of the repository; the variable
 //! VIRENTOLEX_LIB names another folder.
 //!
 //! Features: `std` (by default) makes a refusal a `std::io::Error` where one is asked; `alloc` alone gives the owned
