@@ -9,9 +9,9 @@ use Rattle.opcode.specs.declared.Binary.{Binary}
 use Rattle.opcode.specs.declared.Op.{Op}
 use Rattle.table.specs.Table.{Entry}
 use Rattle.table.specs.Check.{op_right, skip_op}
-use Rattle.table.specs.Groups.{group_of, right_by_lem, takes_by, gives_by, skip_by}
+use Rattle.table.specs.Groups.{group_of, right_by, takes_by, gives_by, skip_by}
 
-pub right_grouped : (pool : List ℕ) (op : Op) (e : Entry) → right_by_lem pool (group_of op) e ≡ op_right pool op e
+pub right_grouped : (pool : List ℕ) (op : Op) (e : Entry) → right_by pool (group_of op) e ≡ op_right pool op e
 right_grouped pool (Op.Load Load.Int32) e = refl
 right_grouped pool (Op.Load Load.Int64) e = refl
 right_grouped pool (Op.Load Load.Real64) e = refl

@@ -16,7 +16,7 @@ use Rattle.common.proofs.Choice.{false_true}
 use Rattle.opcode.specs.Opcode.{op_of, Kind, logic}
 use Rattle.table.specs.Table.{Entry, count_of, entry_at, entries_of, pool_of, layout_of}
 use Rattle.table.specs.Check.{entry_right, pop, push, after, shape_from, shape_at, is_skip, same_shape, skip_right, patterns_before, check_of}
-use Rattle.table.specs.Groups.{group_of, right_by_lem, takes_by, gives_by, skip_by}
+use Rattle.table.specs.Groups.{group_of, right_by, takes_by, gives_by, skip_by}
 use Rattle.table.specs.declared.groups.Group.{Group}
 use Rattle.table.specs.Number.{number_of, met_by, Landed}
 use Rattle.table.proofs.Tests.{are_true, both_true}
@@ -35,9 +35,9 @@ abbrev placed : List ℕ → List Entry → ℕ → Entry → Bool
 placed names es i x = entry_right names x && patterns_before names es i x
 
 pub right_by_lem : (names : List ℕ) (es : List Entry) (i : ℕ) (g : Group) (y x : Entry) (r : Bool) → y ≡ x → g ≡ group_of (op_of y.op)
-    → r ≡ (right_by_lem names g y && patterns_before names es i y) → r ≡ placed names es i x
+    → r ≡ (right_by names g y && patterns_before names es i y) → r ≡ placed names es i x
 right_by_lem names es i g y x r q e f =
-    f ∙ ap (λ (b : Bool). b && patterns_before names es i y) (ap (λ (h : Group). right_by_lem names h y) e ∙ right_grouped names (op_of y.op) y) ∙ ap (placed names es i) q
+    f ∙ ap (λ (b : Bool). b && patterns_before names es i y) (ap (λ (h : Group). right_by names h y) e ∙ right_grouped names (op_of y.op) y) ∙ ap (placed names es i) q
 
 pub landed_by : (g : Group) (y x : Entry) (m n i c : ℕ) (w v : List ℕ) (r : Bool) → y ≡ x → m ≡ n → g ≡ group_of (op_of y.op)
     → Landed (skip_by g) m (i + y.a + 1) c w v r → Landed (is_skip x) n (i + x.a + 1) c w v r

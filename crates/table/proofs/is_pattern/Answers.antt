@@ -14,13 +14,13 @@ pub returns-in-60 : goal.returns-in-60
 returns-in-60 c =
     λ test e.
     let a = c.args in
-    c.well_formed.ensures ∙ ap (λ (t : List ℕ → Bool). t a.p.now) (the_test a.number 60 well_formed test c.in_default.keys1 refl e)
+    c.well_formed-in-60.ensures ∙ ap (λ (t : List ℕ → Bool). t a.p.now) (the_test a.number 60 well_formed test c.in-60.is refl e)
 
 pub returns-in-61 : goal.returns-in-61
 returns-in-61 c =
     λ test e.
     let a = c.args in
-    c.well_formed-in-60.ensures ∙ ap (λ (t : List ℕ → Bool). t a.p.now) (the_test a.number 61 regexFormed test c.in_default.keys2 refl e)
+    c.well_formed-in-61.ensures ∙ ap (λ (t : List ℕ → Bool). t a.p.now) (the_test a.number 61 regexFormed test c.in-61.is refl e)
 
 pub returns-in_default : goal.returns-in_default
-returns-in_default c = λ test e. no_test c.args.number test c.in_default.rest e
+returns-in_default c = λ test e. no_test c.args.number test c.in_default.in_default-own.rest e

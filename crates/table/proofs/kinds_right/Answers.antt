@@ -3,7 +3,6 @@ use mathlib.Core.Path.{◌≡◌, refl, sym, ◌∙◌}
 use Prim.Native.Nat.{◌-◌, ◌<◌}
 use lib.ListN.{length}
 use native.Mathlib.Omega.{arith}
-use borrow.Author.Tests.{not-true, not-false}
 use Rattle.table.specs.Table.{count_of}
 use Rattle.table.proofs.Laid.{laid, inside}
 use Rattle.table.proofs.Passing.{right_by_lem, landed_by, flow_by_lem, Passed, pass_start, pass_unmet, pass_before, pass_wrong, pass_lost, pass-stuck, pass-more, pass_end}
@@ -25,7 +24,7 @@ loop-i-init c = (pass_start c.args.table.now c.args.wanted.now (rw c.requires.1 
 
 pub returns-then-not-meets : goal.returns-then-not-meets
 returns-then-not-meets c =
-    pass_unmet c.args.table.now c.loop-i.wanted c.loop-i.i c.loop-i.c c.loop-i.invariant.0 (sym c.meets.ensures ∙ not-true _ c.if-not-meets.true)
+    pass_unmet c.args.table.now c.loop-i.wanted c.loop-i.i c.loop-i.c c.loop-i.invariant.0 (sym c.meets.ensures ∙ c.if-not-meets.true)
 
 pub entry_at-e-requires : goal.entry_at-e-requires
 entry_at-e-requires c = inside c.args.table.now c.requires.0 c.loop-i.i (omega (arith, c.requires.1))
@@ -44,7 +43,7 @@ returns-then-not-placed_right c =
     let t = c.args.table.now in
     let l = c.loop-i in
     let h : l.i < count_of t = omega (arith, c.requires.1) in
-    pass_wrong t l.wanted l.i l.c l.invariant.0 h _ _ c.pool-strings.ensures (right_by_lem _ _ l.i _ _ _ _ c.entry_at-e.ensures c.group_of-g.ensures c.placed_right.ensures) (not-true _ c.if-not-placed_right.true)
+    pass_wrong t l.wanted l.i l.c l.invariant.0 h _ _ c.pool-strings.ensures (right_by_lem _ _ l.i _ _ _ _ c.entry_at-e.ensures c.group_of-g.ensures c.placed_right.ensures) (c.if-not-placed_right.true)
 
 pub lands_right-requires : goal.lands_right-requires
 lands_right-requires c =
@@ -55,7 +54,7 @@ returns-then-not-lands_right c =
     let t = c.args.table.now in
     let l = c.loop-i in
     let h : l.i < count_of t = omega (arith, c.requires.1) in
-    pass_lost t l.wanted l.i l.c l.invariant.0 h _ _ (landed_by _ _ _ _ _ l.i l.c _ _ _ c.entry_at-e.ensures c.requires.1 c.group_of-g.ensures c.lands_right.ensures) (not-true _ c.if-not-lands_right.true)
+    pass_lost t l.wanted l.i l.c l.invariant.0 h _ _ (landed_by _ _ _ _ _ l.i l.c _ _ _ c.entry_at-e.ensures c.requires.1 c.group_of-g.ensures c.lands_right.ensures) (c.if-not-lands_right.true)
 
 pub returns-then-c-eq0 : goal.returns-then-c-eq0
 returns-then-c-eq0 c =
@@ -71,7 +70,7 @@ loop-i-preserved c =
     let l = c.loop-i in
     let h : l.i < count_of t = omega (arith, c.requires.1) in
     let f = c.flow-c in
-    (pass-more t l.wanted l.i l.c l.invariant.0 h f.result (flow_by_lem _ _ _ _ _ c.entry_at-e.ensures c.group_of-g.ensures f.ensures) (sym c.meets.ensures ∙ not-false _ c.if-not-meets.false) _ _ c.pool-strings.ensures (right_by_lem _ _ l.i _ _ _ _ c.entry_at-e.ensures c.group_of-g.ensures c.placed_right.ensures) (not-false _ c.if-not-placed_right.false) c.if-c-eq0.false _ _ (landed_by _ _ _ _ _ l.i l.c _ _ _ c.entry_at-e.ensures c.requires.1 c.group_of-g.ensures c.lands_right.ensures) (not-false _ c.if-not-lands_right.false), search rules)
+    (pass-more t l.wanted l.i l.c l.invariant.0 h f.result (flow_by_lem _ _ _ _ _ c.entry_at-e.ensures c.group_of-g.ensures f.ensures) (sym c.meets.ensures ∙ c.if-not-meets.false) _ _ c.pool-strings.ensures (right_by_lem _ _ l.i _ _ _ _ c.entry_at-e.ensures c.group_of-g.ensures c.placed_right.ensures) (c.if-not-placed_right.false) c.if-c-eq0.false _ _ (landed_by _ _ _ _ _ l.i l.c _ _ _ c.entry_at-e.ensures c.requires.1 c.group_of-g.ensures c.lands_right.ensures) (c.if-not-lands_right.false), search rules)
 
 pub returns : goal.returns
 returns c =

@@ -1,5 +1,5 @@
 use mathlib.Core.Path.{refl, sym, ◌∙◌}
-use borrow.Author.Tests.{lt-leb, le-leb, not-true, not-false}
+use borrow.Author.Tests.{lt-leb, le-leb}
 use borrow.Author.Rules.{rules}
 use Rattle.common.proofs.Choice.{false_true}
 use Rattle.table.proofs.meets.Reads as meets-reads
@@ -10,8 +10,8 @@ returns-then-n-to c = record { answer = rw (lt-leb _ _ c.if-n-to.true); wants = 
 
 pub returns-then-not-meets : goal.returns-then-not-meets
 returns-then-not-meets c =
-    record { answer = rw (le-leb _ _ c.if-n-to.false, sym c.meets.ensures ∙ not-true _ c.if-not-meets.true); wants = λ t. false_true t }
+    record { answer = rw (le-leb _ _ c.if-n-to.false, sym c.meets.ensures ∙ c.if-not-meets.true); wants = λ t. false_true t }
 
 pub returns : goal.returns
 returns c =
-    record { answer = rw (le-leb _ _ c.if-n-to.false, sym c.meets.ensures ∙ not-false _ c.if-not-meets.false); wants = λ t. refl }
+    record { answer = rw (le-leb _ _ c.if-n-to.false, sym c.meets.ensures ∙ c.if-not-meets.false); wants = λ t. refl }

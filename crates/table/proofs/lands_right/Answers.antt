@@ -1,18 +1,14 @@
 -- `table::lands_right` meets its contract. Assumes nothing.
 use mathlib.Core.Path.{◌≡◌, refl}
 use mathlib.Core.Bool.{false}
-use mathlib.Core.List.{[], ◌∷◌}
-use denote.Enum.Declared.{tag_of}
-use types.Run.{OneOf, miss}
 use Rattle.table.specs.declared.groups.Group.{Group}
 use Rattle.table.specs.Groups.{skip_by}
-use Rattle.table.specs.contracts.groups.Group.{the_type}
 use borrow.Author.Rules.{rules}
 use Rattle.table.proofs.land.Reads as land-reads
 use Rattle.table.proofs.lands_right.Goals as goal
 
 -- a group of the other arm is no skip
-others : (g : Group) → OneOf (0 ∷ 1 ∷ 2 ∷ 3 ∷ 4 ∷ 5 ∷ 6 ∷ 7 ∷ 8 ∷ 9 ∷ 10 ∷ 12 ∷ []) (tag_of the_type g) → skip_by g ≡ false
+others : (g : Group) → (g ≡ Group.Skip → ⊥) → skip_by g ≡ false
 others Group.Int32 k = refl
 others Group.Wide k = refl
 others Group.Text k = refl
@@ -24,13 +20,13 @@ others Group.Combine k = refl
 others Group.Compare k = refl
 others Group.Connect k = refl
 others Group.Many k = refl
-others Group.Skip k = absurd (miss (0 ∷ 1 ∷ 2 ∷ 3 ∷ 4 ∷ 5 ∷ 6 ∷ 7 ∷ 8 ∷ 9 ∷ 10 ∷ 12 ∷ []) 11 tt k)
+others Group.Skip k = absurd (k refl)
 others Group.Unknown k = refl
 
 pub returns-in-Skip : goal.returns-in-Skip
-returns-in-Skip c = rw c.enum_told-1.given.1 c.land.ensures
+returns-in-Skip c = rw c.in-Skip.is c.land.ensures
 
 pub returns-in_default : goal.returns-in_default
 returns-in_default c =
-    let n = others c.args.g c.in_default.keys2 in
+    let n = others c.args.g c.in_default.not-Skip in
     record { answer = rw n; wants = λ t. rw n }

@@ -4,7 +4,6 @@ use mathlib.Core.List.{List}
 use mathlib.Core.Option.{some}
 use Prim.Native.Nat.{ℕ, ◌-◌, ◌≤◌}
 use native.Mathlib.Omega.{arith}
-use borrow.Author.Tests.{not-true, not-false}
 use Rattle.opcode.specs.Opcode.{op_of}
 use Rattle.table.specs.Table.{entries_of}
 use Rattle.table.specs.Check.{pattern_test, operands_right}
@@ -42,7 +41,7 @@ returns-then-not-operand_right c =
     let l = c.loop-left in
     let i = l.invariant.0 in
     let e = entry_of c.args.table.now (l.at - 1) (omega (arith, p.0)) in
-    let o = operands_turn test _ _ l.at l.left _ _ _ (omega arith) (omega arith) (e ∙ sym c.entry_at-e.ensures) (c.operand_right.ensures test t) (not-true _ c.if-not-operand_right.true) in
+    let o = operands_turn test _ _ l.at l.left _ _ _ (omega arith) (omega arith) (e ∙ sym c.entry_at-e.ensures) (c.operand_right.ensures test t) (c.if-not-operand_right.true) in
     sym o ∙ l.invariant.1 test t
 
 pub loop-left-preserved : goal.loop-left-preserved
@@ -53,7 +52,7 @@ loop-left-preserved c =
     let e = entry_of c.args.table.now (l.at - 1) (omega (arith, p.0)) in (
       omega arith,
       λ test t.
-          let o = operands_turn test _ _ l.at l.left _ _ _ (omega arith) (omega arith) (e ∙ sym c.entry_at-e.ensures) (c.operand_right.ensures test t) (not-false _ c.if-not-operand_right.false) in
+          let o = operands_turn test _ _ l.at l.left _ _ _ (omega arith) (omega arith) (e ∙ sym c.entry_at-e.ensures) (c.operand_right.ensures test t) (c.if-not-operand_right.false) in
           sym o ∙ l.invariant.1 test t,
     )
 

@@ -1,7 +1,6 @@
 use mathlib.Core.Path.{◌≡◌, sym, ◌∙◌}
 use mathlib.Core.Bool.{true}
 use native.Mathlib.Omega.{arith}
-use borrow.Author.Tests.{not-true, not-false}
 use Rattle.table.specs.Check.{check_of}
 use Rattle.table.proofs.Laid.{laid}
 use Rattle.table.proofs.Theorems.{checked_layout}
@@ -11,29 +10,22 @@ use Rattle.table.proofs.check.Reads as check-reads
 use Rattle.table.proofs.count.Reads as count-reads
 use Rattle.table.proofs.no_parts.Reads as no-parts-reads
 use Rattle.table.proofs.parts_at.Reads as parts-at-reads
-use Rattle.table.proofs.parts_of.Lts as lts
-use Rattle.table.proofs.parts_of.Tie as tie
-use Rattle.table.proofs.parts_of.Reads as reads
 use Rattle.table.proofs.parts_of.Goals as goal
-
--- behind the first test the table has passed
-checked : (c : lts.Else1 tie.the-claims reads.Pre reads.Post) → check_of c.args.table.now ≡ true
-checked c = sym c.check.ensures ∙ not-false _ c.if-not-check.false
 
 pub returns-then-not-check : goal.returns-then-not-check
 returns-then-not-check c =
-    let a = c.args in c.no_parts.ensures ∙ sym (parts_unchecked a.table.now a.k (sym c.check.ensures ∙ not-true _ c.if-not-check.true))
+    let a = c.args in c.no_parts.ensures ∙ sym (parts_unchecked a.table.now a.k (sym c.check.ensures ∙ c.if-not-check.true))
 
 pub count-requires : goal.count-requires
-count-requires c = let t = c.args.table.now in (laid t (checked_layout t (checked c.before))).head
+count-requires c = let t = c.args.table.now in (laid t (checked_layout t (sym c.check.ensures ∙ c.if-not-check.false))).head
 
 pub returns-then-count-k : goal.returns-then-count-k
 returns-then-count-k c =
-    let a = c.args in c.no_parts-then-count-k.ensures ∙ sym (parts_past a.table.now a.k (checked c.before.before.before.before) (omega (arith, c.count.ensures.0)))
+    let a = c.args in c.no_parts-then-count-k.ensures ∙ sym (parts_past a.table.now a.k (sym c.check.ensures ∙ c.if-not-check.false) (omega (arith, c.count.ensures.0)))
 
 pub parts_at-requires : goal.parts_at-requires
-parts_at-requires c = (checked c.before.before.before, omega (arith, c.count.ensures.0))
+parts_at-requires c = (sym c.check.ensures ∙ c.if-not-check.false, omega (arith, c.count.ensures.0))
 
 pub returns : goal.returns
 returns c =
-    let a = c.args in c.parts_at.ensures ∙ sym (parts_there a.table.now a.k (checked c.before.before.before.before) (omega (arith, c.count.ensures.0)))
+    let a = c.args in c.parts_at.ensures ∙ sym (parts_there a.table.now a.k (sym c.check.ensures ∙ c.if-not-check.false) (omega (arith, c.count.ensures.0)))

@@ -14,7 +14,6 @@ returns-then-e c = c.entry_right.ensures ∙ rw (none_beside c.args.e.op c.if-e.
 
 pub returns : goal.returns
 returns c =
-    let b = c.before.before.before.before.before.before.before.before in
-    let (test, t, m) = some_beside b.args.e.op c.if-e.false in
-    let g : b.args.g ≡ Group.Many = b.requires.3 ∙ m in
+    let (test, t, m) = some_beside c.args.e.op c.if-e.false in
+    let g : c.args.g ≡ Group.Many = c.requires.3 ∙ m in
     rw (c.many_right.ensures, c.operands_right.ensures test t, g, t)
