@@ -20,7 +20,9 @@ fn a_build_without_the_library_says_so_in_one_line() {
     let [missing, logged] = errors[..] else {
         panic!("{told}");
     };
-    assert!(missing.contains("no-such-folder/librouter.a is missing: run `tools/staticlib router`"));
+    assert!(
+        missing.contains("no-such-folder/librouter.a is missing: run `tools/staticlib router`")
+    );
     assert_eq!(logged, "error: build script logged errors");
     assert!(
         !told.contains("panicked") && !told.contains("backtrace"),
