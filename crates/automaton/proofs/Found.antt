@@ -1,17 +1,16 @@
 -- The decision over the table is the decision over the tree. Assumes nothing.
-use mathlib.Core.Path.{◌≡◌, refl, sym, ap, ◌∙◌}
-use mathlib.Core.Logic.{◌↔◌}
+use mathlib.Core.Path.{◌≡◌, refl, ap, ◌∙◌}
 use mathlib.Core.Bool.{Bool, true, false, ◌&&◌, ◌||◌, and-false}
 use mathlib.Core.List.{List, [], ◌∷◌, ◌++◌, append-nil}
-use Prim.Native.Nat.{ℕ, zero, suc, ◌+◌, ◌≤◌}
+use Prim.Native.Nat.{ℕ, zero, suc, ◌+◌}
 use native.Mathlib.Omega.{arith}
 use lib.ListN.{length, replicate, length-append}
-use Rattle.automaton.specs.Language.{Re, leaf, group, nil, seq, alt, Fits, Stretch, Fresh}
+use Rattle.automaton.specs.Language.{Re, leaf, group, nil, seq, alt, Fresh}
 use Rattle.automaton.specs.Marks.{empty, final, shift, ends, walk}
-use Rattle.automaton.specs.Pass.{Token, one, opens, bar, closes, started, passed, Left, left, onto, level_of, cells_of, pass, tokens, cells, Flat, Alts}
+use Rattle.automaton.specs.Pass.{Token, opens, bar, closes, started, passed, left, pass, tokens, cells, Flat, Alts}
 use Rattle.automaton.specs.Decide.{walk_on, decide}
 use Rattle.automaton.specs.Theorems.{Finds}
-use Rattle.automaton.proofs.Pass.{empty_shift, passes, cells_length}
+use Rattle.automaton.proofs.Pass.{empty_shift, passes}
 use Rattle.automaton.proofs.Search.{decides}
 
 pub tokens_shift : (k : Bool) (t : Re) (c : ℕ) → tokens (shift k t c) ≡ tokens t

@@ -1,13 +1,13 @@
 -- The marks compute the language. Assumes nothing.
 use mathlib.Core.Path.{◌≡◌, refl, sym, ap, ◌∙◌}
-use mathlib.Core.Logic.{◌⊎◌, inl, inr, ⊎_elim, ◌↔◌}
+use mathlib.Core.Logic.{◌⊎◌, inl, inr, ⊎_elim}
 use mathlib.Core.Bool.{Bool, true, false, ◌&&◌, ◌||◌}
-use mathlib.Core.List.{List, [], ◌∷◌, ◌++◌, append_assoc, append-nil}
+use mathlib.Core.List.{List, [], ◌∷◌, ◌++◌, append-nil}
 use Prim.Native.Nat.{ℕ}
 use native.Mathlib.Omega.{arith}
 use Rattle.common.proofs.Choice.{false_true}
 use Rattle.octets.proofs.Theorems.{and_parts, or_parts}
-use Rattle.automaton.specs.Language.{Re, leaf, group, nil, seq, alt, Many, once, more, Iter, Reps, One, Cat, Either, Nothing, Fits}
+use Rattle.automaton.specs.Language.{Re, leaf, group, nil, seq, alt, Many, once, more, Iter, Reps, One, Cat, Either, Fits}
 use Rattle.automaton.specs.Marks.{empty, final, shift}
 
 pub and-true : (a b : Bool) → a ≡ true → b ≡ true → (a && b) ≡ true

@@ -1,16 +1,15 @@
 -- A pass over the table is a shift of the tree. Assumes nothing.
 use mathlib.Core.Path.{◌≡◌, refl, sym, ap, ◌∙◌}
-use mathlib.Core.Bool.{Bool, true, false, cond, ◌&&◌, ◌||◌}
+use mathlib.Core.Bool.{Bool, true, false, ◌&&◌, ◌||◌}
 use mathlib.Core.List.{List, [], ◌∷◌, ◌++◌, append_assoc}
-use Prim.Native.Nat.{ℕ, zero, suc, ◌+◌, ◌≤◌, ◌<◌}
+use Prim.Native.Nat.{ℕ, zero, suc, ◌+◌, ◌≤◌}
 use native.Mathlib.Omega.{arith}
 use lib.ListN.{length, get_or, length-append}
 use lib.Seq.{get_or_at}
-use lib.Dec.{ltb}
 use borrow.Author.Tests.{lt-ltb}
 use Rattle.automaton.specs.Language.{Re, leaf, group, nil, seq, alt}
 use Rattle.automaton.specs.Marks.{empty, final, shift}
-use Rattle.automaton.specs.Pass.{Token, one, opens, bar, closes, started, passed, barred, closed, Left, left, onto, push, top, rest, pass, tokens, cells, Flat, Alts}
+use Rattle.automaton.specs.Pass.{Token, bar, closes, passed, closed, Left, left, onto, push, pass, tokens, cells, Flat, Alts}
 use Rattle.automaton.specs.Theorems.{Passes}
 use Rattle.automaton.specs.declared.Level.{Level}
 

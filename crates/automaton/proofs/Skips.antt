@@ -11,7 +11,7 @@ use lib.Dec.{eqb}
 use borrow.Author.Tests.{eqb-false, eq-eqb, ne_eqb}
 use Rattle.octets.proofs.Laws.{drop_map}
 use Rattle.octets.proofs.Theorems.{and_parts}
-use Rattle.automaton.specs.Pass.{Token, one, started, left, pass}
+use Rattle.automaton.specs.Pass.{Token, started, left, pass}
 use Rattle.automaton.specs.Table.{repeats, absent, outside, sort, tokens_of}
 use Rattle.automaton.specs.Decide.{walk_on, decide}
 use Rattle.automaton.specs.Word.{single, plain, optional, small, ahead}

@@ -1,19 +1,19 @@
 -- Turns of the pass's loop. Assumes nothing.
-use mathlib.Core.Path.{◌≡◌, refl, sym, ap, ◌∙◌}
+use mathlib.Core.Path.{◌≡◌, refl, ap}
 use mathlib.Core.Bool.{Bool, true, false, cond, ◌&&◌, ◌||◌}
-use mathlib.Core.List.{List, [], ◌∷◌, ◌++◌, append_assoc, append-nil}
+use mathlib.Core.List.{List, [], ◌∷◌, append-nil}
 use Prim.Native.Nat.{ℕ, zero, suc, ◌+◌, ◌-◌, ◌≤◌, ◌<◌}
-use native.Mathlib.Numerals.{add-one, sub-one}
+use native.Mathlib.Numerals.{add-one}
 use native.Mathlib.Omega.{arith}
-use lib.ListN.{get_or-eq_default, length, get_or, set, take, drop, length-append, drop_of_length-le, length-set}
-use lib.Seq.{drop-cons, take-suc, get_or-set_same, get_or-set_other, get_or-drop, take-suc-set, drop-set-lt, take_all}
+use lib.ListN.{get_or-eq_default, length, get_or, set, take, drop, drop_of_length-le}
+use lib.Seq.{drop-cons, get_or-set_same, get_or-set_other, get_or-drop, take-suc-set, drop-set-lt, take_all}
 use lib.Dec.{ltb, eqb}
-use borrow.Author.Tests.{lt-ltb, le-ltb, ltb-true, ltb-false, eq-eqb, ne_eqb}
-use Rattle.automaton.specs.Pass.{Token, one, opens, bar, closes, started, passed, barred, closed, Left, left, onto, push, top, rest, pass, stack_of, depth_by, up_of}
-use Rattle.automaton.specs.Table.{repeats, absent, sort, hits, token_by, token_of, tokens_of, mark_by, level_by, hit_by, outside, held_of}
+use borrow.Author.Tests.{lt-ltb, le-ltb, eq-eqb, ne_eqb}
+use Rattle.automaton.specs.Pass.{Token, started, passed, Left, left, onto, push, top, rest, pass, stack_of, depth_by, up_of}
+use Rattle.automaton.specs.Table.{repeats, absent, sort, hits, token_by, tokens_of, mark_by, level_by, outside, held_of}
 use Rattle.pattern.specs.Steps.{turned, test_at}
 use Rattle.automaton.specs.declared.Level.{Level}
-use Rattle.automaton.proofs.Pass.{onto_nil, onto_onto}
+use Rattle.automaton.proofs.Pass.{onto_onto}
 
 pub up_suc : (d : ℕ) (x : Level) → (d ≡ 0 → ⊥) → x ≡ up_of d x
 up_suc zero x h = absurd (h refl)

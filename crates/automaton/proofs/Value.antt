@@ -2,12 +2,12 @@
 use mathlib.Core.Path.{◌≡◌, refl, sym, ap, ◌∙◌}
 use mathlib.Core.Bool.{Bool, true, false, ◌&&◌, ◌||◌}
 use mathlib.Core.List.{List, [], ◌∷◌, ◌++◌, map}
-use Prim.Native.Nat.{ℕ, zero, suc, ◌+◌, ◌-◌, ◌≤◌, ◌<◌}
+use Prim.Native.Nat.{ℕ, zero, suc, ◌+◌, ◌≤◌, ◌<◌}
 use native.Mathlib.Numerals.{add-one}
 use lib.ListN.{length, get_or, set, take, drop, replicate, drop_of_length-le}
 use native.Mathlib.Omega.{arith}
 use lib.Seq.{drop-cons, take-suc-set, take_all}
-use Rattle.automaton.specs.Pass.{Token, started, pass, left, level_of, cells_of}
+use Rattle.automaton.specs.Pass.{Token, started, pass, left}
 use Rattle.automaton.specs.Decide.{walk_on, run_on}
 use Rattle.automaton.specs.declared.Level.{Level}
 

@@ -13,7 +13,7 @@ use lib.Dec.{eqb, leb, ltb}
 use borrow.Author.Tests.{ltb-true, leb-true, le-leb, lt-leb, eqb-true, not-true, ne_eqb}
 use Rattle.common.proofs.Choice.{true_false}
 use Rattle.octets.proofs.Theorems.{and_parts}
-use Rattle.automaton.specs.Pass.{Token, one, started, passed, Left, left, onto, pass}
+use Rattle.automaton.specs.Pass.{Token, one, started, Left, left, onto, pass}
 use Rattle.automaton.specs.Table.{repeats, absent, sort, hits, token_of, tokens_of}
 use Rattle.automaton.specs.Decide.{walk_on, decide}
 use Rattle.automaton.specs.Word.{bits_of, bit_if, cells_in, ended_in, every, plain, optional, small, Leads}

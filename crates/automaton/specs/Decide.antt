@@ -1,5 +1,5 @@
 -- The decision over a table: the same walk of the value as `walk` of specs/Marks.antt, a pass a byte.
-use Rattle.std.specs.Prelude.{ℕ, Bool, true, false, ◌&&◌, ◌||◌, List, [], ◌∷◌, length, replicate}
+use Rattle.std.specs.Prelude.{ℕ, Bool, true, false, ◌&&◌, ◌||◌, List, [], ◌∷◌, replicate}
 use Rattle.automaton.specs.Pass.{Token, started, pass, level_of, cells_of}
 
 abbrev pub walk_on : List Token → Bool → Bool → Bool → List Bool → Bool → Bool → List ℕ → Bool

@@ -1,5 +1,5 @@
 -- The method of marks (Fischer, Huch, Wilke): a leaf is marked if a way through the expression has just read a byte there.
-use Rattle.std.specs.Prelude.{ℕ, Bool, true, false, ◌&&◌, ◌||◌, List, [], ◌∷◌, ◌++◌}
+use Rattle.std.specs.Prelude.{ℕ, Bool, true, false, ◌&&◌, ◌||◌, List, [], ◌∷◌}
 use Rattle.automaton.specs.Language.{Re, leaf, group, nil, seq, alt}
 
 abbrev pub empty : Re → Bool

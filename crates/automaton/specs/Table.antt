@@ -1,9 +1,9 @@
 -- The table that a pattern is made into: a byte of kind and a number for each token, over the pattern's own text.
-use Rattle.std.specs.Prelude.{ℕ, ◌+◌, ◌/◌, ◌%◌, Bool, true, false, ◌&&◌, ◌||◌, List, [], ◌∷◌, ◌++◌, length, get_or, drop, eqb, ltb}
+use Rattle.std.specs.Prelude.{ℕ, ◌/◌, ◌%◌, Bool, true, false, ◌||◌, List, [], ◌∷◌, get_or, drop, eqb, ltb}
 use Rattle.pattern.specs.Steps.{turned, test_at}
 use Rattle.pattern.specs.declared.sets.SetTest.{SetTest}
 use Rattle.pattern.specs.declared.sets.SetTest.TheVariants.{Ends, Bad}
-use Rattle.automaton.specs.Pass.{Token, one, opens, bar, closes, started, passed, barred, closed, top}
+use Rattle.automaton.specs.Pass.{Token, one, opens, bar, closes, started, passed, barred, closed}
 use Rattle.automaton.specs.declared.Level.{Level}
 
 -- the flags of a kind: it may repeat, it may be absent, the complement of its set

@@ -11,7 +11,7 @@ use borrow.Author.Tests.{lt-leb, le-leb}
 use Rattle.common.specs.Choice.{pick}
 use Rattle.common.proofs.Choice.{true_false}
 use Rattle.octets.specs.Octets.{fold, folded}
-use Rattle.pattern.specs.Sets.{Member, member, span, byte_of, is_dash, member_by, members, spans, spans_of, in_spans, closes, is_closed, rises, is_empty, width_of}
+use Rattle.pattern.specs.Sets.{Member, member, span, byte_of, is_dash, member_by, members, spans, spans_of, in_spans, is_closed, rises, is_empty, width_of}
 use Rattle.pattern.specs.Wildcard.{is_set}
 use Rattle.pattern.specs.Steps.{begins, escaped_at, member_at, joined_at, range_from, piece_at, test_at}
 use Rattle.pattern.specs.declared.sets.Piece.{Piece}

@@ -1,5 +1,5 @@
 -- What the computing definitions of specs/Wildcard.antt say, and what is ill-formed. The proofs are in proofs/Theorems.antt, under the same names.
-use Rattle.std.specs.Prelude.{ℕ, ◌≡◌, ◌↔◌, ◌⊎◌, Bool, true, false, List, [], ◌∷◌, ◌++◌}
+use Rattle.std.specs.Prelude.{ℕ, ◌≡◌, ◌↔◌, ◌⊎◌, true, false, List, [], ◌∷◌, ◌++◌}
 use Rattle.pattern.specs.Sets.{spans_of, is_closed, is_empty, rises}
 use Rattle.pattern.specs.Wildcard.{Item, Reads, WellFormed, Accepts, well_formed, wildcard_of}
 

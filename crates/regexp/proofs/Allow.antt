@@ -1,17 +1,16 @@
 -- Where a word may stand. Assumes nothing.
 use mathlib.Core.Path.{◌≡◌, refl, sym, ap, ◌∙◌}
-use mathlib.Core.Bool.{Bool, true, false}
+use mathlib.Core.Bool.{Bool, false}
 use mathlib.Core.List.{List, [], ◌∷◌}
-use Prim.Native.Nat.{ℕ, zero, suc, ◌+◌, ◌≤◌, ◌<◌}
+use Prim.Native.Nat.{ℕ, ◌+◌, ◌≤◌}
 use native.Mathlib.Omega.{arith}
 use lib.ListN.{length, drop, drop_of_length-le}
 use Rattle.common.proofs.Choice.{true_false}
-use Rattle.regexp.specs.Language.{Mark, Tree}
-use Rattle.regexp.specs.Words.{Word, item, repeats, opening, bars, closing, stops, none, word_of, ends}
-use Rattle.regexp.specs.Scan.{Frame, Spot, spot, Now, goes, stuck, next, has, ends_at}
+use Rattle.regexp.specs.Language.{Tree}
+use Rattle.regexp.specs.Words.{Word, repeats, opening, bars, closing, stops, word_of, ends}
+use Rattle.regexp.specs.Scan.{Frame, Spot, spot, stuck, next, has, ends_at}
 use Rattle.regexp.specs.Promise.{WordAt, AllowedAt}
-use Rattle.regexp.specs.declared.Read.{Read}
-use Rattle.regexp.specs.declared.Read.TheVariants.{Item, Repeat, Open, Bar, Close, Stop, Bad}
+use Rattle.regexp.specs.declared.Read.TheVariants.{Repeat, Open, Bar, Close, Stop, Bad}
 
 empty : (some : Bool) (ps : List Tree) → some ≡ has ps → some ≡ false → ps ≡ []
 empty some [] e f = refl

@@ -1,9 +1,8 @@
 -- What is read through, the grammar derives. Assumes nothing.
 use mathlib.Core.Path.{◌≡◌, refl, sym, ap, ◌∙◌}
-use mathlib.Core.Bool.{Bool}
 use mathlib.Core.List.{List, [], ◌∷◌, ◌++◌, append_assoc, append-nil}
 use Prim.Native.Nat.{ℕ, zero, suc}
-use Rattle.regexp.specs.Language.{Mark, Tree, one, group, repeat, seq, alt}
+use Rattle.regexp.specs.Language.{Mark, Tree, one, group, repeat}
 use Rattle.regexp.specs.Grammar.{byte_of, Piece, single, grouped, marked, Branch, last, then, Alternatives, only, either, Body, nothing, something}
 use Rattle.regexp.specs.Words.{Word, item, repeats, opening, bars, closing, stops, none, word_of}
 use Rattle.regexp.specs.Scan.{Frame, frame, spot, Now, goes, stuck, sequence, choice, next, advance, Steps, here, there, start, tree_of, has}

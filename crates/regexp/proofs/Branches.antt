@@ -9,7 +9,7 @@ use lib.Dec.{eqb}
 use lib.ListN.{length, drop, length-append}
 use borrow.Author.Tests.{eqb-true}
 use Rattle.common.specs.Choice.{pick}
-use Rattle.common.proofs.Choice.{pick_yes, pick_no, false_true}
+use Rattle.common.proofs.Choice.{pick_yes, false_true}
 use Rattle.octets.proofs.Theorems.{and_parts}
 use Rattle.pattern.specs.Steps.{begins}
 use Rattle.pattern.specs.Wildcard.{is_none}
@@ -17,7 +17,7 @@ use Rattle.automaton.specs.Pass.{Flat}
 use Rattle.regexp.specs.Language.{Tree, Anchored, anchored}
 use Rattle.regexp.specs.Grammar.{Body, Edge, free, bound, Pattern, final, further}
 use Rattle.regexp.specs.Words.{word_of, ends}
-use Rattle.regexp.specs.Scan.{Spot, spot, goes, stuck, Steps, here, there, start, tree_of, has, Scan, read, broken, branch_of}
+use Rattle.regexp.specs.Scan.{Spot, goes, Steps, here, there, start, tree_of, has, Scan, read, broken, branch_of}
 use Rattle.regexp.specs.Regex.{Part, last, more, fault, end_of, ended, hat_of, one_if, part_of, with_first, on_part, branches_from, branches, re_of}
 use Rattle.regexp.proofs.Forth.{body_goes}
 use Rattle.regexp.proofs.Shape.{flat}

@@ -3,15 +3,15 @@ use mathlib.Core.Path.{◌≡◌, refl, sym, ap, ◌∙◌}
 use mathlib.Core.Logic.{◌⊎◌, inl, inr, ⊎_elim}
 use mathlib.Core.Bool.{Bool, true, false, not, ◌&&◌, ◌||◌}
 use mathlib.Core.List.{List, [], ◌∷◌, ◌++◌, append_assoc, append-nil}
-use Prim.Native.Nat.{ℕ, zero, suc, ◌+◌, ◌-◌, ◌≤◌, ◌<◌}
+use Prim.Native.Nat.{ℕ, suc, ◌+◌, ◌<◌}
 use native.Mathlib.Omega.{arith}
 use lib.Dec.{eqb, leb, ltb}
 use borrow.Author.Tests.{ne_eqb, lt-ltb, le-leb, lt-leb, eqb-true, ltb-true, leb-true, not-true}
 use Rattle.common.proofs.Choice.{true_false, false_true}
 use Rattle.octets.proofs.Theorems.{and_parts, or_parts}
 use Rattle.automaton.proofs.Marks.{or_left, or_right}
-use Rattle.regexp.specs.Language.{Atom, Mark, Tree, Anchored}
-use Rattle.regexp.specs.Grammar.{byte_of, Piece, single, grouped, marked, Branch, last as last-piece, then, Alternatives, only, either, Body, nothing, something, Edge, free, bound, Pattern, final, further}
+use Rattle.regexp.specs.Language.{Mark, Tree, Anchored}
+use Rattle.regexp.specs.Grammar.{Piece, single, grouped, marked, Branch, last as last-piece, then, Alternatives, only, either, Body, nothing, something, Edge, free, bound, Pattern, final, further}
 use Rattle.regexp.specs.Causes.{Symbol, atom, mark, opening, closing, bar, hat, dollar, SymbolText, atom_text, mark_text, opening_text, closing_text, bar_text, hat_text, dollar_text, Symbols, end, next, Place, front, after, Begins, first, after_opening, after_bar, Ends, last, before_closing, before_bar, depth, Cause, empty_branch, mark_first, mark_after_hat, mark_after_opening, mark_after_bar, unopened, unclosed, hat_elsewhere, dollar_elsewhere, too_deep}
 
 -- ---- a cause at a place

@@ -4,21 +4,21 @@ use mathlib.Core.Bool.{Bool, true, false, not, ◌||◌, or-true, or-false}
 use mathlib.Core.List.{List, [], ◌∷◌, ◌++◌}
 use Prim.Native.Nat.{ℕ, zero, suc, ◌+◌, ◌<◌}
 use native.Mathlib.Omega.{arith}
-use lib.Dec.{eqb, leb, ltb}
+use lib.Dec.{eqb, ltb}
 use lib.ListN.{length}
 use borrow.Author.Tests.{ltb-false, leb-false, eqb-false}
 use Rattle.common.proofs.Choice.{true_false, false_true}
 use Rattle.octets.proofs.Places.{neither}
 use Rattle.automaton.proofs.Marks.{or_left, or_right}
 use Rattle.regexp.specs.Language.{Atom, Mark, Tree, one, group, repeat, Anchored, anchored}
-use Rattle.regexp.specs.Grammar.{byte_of, Body, Edge, free, bound, Pattern, final, further}
-use Rattle.regexp.specs.Causes.{Symbol, atom, mark, opening, closing, bar, hat, dollar, SymbolText, atom_text, mark_text, opening_text, closing_text, bar_text, hat_text, dollar_text, Symbols, end, next, depth}
+use Rattle.regexp.specs.Grammar.{Body, Edge, free, bound, Pattern, final, further}
+use Rattle.regexp.specs.Causes.{Symbol, atom, mark, opening, closing, bar, hat, dollar, atom_text, mark_text, opening_text, closing_text, bar_text, hat_text, dollar_text, Symbols, end, next, depth}
 use Rattle.regexp.specs.Words.{Word, item, repeats, opening as opens, bars, closing as closes, word_of}
 use Rattle.regexp.specs.Scan.{Frame, frame, spot, Now, goes, sequence, choice, next as advanced, Steps, here, start, tree_of, has}
 use Rattle.regexp.proofs.Told.{atom_word, mark_word}
 use Rattle.regexp.proofs.Forth.{chain, step}
 use Rattle.regexp.proofs.Back.{read_body}
-use Rattle.regexp.proofs.Causes.{begun, hatted, wrong, clear, clear_here, clear_on}
+use Rattle.regexp.proofs.Causes.{begun, hatted, clear, clear_here, clear_on}
 
 no_nil : {A : Type 0} (x : Symbol) (us : List Symbol) → ◌≡◌ {A = List Symbol} (x ∷ us) [] → A
 no_nil x us e = let y : ◌≡◌ {A = ℕ} 0 1 = cc in absurd (omega arith)

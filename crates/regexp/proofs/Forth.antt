@@ -1,11 +1,11 @@
 -- What the grammar derives is read through. Assumes nothing.
 use mathlib.Core.Path.{◌≡◌, refl, sym, ap, ◌∙◌}
-use mathlib.Core.Bool.{Bool, true, false}
+use mathlib.Core.Bool.{Bool}
 use mathlib.Core.List.{List, [], ◌∷◌, ◌++◌, append_assoc}
 use Prim.Native.Nat.{ℕ, suc}
-use Rattle.regexp.specs.Language.{Tree, one, group, repeat, seq, alt, nil}
-use Rattle.regexp.specs.Grammar.{byte_of, AtomText, Piece, single, grouped, marked, Branch, last, then, Alternatives, only, either, Body, nothing, something}
-use Rattle.regexp.specs.Words.{Word, word_of}
+use Rattle.regexp.specs.Language.{Tree, group}
+use Rattle.regexp.specs.Grammar.{byte_of, Piece, single, grouped, marked, Branch, last, then, Alternatives, only, either, Body, nothing, something}
+use Rattle.regexp.specs.Words.{Word}
 use Rattle.regexp.specs.Scan.{Frame, frame, spot, Now, goes, sequence, choice, next, advance, Steps, here, there, start, tree_of, has}
 use Rattle.regexp.proofs.Told.{atom_word, mark_word}
 

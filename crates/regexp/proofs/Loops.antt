@@ -1,17 +1,17 @@
 -- A branch with its anchors, and the loops over the branches. Assumes nothing.
 use mathlib.Core.Path.{◌≡◌, refl, sym, ap, ◌∙◌}
 use mathlib.Core.Bool.{Bool, true, false, not, ◌&&◌, ◌||◌, or-false}
-use mathlib.Core.List.{List, [], ◌∷◌, ◌++◌, map}
+use mathlib.Core.List.{List, [], ◌∷◌}
 use mathlib.Core.Option.{Option, none, some}
-use Prim.Native.Nat.{ℕ, zero, suc, ◌+◌, ◌-◌, ◌≤◌, ◌<◌}
+use Prim.Native.Nat.{ℕ, ◌+◌, ◌-◌, ◌≤◌, ◌<◌}
 use native.Mathlib.Numerals.{add-one}
 use native.Mathlib.Omega.{arith}
 use lib.ListN.{length, get_or, set, take, drop, drop_of_length-le, length-map, get_or-map}
 use lib.Seq.{drop-cons, drop-drop, length-take-le, take-suc, take-suc-set, take_all}
-use lib.Dec.{eqb, leb}
+use lib.Dec.{eqb}
 use borrow.Author.Tests.{eq-eqb, ne_eqb, le-leb, lt-leb}
 use Rattle.common.specs.Choice.{pick}
-use Rattle.common.proofs.Choice.{pick_yes, pick_no, false_true}
+use Rattle.common.proofs.Choice.{pick_yes, pick_no}
 use Rattle.octets.specs.Octets.{fold, folded}
 use Rattle.octets.proofs.Theorems.{and_parts}
 use Rattle.pattern.specs.Steps.{begins}
@@ -21,13 +21,11 @@ use Rattle.automaton.specs.Marks.{walk}
 use Rattle.automaton.specs.Pass.{Token, tokens, Flat}
 use Rattle.automaton.specs.Table.{tokens_of}
 use Rattle.automaton.specs.Decide.{decide}
-use Rattle.automaton.proofs.Marks.{or_left, or_right}
 use Rattle.automaton.proofs.Found.{by_marks}
 use Rattle.regexp.specs.Language.{Tree, Anchored, anchored}
-use Rattle.regexp.specs.Scan.{Scan, read, broken, branch_of, tree_of, has}
-use Rattle.regexp.specs.Regex.{Part, last, more, fault, end_of, ended, hat_of, one_if, part_of, with_first, branches, branches_of, is_some, well_formed, re_of, held_by, held_in, regex_of}
+use Rattle.regexp.specs.Scan.{read, branch_of, tree_of, has}
+use Rattle.regexp.specs.Regex.{last, more, fault, end_of, ended, hat_of, one_if, part_of, with_first, branches, branches_of, is_some, re_of, held_in, regex_of}
 use Rattle.regexp.specs.Promise.{EndAt, TableOf, BranchAt, BehindAt, TurnAt, TableAt}
-use Rattle.regexp.specs.declared.Made.{Made}
 use Rattle.regexp.specs.declared.Made.TheVariants.{Branch, Bad as NoBranch}
 use Rattle.regexp.specs.declared.Turn.{Turn}
 use Rattle.regexp.specs.declared.Turn.TheVariants.{Last, More, Bad as NoTurn}

@@ -1,8 +1,8 @@
 -- One word of a text, as the code answers it, and the flags of a kind. Assumes nothing.
 use mathlib.Core.Path.{◌≡◌, refl, sym, ap, ◌∙◌}
-use mathlib.Core.Bool.{Bool, true, false, ◌||◌, or-false}
+use mathlib.Core.Bool.{Bool, true, false, or-false}
 use mathlib.Core.List.{List, [], ◌∷◌}
-use Prim.Native.Nat.{ℕ, zero, suc, ◌+◌, ◌*◌, ◌≤◌, ◌<◌, ◌/◌, ◌%◌}
+use Prim.Native.Nat.{ℕ, suc, ◌+◌, ◌*◌, ◌≤◌, ◌<◌, ◌/◌, ◌%◌}
 use native.Mathlib.Numerals.{add-one, add-two}
 use native.Mathlib.Decide.{dec_lt}
 use native.Mathlib.Omega.{arith}
@@ -15,14 +15,13 @@ use Rattle.common.proofs.Choice.{pick_yes, pick_no, false_true}
 use Rattle.pattern.specs.Sets.{spans_of, in_spans, width_by, width_from, width_of}
 use Rattle.pattern.specs.Wildcard.{is_set}
 use Rattle.pattern.specs.Steps.{begins, test_at, turned}
-use Rattle.pattern.specs.declared.sets.SetTest.{SetTest}
 use Rattle.pattern.specs.declared.sets.SetTest.TheVariants.{Ends, Bad as NoSet}
 use Rattle.pattern.proofs.Texts.{sign_here}
 use Rattle.automaton.proofs.Step.{get_d_any}
-use Rattle.automaton.specs.Table.{held_of, hits, repeats, absent, outside, sort}
-use Rattle.regexp.specs.Language.{Atom, plain, any, set, takes, Mark, star, plus, optional}
-use Rattle.regexp.specs.Words.{Word, item, none, stops, set_by, set_or_not, set_of, escaped_of, word_by, word_of}
-use Rattle.regexp.specs.Promise.{Reads, SetAt, WordAt}
+use Rattle.automaton.specs.Table.{held_of, repeats, absent, outside, sort}
+use Rattle.regexp.specs.Language.{plain, any, set, takes, star, plus, optional}
+use Rattle.regexp.specs.Words.{item, set_by, set_or_not, set_of, word_of}
+use Rattle.regexp.specs.Promise.{SetAt, WordAt}
 use Rattle.regexp.specs.declared.Read.{Read}
 use Rattle.regexp.specs.declared.Read.TheVariants.{Item, Repeat, Open, Bar, Close, Stop, Bad}
 use Rattle.regexp.proofs.Told.{set_width}

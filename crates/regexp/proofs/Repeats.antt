@@ -1,14 +1,14 @@
 -- A repeat mark is two flags. Assumes nothing.
 use mathlib.Core.Path.{◌≡◌, refl, sym, ap, ◌∙◌}
-use mathlib.Core.Logic.{◌⊎◌, inl, inr, ⊎_elim, ◌↔◌}
+use mathlib.Core.Logic.{◌⊎◌, inl, inr, ⊎_elim}
 use mathlib.Core.Bool.{Bool, true, false, ◌||◌, or-false}
-use mathlib.Core.List.{List, [], ◌∷◌, ◌++◌, append_assoc, append-nil}
+use mathlib.Core.List.{List, [], ◌++◌, append_assoc, append-nil}
 use Prim.Native.Nat.{ℕ}
 use Rattle.common.proofs.Choice.{false_true}
-use Rattle.automaton.specs.Language.{Re, leaf, group as grouping, nil as nothing, seq as then, alt as or, Many, once, more, Iter, Reps, One, Cat, Either, Nothing}
+use Rattle.automaton.specs.Language.{Re, leaf, group as grouping, nil as nothing, seq as then, alt as or, Many, once, more, Iter, Reps, One, Nothing}
 use Rattle.automaton.specs.Language.{Fits as FitsRe}
 use Rattle.octets.proofs.Theorems.{or_parts}
-use Rattle.automaton.proofs.Marks.{or_left, or_right, split_nil, iter_once}
+use Rattle.automaton.proofs.Marks.{or_left, or_right, iter_once}
 use Rattle.regexp.specs.Language.{Mark, star, plus, optional, Tree, one, group, repeat, seq, alt, nil, Rounds, done, round, By, Fits}
 use Rattle.regexp.specs.Regex.{repeats, absent, remark, re_of}
 use Rattle.regexp.specs.Theorems.{SameLanguage}

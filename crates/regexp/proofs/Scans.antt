@@ -10,7 +10,7 @@ use Rattle.common.proofs.Choice.{pick_yes, pick_no, false_true}
 use Rattle.regexp.specs.Language.{Atom, Tree}
 use Rattle.regexp.specs.Grammar.{AtomText, plain_text, any_text, escaped_text, set_text, complement_text, Body}
 use Rattle.regexp.specs.Words.{Word, item, repeats, opening, bars, closing, stops, none, word_of, ends}
-use Rattle.regexp.specs.Scan.{Frame, frame, Spot, spot, Now, goes, stuck, next, advance, Steps, here, there, start, tree_of, has, Scan, read, broken, ends_at, pieces_of, through, branch_of}
+use Rattle.regexp.specs.Scan.{frame, Spot, spot, Now, goes, stuck, next, advance, Steps, here, there, start, tree_of, has, Scan, read, broken, ends_at, pieces_of, through, branch_of}
 use Rattle.regexp.proofs.Told.{Told, told}
 use Rattle.regexp.proofs.Forth.{body_goes}
 use Rattle.regexp.proofs.Back.{read_body}

@@ -1,21 +1,19 @@
 -- A text has one list of symbols, or one of request 1's cases begins behind some. Assumes nothing.
 use mathlib.Core.Path.{◌≡◌, refl, sym, ap, ◌∙◌}
 use mathlib.Core.Logic.{◌⊎◌, inl, inr}
-use mathlib.Core.Bool.{Bool, true, false, not, ◌&&◌, cond, and-false}
-use mathlib.Core.List.{List, [], ◌∷◌, ◌++◌, append_assoc, append-nil}
+use mathlib.Core.Bool.{Bool, true, false, not, and-false}
+use mathlib.Core.List.{List, [], ◌∷◌, ◌++◌, append_assoc}
 use Prim.Native.Nat.{ℕ, zero, suc, ◌<◌}
 use native.Mathlib.Omega.{arith}
-use lib.Dec.{eqb}
 use lib.ListN.{length, drop, length-append}
 use borrow.Author.Tests.{ne_eqb}
 use Rattle.common.proofs.Choice.{true_false}
 use Rattle.pattern.specs.Sets.{spans_of, is_closed, is_empty}
 use Rattle.pattern.specs.Wildcard.{is_set}
 use Rattle.pattern.specs.Steps.{begins}
-use Rattle.regexp.specs.Language.{Atom, Mark}
 use Rattle.regexp.specs.Grammar.{byte_of}
 use Rattle.regexp.specs.Causes.{Behind, Fault, backslash_last, unclosed_set, empty_set, falling_range, Symbol, atom, mark, opening, closing, bar, hat, dollar, SymbolText, atom_text, mark_text, opening_text, closing_text, bar_text, hat_text, dollar_text, Symbols, end, next}
-use Rattle.regexp.specs.Words.{Word, item, repeats, opening as opens, bars, closing as closes, stops, none, set_by, set_or_not, set_of, word_of}
+use Rattle.regexp.specs.Words.{Word, item, repeats, opening as opens, bars, closing as closes, stops, none, set_of, word_of}
 use Rattle.regexp.proofs.Told.{Told, told, atom_word, mark_word}
 use Rattle.regexp.proofs.Scans.{atom_long}
 

@@ -1,12 +1,11 @@
 -- The theorems of specs/Theorems.antt. Assumes nothing.
 use mathlib.Core.Path.{◌≡◌, refl, sym, ap, ◌∙◌}
 use mathlib.Core.Logic.{◌⊎◌, inl, inr, ⊎_elim, ◌↔◌}
-use mathlib.Core.Bool.{Bool, true, false, ◌&&◌, ◌||◌}
+use mathlib.Core.Bool.{Bool, true, false}
 use mathlib.Core.List.{List, [], ◌∷◌}
 use mathlib.Core.Option.{Option, none, some}
-use Prim.Native.Nat.{ℕ, suc, ◌≤◌}
+use Prim.Native.Nat.{ℕ, suc}
 use native.Mathlib.Omega.{arith}
-use lib.Dec.{leb}
 use lib.ListN.{length}
 use borrow.Author.Tests.{le-leb}
 use Rattle.common.proofs.Choice.{true_false, false_true}
@@ -16,9 +15,9 @@ use Rattle.automaton.specs.Marks.{walk}
 use Rattle.automaton.proofs.Marks.{or_left, or_right}
 use Rattle.automaton.proofs.Search.{decides}
 use Rattle.regexp.specs.Language.{Tree, Fits, Anchored, anchored, Holds}
-use Rattle.regexp.specs.Grammar.{Derives, WellFormed, Accepts}
+use Rattle.regexp.specs.Grammar.{WellFormed, Accepts}
 use Rattle.regexp.specs.Causes.{Symbol, Symbols, front, IllFormed, faulty, misplaced}
-use Rattle.regexp.specs.Regex.{branches_of, is_some, well_formed, re_of, held_by, held_in, longest, regex_of}
+use Rattle.regexp.specs.Regex.{branches_of, is_some, re_of, held_by, held_in}
 use Rattle.regexp.specs.Theorems.{ReadsExactly, OneReading, WellFormedExactly, IllFormedExactly, RefusesExactly, SameLanguage, FitsExactly}
 use Rattle.regexp.proofs.Repeats.{same_language as same}
 use Rattle.regexp.proofs.Shape.{fresh}

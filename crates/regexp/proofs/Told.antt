@@ -11,12 +11,12 @@ use lib.Seq.{take_all, length-take-le, drop-append_seam}
 use borrow.Author.Tests.{eqb-true}
 use Rattle.common.proofs.Choice.{true_false, false_true}
 use Rattle.octets.proofs.Theorems.{and_parts}
-use Rattle.pattern.specs.Sets.{spans, spans_of, members, is_closed, rises, is_empty, width_by, width_from, width_of}
+use Rattle.pattern.specs.Sets.{spans, spans_of, is_closed, rises, is_empty, width_by, width_from, width_of}
 use Rattle.pattern.specs.Wildcard.{is_set}
 use Rattle.pattern.specs.Steps.{begins}
 use Rattle.pattern.proofs.Local.{Alone, set_alone}
-use Rattle.regexp.specs.Language.{Atom, plain, any, set, Mark, star, plus, optional}
-use Rattle.regexp.specs.Grammar.{is_plain, byte_of, AtomText, plain_text, any_text, escaped_text, set_text, complement_text}
+use Rattle.regexp.specs.Language.{Atom, plain, set, Mark, star, plus, optional}
+use Rattle.regexp.specs.Grammar.{byte_of, AtomText, plain_text, any_text, escaped_text, set_text, complement_text}
 use Rattle.regexp.specs.Causes.{Behind, Fault, backslash_last, unclosed_set, empty_set, falling_range}
 use Rattle.regexp.specs.Words.{Word, item, repeats, opening, bars, closing, stops, none, escaped_of, set_by, set_or_not, set_of, word_by, word_of}
 

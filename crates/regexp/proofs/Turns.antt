@@ -2,7 +2,7 @@
 use mathlib.Core.Path.{◌≡◌, refl, sym, ap, ◌∙◌}
 use mathlib.Core.Bool.{Bool, true, false, ◌||◌}
 use mathlib.Core.List.{List, [], ◌∷◌, ◌++◌, append_assoc, append-nil}
-use Prim.Native.Nat.{ℕ, zero, suc, ◌+◌, ◌-◌, ◌≤◌, ◌<◌}
+use Prim.Native.Nat.{ℕ, suc, ◌+◌, ◌-◌, ◌≤◌, ◌<◌}
 use native.Mathlib.Numerals.{add-one}
 use native.Mathlib.Omega.{arith}
 use lib.ListN.{length, get_or, set, take, drop, length-append, length-set}
@@ -16,7 +16,7 @@ use Rattle.automaton.specs.Pass.{Token, one, opens, bar, closes, tokens}
 use Rattle.automaton.specs.Table.{held_of, hits, hit_by, repeats, absent, outside, sort, token_by, token_of, tokens_of}
 use Rattle.regexp.specs.Language.{Atom, takes, Mark, Tree, one as atom, group, repeat, seq, alt}
 use Rattle.regexp.specs.Words.{Word, item, repeats as marking, opening, bars, closing, word_of, ends}
-use Rattle.regexp.specs.Scan.{Frame, frame, Spot, spot, Now, goes, stuck, sequence, choice, next, Steps, here, start, tree_of, has, read, broken, branch_of, ends_at}
+use Rattle.regexp.specs.Scan.{Frame, frame, Spot, spot, goes, sequence, choice, next, Steps, here, start, tree_of, has, read, branch_of}
 use Rattle.regexp.specs.Regex.{repeats as repeatsOf, absent as absentOf, remark, re_of}
 use Rattle.regexp.proofs.Forth.{chain, step}
 use Rattle.regexp.proofs.Shape.{Markable, markable_still}

@@ -2,14 +2,14 @@
 use mathlib.Core.Path.{◌≡◌, refl, sym, ap, ◌∙◌}
 use mathlib.Core.Bool.{Bool, true, false}
 use mathlib.Core.List.{List, [], ◌∷◌}
-use Prim.Native.Nat.{ℕ, zero, suc, ◌+◌, ◌-◌, ◌<◌}
+use Prim.Native.Nat.{ℕ, suc, ◌+◌, ◌-◌, ◌<◌}
 use native.Mathlib.Numerals.{add-one}
 use native.Mathlib.Omega.{arith}
 use lib.ListN.{length, drop}
 use Rattle.common.proofs.Choice.{true_false}
 use Rattle.regexp.specs.Language.{Atom, Mark, Tree, one, group, repeat}
 use Rattle.regexp.specs.Words.{Word, item, repeats, opening, bars, closing, word_of, ends}
-use Rattle.regexp.specs.Scan.{Frame, frame, Spot, spot, Now, goes, stuck, sequence, choice, next, Steps, here, start, has, read, broken, branch_of, ends_at}
+use Rattle.regexp.specs.Scan.{Frame, frame, spot, Now, goes, stuck, sequence, choice, next, Steps, here, start, has, read, broken, branch_of, ends_at}
 use Rattle.regexp.proofs.Forth.{chain, step}
 use Rattle.regexp.proofs.Scans.{ends_there, breaks_there}
 

@@ -1,5 +1,5 @@
 -- Why a text is no pattern, cause by cause: "Ill-formed are request 1's cases, an empty branch or group, a repeat mark first or after `^`, `(` or `|`, unmatched parentheses, `^` or `$` elsewhere, and depth over 8." Document 02, request 13. No parser stands here.
-use Rattle.std.specs.Prelude.{ℕ, zero, suc, ◌-◌, ◌≤◌, ◌<◌, ◌≡◌, ◌⊎◌, Bool, true, false, List, [], ◌∷◌, ◌++◌}
+use Rattle.std.specs.Prelude.{ℕ, suc, ◌-◌, ◌≤◌, ◌<◌, ◌≡◌, ◌⊎◌, true, false, List, [], ◌∷◌, ◌++◌}
 use Rattle.pattern.specs.Sets.{spans_of, is_closed, is_empty, rises}
 use Rattle.regexp.specs.Language.{Atom, Mark}
 use Rattle.regexp.specs.Grammar.{AtomText, byte_of}

@@ -1,5 +1,5 @@
 -- Regular expressions as trees, and the byte strings that fit them. Document 02, request 13. No matcher stands here.
-use Rattle.std.specs.Prelude.{ℕ, ◌≡◌, ◌⊎◌, Bool, true, false, List, [], ◌∷◌, ◌++◌, eqb}
+use Rattle.std.specs.Prelude.{ℕ, ◌≡◌, ◌⊎◌, Bool, true, List, [], ◌∷◌, ◌++◌, eqb}
 use Rattle.pattern.specs.Sets.{Span, in_spans}
 use Rattle.pattern.specs.Steps.{turned}
 use Rattle.automaton.specs.Language.{One, Cat, Either, Nothing, Stretch}

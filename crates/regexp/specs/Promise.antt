@@ -1,11 +1,11 @@
 -- What the code answers: of one word, of a branch, of a branch and what stands behind it.
-use Rattle.std.specs.Prelude.{ℕ, suc, ◌+◌, ◌<◌, ◌≤◌, ◌≡◌, Bool, true, false, ◌||◌, List, [], ◌∷◌, length, take, drop}
+use Rattle.std.specs.Prelude.{ℕ, ◌+◌, ◌<◌, ◌≤◌, ◌≡◌, Bool, true, false, ◌||◌, List, length, take, drop}
 use Rattle.automaton.specs.Pass.{tokens}
 use Rattle.automaton.specs.Table.{hits, repeats as kindRepeats, absent as kindAbsent, sort, tokens_of}
-use Rattle.regexp.specs.Language.{Atom, takes, Mark, Tree, Anchored, anchored}
+use Rattle.regexp.specs.Language.{Atom, takes, Mark, Tree, anchored}
 use Rattle.regexp.specs.Words.{Word, item, repeats, opening, bars, closing, stops, none, word_of, set_of, ends}
-use Rattle.regexp.specs.Scan.{Frame, Spot, spot, Now, stuck, next, Scan, read, broken, branch_of, ends_at, tree_of, has}
-use Rattle.regexp.specs.Regex.{Part, last, more, fault, end_of, part_of, repeats as markRepeats, absent as markAbsent, re_of}
+use Rattle.regexp.specs.Scan.{Frame, spot, stuck, next, read, broken, branch_of, ends_at, tree_of, has}
+use Rattle.regexp.specs.Regex.{last, more, fault, end_of, part_of, repeats as markRepeats, absent as markAbsent, re_of}
 use Rattle.regexp.specs.declared.Read.{Read}
 use Rattle.regexp.specs.declared.Read.TheVariants.{Item, Repeat, Open, Bar, Close, Stop, Bad}
 use Rattle.regexp.specs.declared.Made.{Made}

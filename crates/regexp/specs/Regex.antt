@@ -6,7 +6,7 @@ use Rattle.pattern.specs.Steps.{begins}
 use Rattle.pattern.specs.Wildcard.{is_none}
 use Rattle.automaton.specs.Language.{Re, leaf, group as grouping, nil as nothing, seq as then, alt as or}
 use Rattle.automaton.specs.Marks.{walk}
-use Rattle.regexp.specs.Language.{Atom, takes, Mark, star, plus, optional, Tree, one, group, repeat, seq, alt, nil, Anchored, anchored}
+use Rattle.regexp.specs.Language.{takes, Mark, star, plus, optional, Tree, one, group, repeat, seq, alt, nil, Anchored, anchored}
 use Rattle.regexp.specs.Scan.{Scan, read, broken, branch_of, tree_of, has}
 
 -- ---- the text of a pattern

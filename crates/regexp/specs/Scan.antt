@@ -1,7 +1,7 @@
 -- A branch of the whole pattern read from the left, a word a step.
-use Rattle.std.specs.Prelude.{ℕ, zero, suc, ◌≡◌, Bool, true, false, ◌&&◌, List, [], ◌∷◌, length}
+use Rattle.std.specs.Prelude.{ℕ, zero, suc, ◌≡◌, Bool, true, false, List, [], ◌∷◌, length}
 use Rattle.common.specs.Choice.{pick}
-use Rattle.regexp.specs.Language.{Atom, Mark, Tree, one, group, repeat, seq, alt, nil}
+use Rattle.regexp.specs.Language.{Tree, one, group, repeat, seq, alt, nil}
 use Rattle.regexp.specs.Words.{Word, item, repeats, opening, bars, closing, stops, none, word_of, ends}
 
 -- A group that is open: its branches that have ended, and the pieces of the branch so far; of both the last first.

@@ -1,6 +1,6 @@
 -- What the computing definitions of specs/Regex.antt say, and what is ill-formed. The proofs are in proofs/Theorems.antt, under the same names.
 use Rattle.std.specs.Prelude.{ℕ, ◌≤◌, ◌≡◌, ◌↔◌, Bool, true, false, List, length}
-use Rattle.std.proofs.Math.Option.{Option, some}
+use Rattle.std.proofs.Math.Option.{some}
 use Rattle.automaton.specs.Language.{Fits as FitsRe}
 use Rattle.regexp.specs.Language.{Tree, Fits, Anchored}
 use Rattle.regexp.specs.Grammar.{Derives, WellFormed, Accepts}

@@ -1,13 +1,7 @@
-use borrow.Author.Rules.{rules}
-use Prim.Native.Nat.{◌≤◌, ◌-◌, ◌+◌}
-use mathlib.Core.Path.{◌≡◌, ◌∙◌}
-use mathlib.Core.List.{map}
+use mathlib.Core.Path.{◌∙◌}
 use native.Mathlib.Omega.{arith}
-use lib.ListN.{length, drop}
-use Rattle.octets.specs.Octets.{fold, folded}
-use Rattle.automaton.specs.Word.{ahead}
+use Rattle.octets.specs.Octets.{fold}
 use Rattle.automaton.proofs.Skips.{ahead_here, ahead_on, ahead_end}
-use Rattle.octets.proofs.fold.Reads as fold-reads
 use Rattle.automaton.proofs.ahead.Goals as goal
 
 pub loop-i-init : goal.loop-i-init

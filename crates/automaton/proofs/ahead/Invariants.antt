@@ -1,13 +1,9 @@
-use borrow.Author.Rules.{rules}
 use Prim.Native.Nat.{◌≤◌, ◌-◌, ◌+◌}
-use mathlib.Core.Path.{◌≡◌, ◌∙◌}
+use mathlib.Core.Path.{◌≡◌}
 use mathlib.Core.List.{map}
-use native.Mathlib.Omega.{arith}
 use lib.ListN.{length, drop}
 use Rattle.octets.specs.Octets.{fold, folded}
 use Rattle.automaton.specs.Word.{ahead}
-use Rattle.automaton.proofs.Skips.{ahead_here, ahead_on, ahead_end}
-use Rattle.octets.proofs.fold.Reads as fold-reads
 use Rattle.automaton.proofs.ahead.Given as goal
 
 abbrev pub invariant-loop-i : goal.invariant-loop-i

@@ -1,7 +1,6 @@
 use mathlib.Core.Path.{sym}
 use mathlib.Core.Bool.{false}
 use lib.ListN.{get_or-eq_default}
-use borrow.Author.Rules.{rules}
 use Rattle.automaton.proofs.cell.Goals as goal
 
 pub returns-else-i-s : goal.returns-else-i-s

@@ -1,10 +1,7 @@
 use Prim.Native.Nat.{◌≤◌, ◌-◌}
-use mathlib.Core.Path.{◌≡◌, refl, ◌∙◌}
+use mathlib.Core.Path.{◌≡◌}
 use mathlib.Core.Bool.{false}
-use native.Mathlib.Omega.{arith}
-use lib.ListN.{length, take, replicate, length-set}
-use borrow.Author.Rules.{rules}
-use Rattle.automaton.proofs.Value.{clear_one, cleared}
+use lib.ListN.{length, take, replicate}
 use Rattle.automaton.proofs.clear.Given as goal
 
 abbrev pub invariant-loop-i : goal.invariant-loop-i

@@ -1,7 +1,5 @@
 use native.Mathlib.Omega.{arith}
 use borrow.Author.Tests.{lt-ltb, le-ltb}
-use borrow.Author.Rules.{rules}
-use Rattle.automaton.proofs.under.Reads as under-reads
 use Rattle.automaton.proofs.depth_after.Goals as goal
 
 pub returns-then-d-lt8 : goal.returns-then-d-lt8

@@ -9,16 +9,6 @@ use Rattle.automaton.specs.Decide.{run_on}
 use Rattle.automaton.proofs.Word.{word_first}
 use Rattle.automaton.proofs.Told.{long}
 use Rattle.automaton.proofs.Large.{low_clear, plain_first}
-use borrow.Author.Rules.{rules}
-use Rattle.automaton.proofs.clear.Reads as clear_reads
-use Rattle.automaton.proofs.finds_long.Reads as finds-long-reads
-use Rattle.automaton.proofs.optional.Reads as optional-reads
-use Rattle.automaton.proofs.plain.Reads as plain-reads
-use Rattle.automaton.proofs.run.Reads as run-reads
-use Rattle.automaton.proofs.small.Reads as small-reads
-use Rattle.automaton.proofs.start_if.Reads as start-if-reads
-use Rattle.automaton.proofs.walk_plain.Reads as walk-plain-reads
-use Rattle.automaton.proofs.walk_word.Reads as walk-word-reads
 use Rattle.automaton.proofs.finds.Goals as goal
 
 pub finds_long-requires : goal.finds_long-requires

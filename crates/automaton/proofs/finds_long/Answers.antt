@@ -7,14 +7,6 @@ use Rattle.octets.specs.Octets.{fold}
 use Rattle.automaton.specs.Table.{tokens_of}
 use Rattle.automaton.specs.Word.{cells_in}
 use Rattle.automaton.proofs.Told.{long_seen, long_first}
-use borrow.Author.Rules.{rules}
-use Rattle.automaton.proofs.clear.Reads as clear_reads
-use Rattle.automaton.proofs.lead.Reads as lead-reads
-use Rattle.automaton.proofs.pack.Reads as pack-reads
-use Rattle.automaton.proofs.plain.Reads as plain-reads
-use Rattle.automaton.proofs.shift.Reads as shift-reads
-use Rattle.automaton.proofs.walk_told.Reads as walk-told-reads
-use Rattle.octets.proofs.fold.Reads as fold-reads
 use Rattle.automaton.proofs.finds_long.Goals as goal
 
 pub returns-then-ef-l : goal.returns-then-ef-l

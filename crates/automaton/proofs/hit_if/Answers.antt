@@ -2,8 +2,6 @@ use Rattle.automaton.specs.Table.{hits}
 use mathlib.Core.Path.{sym, ◌∙◌}
 use mathlib.Core.Bool.{and-false}
 use Rattle.automaton.proofs.Pass.{and_t}
-use borrow.Author.Rules.{rules}
-use Rattle.automaton.proofs.hits.Reads as hits-reads
 use Rattle.automaton.proofs.hit_if.Goals as goal
 
 pub returns-then-enter : goal.returns-then-enter

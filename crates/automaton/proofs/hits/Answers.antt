@@ -1,7 +1,6 @@
 use native.Mathlib.Omega.{arith}
 use mathlib.Core.Path.{sym, ap, ◌∙◌}
 use mathlib.Core.Bool.{Bool}
-use borrow.Author.Rules.{rules}
 use Rattle.automaton.specs.Table.{outside, held_of}
 use Rattle.pattern.specs.Steps.{turned}
 use Rattle.octets.proofs.Theorems.{not_folded}

@@ -4,10 +4,6 @@ use Rattle.automaton.specs.Table.{tokens_of}
 use Rattle.automaton.specs.Word.{cells_in}
 use mathlib.Core.Path.{refl, sym, ap, ◌∙◌}
 use Rattle.automaton.proofs.Told.{led}
-use borrow.Author.Rules.{rules}
-use Rattle.automaton.proofs.pack.Reads as pack-reads
-use Rattle.automaton.proofs.shift.Reads as shift-reads
-use Rattle.automaton.proofs.unpack.Reads as unpack-reads
 use Rattle.automaton.proofs.lead.Goals as goal
 
 pub returns : goal.returns

@@ -1,4 +1,3 @@
-use borrow.Author.Rules.{rules}
 use Rattle.automaton.proofs.mark.Goals as goal
 
 pub returns-then-ends : goal.returns-then-ends

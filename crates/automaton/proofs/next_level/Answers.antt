@@ -1,8 +1,3 @@
-use borrow.Author.Rules.{rules}
-use Rattle.automaton.proofs.barred.Reads as barred-reads
-use Rattle.automaton.proofs.closed.Reads as closed-reads
-use Rattle.automaton.proofs.past_one.Reads as past-one-reads
-use Rattle.automaton.proofs.started.Reads as started-reads
 use Rattle.automaton.proofs.next_level.Goals as goal
 
 pub returns-then-starts : goal.returns-then-starts

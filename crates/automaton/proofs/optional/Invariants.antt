@@ -1,12 +1,7 @@
 use Prim.Native.Nat.{◌≤◌, ◌-◌}
-use mathlib.Core.Path.{◌≡◌, refl, ◌∙◌}
-use native.Mathlib.Omega.{arith}
+use mathlib.Core.Path.{◌≡◌}
 use lib.ListN.{length, drop}
-use borrow.Author.Rules.{rules}
-use Rattle.automaton.specs.Table.{absent}
 use Rattle.automaton.specs.Word.{optional}
-use Rattle.automaton.proofs.Word.{every_no, every_on, every_end}
-use Rattle.automaton.proofs.absent.Reads as absent-reads
 use Rattle.automaton.proofs.optional.Given as goal
 
 abbrev pub invariant-loop-i : goal.invariant-loop-i

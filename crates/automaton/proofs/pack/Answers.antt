@@ -1,12 +1,7 @@
-use Prim.Native.Nat.{◌≤◌, ◌<◌, ◌-◌, ◌^◌}
-use mathlib.Core.Path.{◌≡◌, refl}
+use mathlib.Core.Path.{refl}
 use native.Mathlib.Omega.{arith}
-use lib.ListN.{length, take}
-use borrow.Author.Rules.{rules}
-use Rattle.automaton.specs.Word.{bits_of}
 use Rattle.automaton.proofs.Word.{room, grown}
 use Rattle.automaton.proofs.Told.{pack_one, pack_all}
-use Rattle.automaton.proofs.bit_if.Reads as bit-if-reads
 use Rattle.automaton.proofs.pack.Goals as goal
 
 pub loop-i-init : goal.loop-i-init

@@ -1,12 +1,7 @@
 use Prim.Native.Nat.{◌≤◌, ◌<◌, ◌-◌, ◌^◌}
-use mathlib.Core.Path.{◌≡◌, refl}
-use native.Mathlib.Omega.{arith}
+use mathlib.Core.Path.{◌≡◌}
 use lib.ListN.{length, take}
-use borrow.Author.Rules.{rules}
 use Rattle.automaton.specs.Word.{bits_of}
-use Rattle.automaton.proofs.Word.{room, grown}
-use Rattle.automaton.proofs.Told.{pack_one, pack_all}
-use Rattle.automaton.proofs.bit_if.Reads as bit-if-reads
 use Rattle.automaton.proofs.pack.Given as goal
 
 abbrev pub invariant-loop-i : goal.invariant-loop-i

@@ -1,12 +1,7 @@
-use Prim.Native.Nat.{◌≤◌, ◌-◌}
-use mathlib.Core.Path.{◌≡◌, refl, ◌∙◌}
+use mathlib.Core.Path.{refl, ◌∙◌}
 use native.Mathlib.Omega.{arith}
-use lib.ListN.{length, drop}
-use borrow.Author.Rules.{rules}
 use Rattle.automaton.specs.Word.{single}
-use Rattle.automaton.specs.Word.{plain}
 use Rattle.automaton.proofs.Word.{every_no, every_on, every_end}
-use Rattle.automaton.proofs.single.Reads as single-Reads
 use Rattle.automaton.proofs.plain.Goals as goal
 
 pub loop-i-init : goal.loop-i-init

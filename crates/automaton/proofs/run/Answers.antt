@@ -1,9 +1,6 @@
 use Rattle.octets.specs.Octets.{folded}
 use Rattle.automaton.specs.Table.{tokens_of}
 use Rattle.automaton.proofs.Value.{ran}
-use borrow.Author.Rules.{rules}
-use Rattle.automaton.proofs.shift.Reads as shift-reads
-use Rattle.automaton.proofs.walk.Reads as walk-reads
 use Rattle.automaton.proofs.run.Goals as goal
 
 pub returns : goal.returns

@@ -1,19 +1,8 @@
-use Prim.Native.Nat.{◌≤◌, ◌<◌, ◌-◌, ◌^◌}
 use native.Mathlib.Omega.{arith}
-use mathlib.Core.Path.{◌≡◌, refl, ap, ◌∙◌}
-use mathlib.Core.Bool.{Bool, true}
-use mathlib.Core.List.{[]}
-use lib.ListN.{length}
-use borrow.Author.Rules.{rules}
-use Rattle.automaton.specs.Table.{tokens_of}
-use Rattle.automaton.specs.Pass.{started, pass}
-use Rattle.automaton.specs.Word.{bit_if, cells_in}
-use Rattle.automaton.proofs.Word.{lev, on, on_start, on_turn, leads_quiet, leads_end, room, grown, small_parts}
-use Rattle.automaton.proofs.absent.Reads as absent-reads
-use Rattle.automaton.proofs.bit_if.Reads as bit-if-reads
-use Rattle.automaton.proofs.hit_if.Reads as hit-if-reads
-use Rattle.automaton.proofs.repeats.Reads as repeats-reads
-use Rattle.automaton.proofs.wide.Reads as wide-reads
+use mathlib.Core.Path.{refl, ap, ◌∙◌}
+use mathlib.Core.Bool.{true}
+use Rattle.automaton.specs.Word.{bit_if}
+use Rattle.automaton.proofs.Word.{on_start, on_turn, leads_quiet, leads_end, room, grown, small_parts}
 use Rattle.automaton.proofs.shift_word.Goals as goal
 
 pub loop-i-init : goal.loop-i-init

@@ -1,8 +1,6 @@
 use Prim.Native.Nat.{ℕ}
 use mathlib.Core.Path.{ap}
 use lib.Dec.{ltb}
-use borrow.Author.Rules.{rules}
-use Rattle.automaton.proofs.sort.Reads as sort-reads
 use Rattle.automaton.proofs.single.Goals as goal
 
 pub returns : goal.returns

@@ -1,7 +1,5 @@
 use native.Mathlib.Omega.{arith}
 use Rattle.automaton.proofs.Word.{small_no, small_yes}
-use borrow.Author.Rules.{rules}
-use Rattle.automaton.proofs.plain.Reads as plain-reads
 use Rattle.automaton.proofs.small.Goals as goal
 
 pub returns-then-kinds-gt62 : goal.returns-then-kinds-gt62

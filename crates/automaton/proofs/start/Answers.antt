@@ -5,9 +5,6 @@ use lib.ListN.{get_or}
 use Rattle.octets.specs.Octets.{fold}
 use Rattle.automaton.proofs.Step.{get_d_any}
 use Rattle.automaton.proofs.Skips.{start_skip}
-use borrow.Author.Rules.{rules}
-use Rattle.automaton.proofs.ahead.Reads as ahead-reads
-use Rattle.automaton.proofs.wide.Reads as wide-reads
 use Rattle.automaton.proofs.start.Goals as goal
 
 pub returns : goal.returns

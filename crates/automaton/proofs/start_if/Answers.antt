@@ -1,7 +1,5 @@
 use mathlib.Core.Path.{sym, ◌∙◌}
 use Rattle.octets.proofs.Theorems.{and_parts}
-use borrow.Author.Rules.{rules}
-use Rattle.automaton.proofs.start.Reads as start-reads
 use Rattle.automaton.proofs.start_if.Goals as goal
 
 pub start-requires : goal.start-requires

@@ -1,10 +1,7 @@
-use Prim.Native.Nat.{◌≤◌, ◌-◌}
+use Prim.Native.Nat.{◌-◌}
 use mathlib.Core.Path.{◌≡◌, refl, ◌∙◌}
-use mathlib.Core.List.{◌++◌}
 use native.Mathlib.Omega.{arith}
-use lib.ListN.{length, take, length-set}
-use borrow.Author.Rules.{rules}
-use Rattle.automaton.specs.Word.{bits_of, cells_in}
+use lib.ListN.{length, length-set}
 use Rattle.automaton.proofs.Told.{unpack_one, unpack_all}
 use Rattle.automaton.proofs.unpack.Goals as goal
 

@@ -1,6 +1,4 @@
 use Rattle.automaton.proofs.Step.{up_suc}
-use borrow.Author.Rules.{rules}
-use Rattle.automaton.proofs.started.Reads as started-reads
 use Rattle.automaton.proofs.up.Goals as goal
 
 pub returns-then-d-eq0 : goal.returns-then-d-eq0

@@ -1,16 +1,10 @@
-use borrow.Author.Rules.{rules}
 use Prim.Native.Nat.{◌≤◌, ◌-◌}
-use mathlib.Core.Path.{◌≡◌, refl, sym, ap, ◌∙◌}
-use mathlib.Core.Bool.{true, false}
+use mathlib.Core.Path.{◌≡◌}
 use mathlib.Core.List.{map}
-use native.Mathlib.Omega.{arith}
 use lib.ListN.{length, drop}
 use Rattle.octets.specs.Octets.{fold, folded}
 use Rattle.automaton.specs.Table.{tokens_of}
 use Rattle.automaton.specs.Decide.{walk_on}
-use Rattle.automaton.proofs.Value.{seen, onward, over}
-use Rattle.octets.proofs.fold.Reads as fold-reads
-use Rattle.automaton.proofs.shift.Reads as shift-reads
 use Rattle.automaton.proofs.walk.Given as goal
 
 abbrev pub invariant-loop-i : goal.invariant-loop-i

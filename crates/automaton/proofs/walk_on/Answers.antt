@@ -8,10 +8,6 @@ use Rattle.automaton.specs.Decide.{walk_on}
 use Rattle.automaton.specs.Word.{cells_in, ended_in}
 use mathlib.Core.Path.{ap, ◌∙◌}
 use Rattle.automaton.proofs.Word.{small_of}
-use borrow.Author.Rules.{rules}
-use Rattle.automaton.proofs.unpack.Reads as unpack-reads
-use Rattle.automaton.proofs.walk.Reads as walk-reads
-use Rattle.automaton.proofs.walk_word.Reads as walk-word-reads
 use Rattle.automaton.proofs.walk_on.Goals as goal
 
 pub walk_word-requires : goal.walk_word-requires

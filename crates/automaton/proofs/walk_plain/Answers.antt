@@ -1,18 +1,9 @@
-use borrow.Author.Rules.{rules}
-use Prim.Native.Nat.{◌≤◌, ◌-◌}
-use mathlib.Core.Path.{◌≡◌, refl, sym, ◌∙◌}
-use mathlib.Core.Bool.{true, false}
-use mathlib.Core.List.{map}
+use mathlib.Core.Path.{refl, sym, ◌∙◌}
 use native.Mathlib.Omega.{arith}
-use lib.ListN.{length, drop}
-use Rattle.octets.specs.Octets.{fold, folded}
+use Rattle.octets.specs.Octets.{fold}
 use Rattle.automaton.specs.Table.{tokens_of}
-use Rattle.automaton.specs.Decide.{walk_on}
-use Rattle.automaton.specs.Word.{Low}
 use Rattle.automaton.proofs.Value.{seen, over}
 use Rattle.automaton.proofs.Large.{plain_on}
-use Rattle.automaton.proofs.shift_plain.Reads as shift-plain-reads
-use Rattle.octets.proofs.fold.Reads as fold-reads
 use Rattle.automaton.proofs.walk_plain.Goals as goal
 
 pub loop-i-init : goal.loop-i-init

@@ -1,25 +1,13 @@
-use borrow.Author.Rules.{rules}
-use Prim.Native.Nat.{◌≤◌, ◌-◌}
-use mathlib.Core.Path.{◌≡◌, refl, sym, ◌∙◌}
-use mathlib.Core.List.{map}
+use mathlib.Core.Path.{refl, sym, ◌∙◌}
 use native.Mathlib.Omega.{arith}
-use lib.ListN.{length, get_or, drop, replicate, length-set}
+use lib.ListN.{length, get_or, replicate, length-set}
 use lib.Seq.{get_or-set_same}
-use Rattle.octets.specs.Octets.{fold, folded}
+use Rattle.octets.specs.Octets.{fold}
 use Rattle.automaton.specs.Table.{tokens_of}
-use Rattle.automaton.specs.Decide.{walk_on}
 use Rattle.automaton.specs.Word.{cells_in, ended_in}
 use Rattle.automaton.proofs.Value.{seen, over}
 use Rattle.automaton.proofs.Word.{word_on}
-use Rattle.automaton.proofs.Told.{Told, told_none, told_at, told_more, most}
-use Rattle.automaton.proofs.byte.Reads as byte-Reads
-use Rattle.automaton.proofs.lead.Reads as lead-reads
-use Rattle.automaton.proofs.more.Reads as more-reads
-use Rattle.automaton.proofs.number.Reads as number-reads
-use Rattle.automaton.proofs.place.Reads as place-reads
-use Rattle.automaton.proofs.spot.Reads as spot-reads
-use Rattle.automaton.proofs.walk_on.Reads as walk-on-reads
-use Rattle.octets.proofs.fold.Reads as fold-reads
+use Rattle.automaton.proofs.Told.{told_none, told_at, told_more, most}
 use Rattle.automaton.proofs.walk_told.Goals as goal
 
 pub loop-i-init : goal.loop-i-init

@@ -1,25 +1,12 @@
-use borrow.Author.Rules.{rules}
 use Prim.Native.Nat.{◌≤◌, ◌-◌}
-use mathlib.Core.Path.{◌≡◌, refl, sym, ◌∙◌}
+use mathlib.Core.Path.{◌≡◌}
 use mathlib.Core.List.{map}
-use native.Mathlib.Omega.{arith}
-use lib.ListN.{length, get_or, drop, replicate, length-set}
-use lib.Seq.{get_or-set_same}
+use lib.ListN.{length, get_or, drop}
 use Rattle.octets.specs.Octets.{fold, folded}
 use Rattle.automaton.specs.Table.{tokens_of}
 use Rattle.automaton.specs.Decide.{walk_on}
 use Rattle.automaton.specs.Word.{cells_in, ended_in}
-use Rattle.automaton.proofs.Value.{seen, over}
-use Rattle.automaton.proofs.Word.{word_on}
-use Rattle.automaton.proofs.Told.{Told, told_none, told_at, told_more, most}
-use Rattle.automaton.proofs.byte.Reads as byte-Reads
-use Rattle.automaton.proofs.lead.Reads as lead-reads
-use Rattle.automaton.proofs.more.Reads as more-reads
-use Rattle.automaton.proofs.number.Reads as number-reads
-use Rattle.automaton.proofs.place.Reads as place-reads
-use Rattle.automaton.proofs.spot.Reads as spot-reads
-use Rattle.automaton.proofs.walk_on.Reads as walk-on-reads
-use Rattle.octets.proofs.fold.Reads as fold-reads
+use Rattle.automaton.proofs.Told.{Told}
 use Rattle.automaton.proofs.walk_told.Given as goal
 
 abbrev pub invariant-loop-i : goal.invariant-loop-i

@@ -1,17 +1,11 @@
-use borrow.Author.Rules.{rules}
-use Prim.Native.Nat.{◌≤◌, ◌-◌}
-use mathlib.Core.Path.{◌≡◌, refl, ◌∙◌}
-use mathlib.Core.List.{map}
+use mathlib.Core.Path.{refl, ◌∙◌}
 use native.Mathlib.Omega.{arith}
-use lib.ListN.{length, drop}
-use Rattle.octets.specs.Octets.{fold, folded}
+use lib.ListN.{length}
+use Rattle.octets.specs.Octets.{fold}
 use Rattle.automaton.specs.Table.{tokens_of}
-use Rattle.automaton.specs.Decide.{walk_on}
 use Rattle.automaton.specs.Word.{cells_in, ended_in}
 use Rattle.automaton.proofs.Value.{seen, over}
 use Rattle.automaton.proofs.Word.{word_on}
-use Rattle.automaton.proofs.shift_word.Reads as shift-word-reads
-use Rattle.octets.proofs.fold.Reads as fold-reads
 use Rattle.automaton.proofs.walk_word.Goals as goal
 
 pub loop-i-init : goal.loop-i-init

@@ -1,11 +1,6 @@
-use mathlib.Core.Path.{◌≡◌, refl}
+use mathlib.Core.Path.{refl}
 use native.Mathlib.Omega.{arith}
-use Prim.Native.Nat.{◌≤◌, ◌-◌}
-use lib.ListN.{length, drop}
-use Rattle.regexp.specs.Regex.{branches, is_some}
 use Rattle.regexp.proofs.Loops.{formed_last, formed_more, formed_bad}
-use borrow.Author.Rules.{rules}
-use Rattle.regexp.proofs.next_end.Reads as next-end-reads
 use Rattle.regexp.proofs.all_branches.Goals as goal
 
 pub loop-n-init : goal.loop-n-init

@@ -1,11 +1,7 @@
-use mathlib.Core.Path.{◌≡◌, refl}
-use native.Mathlib.Omega.{arith}
+use mathlib.Core.Path.{◌≡◌}
 use Prim.Native.Nat.{◌≤◌, ◌-◌}
 use lib.ListN.{length, drop}
 use Rattle.regexp.specs.Regex.{branches, is_some}
-use Rattle.regexp.proofs.Loops.{formed_last, formed_more, formed_bad}
-use borrow.Author.Rules.{rules}
-use Rattle.regexp.proofs.next_end.Reads as next-end-reads
 use Rattle.regexp.proofs.all_branches.Given as goal
 
 abbrev pub invariant-loop-n : goal.invariant-loop-n

@@ -1,8 +1,5 @@
 use Rattle.regexp.proofs.Allow.{end_stop, end_bad, repeat_bad, open_bad, bar_stop, bar_bad, close_top, close_bad, stop_stop, stop_bad, none_bad}
-use mathlib.Core.Path.{◌≡◌, refl}
 use native.Mathlib.Omega.{arith}
-use borrow.Author.Rules.{rules}
-use Rattle.regexp.proofs.word_at.Reads as word-at-reads
 use Rattle.regexp.proofs.allowed.Goals as goal
 
 pub returns-then-room-eq8 : goal.returns-then-room-eq8

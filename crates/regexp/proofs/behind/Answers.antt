@@ -1,6 +1,5 @@
 use native.Mathlib.Omega.{arith}
 use Rattle.regexp.proofs.Loops.{behind_end, behind_end_bad, behind_bar, behind_bar_bad, behind-other, behind-early, behind-dollar}
-use borrow.Author.Rules.{rules}
 use Rattle.regexp.proofs.behind.Goals as goal
 
 pub returns-then-some-h : goal.returns-then-some-h

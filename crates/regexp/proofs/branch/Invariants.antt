@@ -1,16 +1,7 @@
-use mathlib.Core.Path.{◌≡◌, refl, sym, ◌∙◌}
-use Prim.Native.Nat.{◌≤◌, ◌<◌, ◌-◌, ◌+◌}
-use native.Mathlib.Omega.{arith}
-use lib.ListN.{length, length-set, get_or}
-use Rattle.regexp.proofs.Walks.{room_inside, walk_broken}
-use Rattle.regexp.proofs.Turns.{Stands, begins, item_turn, last_inside, repeat_turn, open_turn, bar_turn, open_inside, close_turn, walked, finish}
-use Rattle.regexp.proofs.Simple.{easy_plain}
-use borrow.Author.Rules.{rules}
-use Rattle.regexp.proofs.allowed.Reads as allowed-reads
-use Rattle.regexp.proofs.easy.Reads as easy-reads
-use Rattle.regexp.proofs.narrow.Reads as narrow-reads
-use Rattle.regexp.proofs.optional.Reads as optional-reads
-use Rattle.regexp.proofs.repeated.Reads as repeated-reads
+use mathlib.Core.Path.{◌≡◌}
+use Prim.Native.Nat.{◌≤◌, ◌-◌, ◌+◌}
+use lib.ListN.{length}
+use Rattle.regexp.proofs.Turns.{Stands}
 use Rattle.regexp.proofs.branch.Given as goal
 
 abbrev pub invariant-loop-last : goal.invariant-loop-last

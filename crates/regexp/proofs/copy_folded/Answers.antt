@@ -1,12 +1,7 @@
-use mathlib.Core.Path.{◌≡◌, refl, sym, ap, ◌∙◌}
+use mathlib.Core.Path.{refl}
 use native.Mathlib.Omega.{arith}
-use mathlib.Core.Bool.{true}
-use Prim.Native.Nat.{◌≤◌, ◌-◌}
-use lib.ListN.{length, take, length-set}
-use Rattle.octets.specs.Octets.{folded}
+use lib.ListN.{length-set}
 use Rattle.regexp.proofs.Loops.{fold_one, fold_all}
-use borrow.Author.Rules.{rules}
-use Rattle.octets.proofs.fold.Reads as fold-reads
 use Rattle.regexp.proofs.copy_folded.Goals as goal
 
 pub loop-i-init : goal.loop-i-init

@@ -1,8 +1,5 @@
 use native.Mathlib.Omega.{arith}
 use Rattle.regexp.proofs.Simple.{easy_none, easy_some}
-use borrow.Author.Rules.{rules}
-use Rattle.regexp.proofs.is_plain.Reads as is-plain-reads
-use Rattle.regexp.proofs.is_repeat.Reads as is-repeat-reads
 use Rattle.regexp.proofs.easy.Goals as goal
 
 pub returns-then-text-i : goal.returns-then-text-i

@@ -1,11 +1,8 @@
-use mathlib.Core.Path.{◌≡◌, refl, sym, ap, ◌∙◌}
+use mathlib.Core.Path.{sym, ap, ◌∙◌}
 use mathlib.Core.Bool.{Bool}
 use Rattle.octets.specs.Octets.{folded}
 use Rattle.octets.proofs.Theorems.{not_folded}
 use Rattle.regexp.specs.Regex.{regex_of}
-use borrow.Author.Rules.{rules}
-use Rattle.regexp.proofs.fits_folded.Reads as fits-folded-reads
-use Rattle.regexp.proofs.fits_plain.Reads as fits-plain-reads
 use Rattle.regexp.proofs.fits.Goals as goal
 
 pub returns-then-p_mark : goal.returns-then-p_mark

@@ -1,11 +1,7 @@
-use mathlib.Core.Path.{◌≡◌, refl, sym, ap, ◌∙◌}
 use native.Mathlib.Omega.{arith}
 use mathlib.Core.Bool.{true}
 use Rattle.octets.specs.Octets.{folded}
 use Rattle.regexp.proofs.Loops.{regex_long, folded_length, folded_part}
-use borrow.Author.Rules.{rules}
-use Rattle.regexp.proofs.copy_folded.Reads as copy-folded-reads
-use Rattle.regexp.proofs.fits_plain.Reads as fits-plain-reads
 use Rattle.regexp.proofs.fits_folded.Goals as goal
 
 pub returns-then-n-gt4096 : goal.returns-then-n-gt4096

@@ -1,10 +1,6 @@
 use native.Mathlib.Omega.{arith}
 use Rattle.octets.specs.Octets.{folded}
 use Rattle.regexp.proofs.Loops.{regex_long}
-use borrow.Author.Rules.{rules}
-use Rattle.regexp.proofs.search_short.Reads as search-short-reads
-use Rattle.regexp.proofs.search_middle.Reads as search-middle-reads
-use Rattle.regexp.proofs.search_long.Reads as search-long-reads
 use Rattle.regexp.proofs.fits_plain.Goals as goal
 
 pub returns-then-p-le32 : goal.returns-then-p-le32

@@ -1,8 +1,6 @@
 use native.Mathlib.Omega.{arith}
 use Rattle.octets.specs.Octets.{folded}
 use Rattle.regexp.proofs.Loops.{part_lengths, found_is}
-use borrow.Author.Rules.{rules}
-use Rattle.automaton.proofs.finds.Reads as finds-reads
 use Rattle.regexp.proofs.found.Goals as goal
 
 pub slice_bounds-finds-end : goal.slice_bounds-finds-end

@@ -1,7 +1,5 @@
-use mathlib.Core.Path.{◌≡◌, refl, sym, ap, ◌∙◌}
+use mathlib.Core.Path.{ap}
 use mathlib.Core.Bool.{Bool, ◌&&◌}
-use borrow.Author.Rules.{rules}
-use Rattle.pattern.proofs.sets.begins.Reads as begins-reads
 use Rattle.regexp.proofs.hat.Goals as goal
 
 pub returns : goal.returns

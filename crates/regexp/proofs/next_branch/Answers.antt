@@ -1,11 +1,5 @@
-use mathlib.Core.Path.{◌≡◌, refl, sym, ap, ◌∙◌}
 use mathlib.Core.List.{[]}
 use Rattle.regexp.proofs.Loops.{from_inside, table_turn, table_bad}
-use borrow.Author.Rules.{rules}
-use Rattle.regexp.proofs.hat.Reads as hat-reads
-use Rattle.regexp.proofs.past.Reads as past-reads
-use Rattle.regexp.proofs.branch.Reads as branch-reads
-use Rattle.regexp.proofs.behind.Reads as behind-reads
 use Rattle.regexp.proofs.next_branch.Goals as goal
 
 pub branch-n-requires : goal.branch-n-requires

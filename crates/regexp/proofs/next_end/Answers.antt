@@ -1,10 +1,4 @@
-use mathlib.Core.Path.{◌≡◌, refl, sym, ap, ◌∙◌}
 use Rattle.regexp.proofs.Loops.{from_inside, turn, turn_bad}
-use borrow.Author.Rules.{rules}
-use Rattle.regexp.proofs.hat.Reads as hat-reads
-use Rattle.regexp.proofs.past.Reads as past-reads
-use Rattle.regexp.proofs.branch_end.Reads as branch-end-reads
-use Rattle.regexp.proofs.behind.Reads as behind-reads
 use Rattle.regexp.proofs.next_end.Goals as goal
 
 pub branch_end-requires : goal.branch_end-requires

@@ -1,5 +1,4 @@
 use Rattle.regexp.proofs.Parts.{lacks_not, lacks_is, lacks_more}
-use borrow.Author.Rules.{rules}
 use Rattle.regexp.proofs.optional.Goals as goal
 
 pub returns-then-k-eq0 : goal.returns-then-k-eq0

@@ -1,11 +1,9 @@
-use mathlib.Core.Path.{◌≡◌, refl, sym, ap, ◌∙◌}
+use mathlib.Core.Path.{◌≡◌, sym, ap, ◌∙◌}
 use native.Mathlib.Omega.{arith}
 use mathlib.Core.Bool.{Bool, ◌&&◌}
 use Prim.Native.Nat.{◌+◌}
 use Rattle.regexp.specs.Regex.{one_if}
 use Rattle.regexp.proofs.Loops.{hat_inside}
-use borrow.Author.Rules.{rules}
-use Rattle.pattern.proofs.sets.begins.Reads as begins-reads
 use Rattle.regexp.proofs.past.Goals as goal
 
 pub overflow_add-result : goal.overflow_add-result

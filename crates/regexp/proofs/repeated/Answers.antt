@@ -1,5 +1,4 @@
 use Rattle.regexp.proofs.Parts.{again_not, again_is, again_more}
-use borrow.Author.Rules.{rules}
 use Rattle.regexp.proofs.repeated.Goals as goal
 
 pub returns-then-k-eq0 : goal.returns-then-k-eq0

@@ -1,16 +1,8 @@
-use mathlib.Core.Path.{◌≡◌, refl, sym, ap, ◌∙◌}
+use mathlib.Core.Path.{refl, ◌∙◌}
 use native.Mathlib.Omega.{arith}
-use mathlib.Core.Bool.{true}
 use mathlib.Core.List.{[]}
-use Prim.Native.Nat.{◌≤◌, ◌-◌}
-use lib.ListN.{length, drop}
 use Rattle.octets.specs.Octets.{folded}
-use Rattle.regexp.specs.Regex.{branches, branches_of, held_in}
 use Rattle.regexp.proofs.Loops.{search_last, search_hit, search_on, search_bad}
-use borrow.Author.Rules.{rules}
-use Rattle.regexp.proofs.all_branches.Reads as all-branches-reads
-use Rattle.regexp.proofs.next_branch.Reads as next-branch-reads
-use Rattle.regexp.proofs.found.Reads as found-reads
 use Rattle.regexp.proofs.search.Goals as goal
 
 pub loop-n-init : goal.loop-n-init

@@ -1,8 +1,6 @@
 use native.Mathlib.Omega.{arith}
 use Rattle.octets.specs.Octets.{folded}
 use Rattle.regexp.proofs.Loops.{regex_short}
-use borrow.Author.Rules.{rules}
-use Rattle.regexp.proofs.search.Reads as search-reads
 use Rattle.regexp.proofs.search_long.Goals as goal
 
 pub search-requires : goal.search-requires

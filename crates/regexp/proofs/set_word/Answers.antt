@@ -1,13 +1,10 @@
-use mathlib.Core.Path.{◌≡◌, refl, sym, ap, ◌∙◌}
+use mathlib.Core.Path.{sym, ◌∙◌}
 use native.Mathlib.Omega.{arith}
 use Rattle.octets.proofs.Theorems.{not_folded}
 use Rattle.pattern.proofs.Texts.{begins_inside}
 use lib.ListN.{drop}
 use Prim.Native.Nat.{◌+◌}
 use Rattle.regexp.proofs.Parts.{test_ends, test_bad, set_out, set_out_bad, set_in, set_in_bad}
-use borrow.Author.Rules.{rules}
-use Rattle.pattern.proofs.sets.begins.Reads as begins-reads
-use Rattle.pattern.proofs.sets.set_test.Reads as set-test-reads
 use Rattle.regexp.proofs.set_word.Goals as goal
 
 pub overflow_add-i : goal.overflow_add-i

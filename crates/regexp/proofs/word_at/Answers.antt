@@ -1,7 +1,5 @@
 use Rattle.regexp.proofs.Parts.{word_escaped, word_bad, word_set, word-open, word-close, word-bar, word-star, word-plus, word-optional, word-any, word-hat, word-dollar, word_plain}
 use native.Mathlib.Omega.{arith}
-use borrow.Author.Rules.{rules}
-use Rattle.regexp.proofs.set_word.Reads as set-word-reads
 use Rattle.regexp.proofs.word_at.Goals as goal
 
 pub returns-then-i-text : goal.returns-then-i-text

@@ -1,5 +1,4 @@
 use native.Mathlib.Omega.{arith}
-use borrow.Author.Rules.{rules}
 use Rattle.utf8.proofs.Strings.{ascii_one, ascii_begins, at_width}
 use Rattle.utf8.proofs.advance.Goals as goal
 

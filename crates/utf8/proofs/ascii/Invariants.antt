@@ -1,12 +1,8 @@
-use Prim.Native.Nat.{ℕ, ◌+◌, ◌-◌, ◌≤◌}
+use Prim.Native.Nat.{◌+◌, ◌-◌, ◌≤◌}
 use mathlib.Core.Path.{◌≡◌}
 use mathlib.Core.Bool.{true}
-use native.Mathlib.Omega.{arith}
 use lib.ListN.{length}
-use borrow.Author.Rules.{rules}
-use Rattle.common.proofs.Choice.{false_true}
 use Rattle.utf8.specs.Scan.{Ascii}
-use Rattle.utf8.proofs.Strings.{ascii_one, ascii_more}
 use Rattle.utf8.proofs.ascii.Given as goal
 
 abbrev pub invariant-loop-j : goal.invariant-loop-j

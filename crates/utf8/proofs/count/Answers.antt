@@ -1,9 +1,7 @@
-use Prim.Native.Nat.{◌-◌, ◌≤◌}
 use native.Mathlib.Omega.{arith}
-use lib.ListN.{length, drop}
-use borrow.Author.Rules.{rules}
+use lib.ListN.{drop}
 use Rattle.utf8.specs.Scan.{characters_in}
-use Rattle.utf8.proofs.Strings.{Passed, starts, goes_on, finishes, refuses, fits_at_lem, advanced}
+use Rattle.utf8.proofs.Strings.{starts, goes_on, finishes, refuses, fits_at_lem, advanced}
 use Rattle.utf8.proofs.count.Goals as goal
 
 pub loop-i-init : goal.loop-i-init

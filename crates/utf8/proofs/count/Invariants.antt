@@ -1,9 +1,6 @@
 use Prim.Native.Nat.{◌-◌, ◌≤◌}
-use native.Mathlib.Omega.{arith}
-use lib.ListN.{length, drop}
-use borrow.Author.Rules.{rules}
-use Rattle.utf8.specs.Scan.{characters_in}
-use Rattle.utf8.proofs.Strings.{Passed, starts, goes_on, finishes, refuses, fits_at_lem, advanced}
+use lib.ListN.{length}
+use Rattle.utf8.proofs.Strings.{Passed}
 use Rattle.utf8.proofs.count.Given as goal
 
 abbrev pub invariant-loop-i : goal.invariant-loop-i

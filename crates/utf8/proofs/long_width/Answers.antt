@@ -1,6 +1,5 @@
 use mathlib.Core.Path.{sym, ◌∙◌}
 use borrow.Author.Tests.{lt-ltb, le-ltb}
-use borrow.Author.Rules.{rules}
 use Rattle.utf8.proofs.long_width.Goals as goal
 
 pub returns-then-is_three : goal.returns-then-is_three

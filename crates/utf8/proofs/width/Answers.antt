@@ -4,7 +4,6 @@ use mathlib.Core.Bool.{true, false}
 use lib.ListN.{get_or}
 use Rattle.utf8.specs.Scan.{is_two}
 use Rattle.utf8.proofs.Encoding.{width_two, width_long}
-use borrow.Author.Rules.{rules}
 use Rattle.utf8.proofs.width.Goals as goal
 
 pub returns-then-is_two : goal.returns-then-is_two

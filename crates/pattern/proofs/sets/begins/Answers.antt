@@ -1,6 +1,5 @@
 use native.Mathlib.Omega.{arith}
 use Rattle.pattern.proofs.Texts.{begins_here, begins_past}
-use borrow.Author.Rules.{rules}
 use Rattle.pattern.proofs.sets.begins.Goals as goal
 
 pub returns-then-i-p : goal.returns-then-i-p

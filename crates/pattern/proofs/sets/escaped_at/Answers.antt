@@ -1,7 +1,5 @@
 use Rattle.pattern.proofs.Ranges.{escaped_here, escaped_past}
 use native.Mathlib.Omega.{arith}
-use borrow.Author.Rules.{rules}
-use Rattle.octets.proofs.fold.Reads as fold-reads
 use Rattle.pattern.proofs.sets.escaped_at.Goals as goal
 
 pub returns-then-i-p : goal.returns-then-i-p

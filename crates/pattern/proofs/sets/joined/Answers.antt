@@ -1,6 +1,5 @@
 use Rattle.pattern.specs.Steps.{joined_at}
 use mathlib.Core.Path.{sym, ap}
-use borrow.Author.Rules.{rules}
 use Rattle.pattern.proofs.sets.joined.Goals as goal
 
 pub returns-in-Range : goal.returns-in-Range

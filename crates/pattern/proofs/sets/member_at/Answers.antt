@@ -1,9 +1,6 @@
 use Rattle.pattern.proofs.Ranges.{member_past, member_close, member-escaped, member-plain}
 use native.Mathlib.Omega.{arith}
 use mathlib.Core.Path.{◌∙◌}
-use borrow.Author.Rules.{rules}
-use Rattle.octets.proofs.fold.Reads as fold-reads
-use Rattle.pattern.proofs.sets.escaped_at.Reads as escaped-at-reads
 use Rattle.pattern.proofs.sets.member_at.Goals as goal
 
 pub returns-then-p-i : goal.returns-then-p-i

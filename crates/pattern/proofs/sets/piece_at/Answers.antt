@@ -3,10 +3,6 @@ use Rattle.pattern.proofs.Texts.{begins_inside}
 use Rattle.pattern.specs.Steps.{joined_at}
 use native.Mathlib.Omega.{arith}
 use mathlib.Core.Path.{sym, ap, ◌∙◌}
-use borrow.Author.Rules.{rules}
-use Rattle.pattern.proofs.sets.begins.Reads as begins-reads
-use Rattle.pattern.proofs.sets.joined.Reads as joined-reads
-use Rattle.pattern.proofs.sets.member_at.Reads as member-at-reads
 use Rattle.pattern.proofs.sets.piece_at.Goals as goal
 
 pub overflow_add-next : goal.overflow_add-next

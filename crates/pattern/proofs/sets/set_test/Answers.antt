@@ -1,11 +1,8 @@
-use Rattle.pattern.proofs.Ranges.{SetRead, read_start, read_next, read_more, read_falls, read_empty, read_close, read_end, read_past}
+use Rattle.pattern.proofs.Ranges.{read_start, read_next, read_more, read_falls, read_empty, read_close, read_end, read_past}
 use Rattle.octets.specs.Octets.{fold, folded}
-use lib.ListN.{length, length-map}
-use Prim.Native.Nat.{◌-◌}
-use borrow.Author.Rules.{rules}
+use lib.ListN.{length-map}
 use native.Mathlib.Omega.{arith}
 use mathlib.Core.Path.{sym, ◌∙◌}
-use Rattle.pattern.proofs.sets.piece_at.Reads as piece-at-reads
 use Rattle.pattern.proofs.sets.set_test.Goals as goal
 
 pub loop-i-init : goal.loop-i-init

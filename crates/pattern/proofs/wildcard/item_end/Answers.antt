@@ -1,8 +1,6 @@
 use Rattle.pattern.proofs.Items.{end_past, end_escaped, end_backslash, end_set, end_one}
 use native.Mathlib.Omega.{arith}
 use mathlib.Core.Path.{◌∙◌}
-use borrow.Author.Rules.{rules}
-use Rattle.pattern.proofs.wildcard.set_end.Reads as set-end-reads
 use Rattle.pattern.proofs.wildcard.item_end.Goals as goal
 
 pub returns-then-p-i : goal.returns-then-p-i

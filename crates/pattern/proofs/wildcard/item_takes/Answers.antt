@@ -1,9 +1,6 @@
-use borrow.Author.Rules.{rules}
 use Rattle.pattern.proofs.Items.{takes_past, takes_run, takes-any, takes-escaped, takes-set, takes-plain}
 use native.Mathlib.Omega.{arith}
 use mathlib.Core.Path.{◌∙◌}
-use Rattle.pattern.proofs.wildcard.plain_takes.Reads as plain-takes-reads
-use Rattle.pattern.proofs.wildcard.set_takes.Reads as set-takes-reads
 use Rattle.pattern.proofs.wildcard.item_takes.Goals as goal
 
 pub returns-then-p-i : goal.returns-then-p-i

@@ -1,10 +1,6 @@
 use Rattle.pattern.proofs.Items.{runs_past, runs_more, runs_stop}
-use Rattle.pattern.specs.Steps.{only_runs}
-use lib.ListN.{length, drop}
-use Prim.Native.Nat.{◌-◌}
-use borrow.Author.Rules.{rules}
 use native.Mathlib.Omega.{arith}
-use mathlib.Core.Path.{◌≡◌, refl, ◌∙◌}
+use mathlib.Core.Path.{refl, ◌∙◌}
 use Rattle.pattern.proofs.wildcard.only_runs.Goals as goal
 
 pub loop-i-init : goal.loop-i-init

@@ -1,8 +1,6 @@
 use Rattle.pattern.proofs.Items.{plain_past, plain_hit, plain_miss}
 use native.Mathlib.Omega.{arith}
 use mathlib.Core.Path.{sym, ◌∙◌}
-use borrow.Author.Rules.{rules}
-use Rattle.octets.proofs.fold.Reads as fold-reads
 use Rattle.pattern.proofs.wildcard.plain_takes.Goals as goal
 
 pub returns-then-fold-c : goal.returns-then-fold-c

@@ -4,10 +4,6 @@ use Rattle.pattern.specs.Steps.{set_end_of}
 use Rattle.octets.proofs.Theorems.{not_folded}
 use native.Mathlib.Omega.{arith}
 use mathlib.Core.Path.{sym, ap, ◌∙◌}
-use borrow.Author.Rules.{rules}
-use Rattle.pattern.proofs.sets.begins.Reads as begins-reads
-use Rattle.pattern.proofs.sets.set_test.Reads as set-test-reads
-use Rattle.pattern.proofs.wildcard.end_of.Reads as end-of-reads
 use Rattle.pattern.proofs.wildcard.set_end.Goals as goal
 
 pub overflow_add-i : goal.overflow_add-i

@@ -5,10 +5,6 @@ use Rattle.pattern.specs.Steps.{set_taken_of}
 use Rattle.octets.specs.Octets.{folded}
 use native.Mathlib.Omega.{arith}
 use mathlib.Core.Path.{sym, ap, ◌∙◌}
-use borrow.Author.Rules.{rules}
-use Rattle.pattern.proofs.sets.begins.Reads as begins-reads
-use Rattle.pattern.proofs.sets.set_test.Reads as set-test-reads
-use Rattle.pattern.proofs.wildcard.taken.Reads as taken-reads
 use Rattle.pattern.proofs.wildcard.set_takes.Goals as goal
 
 pub overflow_add-i : goal.overflow_add-i

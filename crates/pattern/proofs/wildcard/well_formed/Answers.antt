@@ -1,11 +1,6 @@
 use Rattle.pattern.proofs.Items.{item_ends, item_bad, ends_well}
-use Rattle.pattern.specs.Wildcard.{well_formed}
-use lib.ListN.{length, drop}
-use Prim.Native.Nat.{◌-◌}
-use borrow.Author.Rules.{rules}
 use native.Mathlib.Omega.{arith}
-use mathlib.Core.Path.{◌≡◌, refl, ◌∙◌}
-use Rattle.pattern.proofs.wildcard.item_end.Reads as item-end-reads
+use mathlib.Core.Path.{refl, ◌∙◌}
 use Rattle.pattern.proofs.wildcard.well_formed.Goals as goal
 
 pub loop-i-init : goal.loop-i-init

@@ -1,11 +1,7 @@
-use Rattle.pattern.proofs.Items.{item_ends, item_bad, ends_well}
 use Rattle.pattern.specs.Wildcard.{well_formed}
 use lib.ListN.{length, drop}
 use Prim.Native.Nat.{◌-◌}
-use borrow.Author.Rules.{rules}
-use native.Mathlib.Omega.{arith}
-use mathlib.Core.Path.{◌≡◌, refl, ◌∙◌}
-use Rattle.pattern.proofs.wildcard.item_end.Reads as item-end-reads
+use mathlib.Core.Path.{◌≡◌}
 use Rattle.pattern.proofs.wildcard.well_formed.Given as goal
 
 abbrev pub invariant-loop-i : goal.invariant-loop-i
