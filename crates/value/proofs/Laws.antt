@@ -20,7 +20,7 @@ use Rattle.notice.specs.Field.{Field}
 use Rattle.notice.specs.Layout.{fields_of}
 use Rattle.notice.specs.Lookup.{field_named}
 use Rattle.notice.proofs.More.{found_still}
-use Rattle.value.specs.Value.{Value, bottom, Item, logic, value, is_text, change_of, test_of, combine_of, compare_of, equal_values, all_texts, any_fit, any_equal, many_of, truth_in, value_in_lem, named_value, value_named}
+use Rattle.value.specs.Value.{Value, bottom, Item, logic, value, is_text, change_of, test_of, combine_of, compare_of, equal_values, all_texts, any_fit, any_equal, many_of, truth_in, value_in, named_value, value_named}
 use Rattle.value.specs.Order.{TruthBelow, ValueBelow, ItemBelow, EachBelow}
 use Rattle.value.specs.Laws.{LookupRises, OneRises, ConnectiveRises, TwoRises, ManyRises, NoneTells}
 use Rattle.value.proofs.Order.{strict_one, strict_two, by_sides}
@@ -33,13 +33,13 @@ truth_in_lem (logic s) (value w) h = absurd h
 truth_in_lem (value v) (logic t) h = absurd h
 truth_in_lem (value v) (value w) h = inl refl
 
-value_in_lem : (x y : Item) → ItemBelow x y → ValueBelow (value_in_lem x) (value_in_lem y)
+value_in_lem : (x y : Item) → ItemBelow x y → ValueBelow (value_in x) (value_in y)
 value_in_lem (logic s) (logic t) h = inl refl
 value_in_lem (logic s) (value w) h = absurd h
 value_in_lem (value v) (logic t) h = absurd h
 value_in_lem (value v) (value w) h = h
 
-values_in : (xs ys : List Item) → EachBelow ItemBelow xs ys → EachBelow ValueBelow (map value_in_lem xs) (map value_in_lem ys)
+values_in : (xs ys : List Item) → EachBelow ItemBelow xs ys → EachBelow ValueBelow (map value_in xs) (map value_in ys)
 values_in [] [] h = tt
 values_in [] (y ∷ ys) h = absurd h
 values_in (x ∷ xs) [] h = absurd h
@@ -58,7 +58,7 @@ lookup_rises first second m name = rw (value_named_lem first name, value_named_l
 
 pub one_rises : OneRises
 one_rises Unary.Not x x' h = strict_one not_of (ap truth_in (strict_unary Unary.Not)) (truth_in_lem x x' h)
-one_rises (Unary.Change o) x x' h = strict_one (change_of o) (ap value_in_lem (strict_unary (Unary.Change o))) (value_in_lem x x' h)
+one_rises (Unary.Change o) x x' h = strict_one (change_of o) (ap value_in (strict_unary (Unary.Change o))) (value_in_lem x x' h)
 one_rises (Unary.Test o) x x' h = strict_one (test_of o) (ap truth_in (strict_unary (Unary.Test o))) (value_in_lem x x' h)
 
 -- ---- connectives
@@ -138,7 +138,7 @@ several_rise (Many.Fit f) = fit_rises f
 several_rise Many.Equals = equals_rises
 
 pub many_rises : ManyRises
-many_rises o x x' ys ys' p h = several_rise o (value_in_lem x) (value_in_lem x') (map value_in_lem ys) (map value_in_lem ys') (value_in_lem x x' p) (values_in ys ys' h)
+many_rises o x x' ys ys' p h = several_rise o (value_in x) (value_in x') (map value_in ys) (map value_in ys') (value_in_lem x x' p) (values_in ys ys' h)
 
 -- ---- none tells a missing field from one that is there
 

@@ -49,7 +49,7 @@ use Rattle.notice.specs.Field.{Field}
 use Rattle.notice.specs.Layout.{fields_of}
 use Rattle.notice.specs.Lookup.{lookup_of, field_named, FoundIs}
 use Rattle.notice.proofs.Theorems.{lookup}
-use Rattle.value.specs.Value.{Value, bottom, opaque, Item, logic, value, is_bottom, kind_of, unary_of, binary_of, connect_of, type_test, nan_of, test_of, number_of, value_of, type_of, is_text, text_in, size_by, equal_values, combine_numbers, combine_of, compare_of, fit_of, all_texts, any_fits, any_fit, any_equal, fit_values, truth_in, value_in_lem, strict_or, tally_of, start_of, field_value, found_value, named_value, value_named, in_pool, int32, int64, real, text}
+use Rattle.value.specs.Value.{Value, bottom, opaque, Item, logic, value, is_bottom, kind_of, unary_of, binary_of, connect_of, type_test, nan_of, test_of, number_of, value_of, type_of, is_text, text_in, size_by, equal_values, combine_numbers, combine_of, compare_of, fit_of, all_texts, any_fits, any_fit, any_equal, fit_values, truth_in, value_in, strict_or, tally_of, start_of, field_value, found_value, named_value, value_named, in_pool, int32, int64, real, text}
 use Rattle.value.specs.Theorems.{UnaryKind, BinaryKind, ManyKind, LoadKind, ShiftsAlone, StrictUnary, StrictBinary, StrictMany, SizeCharacters, SizeBottom, SizeFolded, LaterNoText, EqualsTrue, FalseAnd, TrueOr, EqualOtherwise, Tally, Settled, KnownNot, KnownTest, KnownConnect, ValueNamed, LoadInt32, LoadInt64, LoadReal64, LoadText, LoadName}
 
 pub unary_kind : UnaryKind
@@ -168,8 +168,8 @@ bottom_xor Bottom = (refl, refl)
 bottom_xor False = (refl, refl)
 
 pub strict_binary : StrictBinary
-strict_binary edition (Binary.Combine o) x e = let c = bottom_combine edition o (value_in_lem x) in (ap value c.0, ap value c.1)
-strict_binary edition (Binary.Compare o) x e = let c = bottom_compare o (value_in_lem x) in (ap logic c.0, ap logic c.1)
+strict_binary edition (Binary.Combine o) x e = let c = bottom_combine edition o (value_in x) in (ap value c.0, ap value c.1)
+strict_binary edition (Binary.Compare o) x e = let c = bottom_compare o (value_in x) in (ap logic c.0, ap logic c.1)
 strict_binary edition (Binary.Connect Connective.And) x e = true_false (sym e)
 strict_binary edition (Binary.Connect Connective.Xor) x e = let c = bottom_xor (truth_in x) in (ap logic c.0, ap logic c.1)
 strict_binary edition (Binary.Connect Connective.Or) x e = true_false (sym e)
@@ -184,7 +184,7 @@ bottom_any (w ∷ ws) = inr (rw (bottom_equal w).0 (bottom_or (any_equal bottom 
 
 pub strict_many : StrictMany
 strict_many (Many.Fit f) y ys = refl
-strict_many Many.Equals y ys = ap logic (rw (bottom_equal (value_in_lem y)).0 (bottom_or (any_equal bottom (map value_in_lem ys)) (bottom_any (map value_in_lem ys))))
+strict_many Many.Equals y ys = ap logic (rw (bottom_equal (value_in y)).0 (bottom_or (any_equal bottom (map value_in ys)) (bottom_any (map value_in ys))))
 
 -- `size` of a string, from any right count of it
 module _ (s : List ℕ) where
@@ -205,21 +205,21 @@ size_bottom s = (uncounted s (count_of s) (right s), λ h. ap size_by (one_answe
 pub size_folded : SizeFolded
 size_folded s = ap size_by (sym (counted_is true s (count_of s) (right s)))
 
-no_text : (y : Item) (ys zs : List Item) → is_text (value_in_lem y) ≡ false → all_texts (map value_in_lem (ys ++ (y ∷ zs))) ≡ false
+no_text : (y : Item) (ys zs : List Item) → is_text (value_in y) ≡ false → all_texts (map value_in (ys ++ (y ∷ zs))) ≡ false
 no_text y [] zs e = rw e
-no_text y (x ∷ xs) zs e = rw (no_text y xs zs e) (and-false (is_text (value_in_lem x)))
+no_text y (x ∷ xs) zs e = rw (no_text y xs zs e) (and-false (is_text (value_in x)))
 
 pub later_no_text : LaterNoText
-later_no_text f x y ys zs e = rw (no_text y ys zs e, and-false (is_text (value_in_lem x)))
+later_no_text f x y ys zs e = rw (no_text y ys zs e, and-false (is_text (value_in x)))
 
 or-true : (t : Truth) → (or_of True t ≡ True) × (or_of t True ≡ True)
 or-true True = (refl, refl)
 or-true Bottom = (refl, refl)
 or-true False = (refl, refl)
 
-some_equal : (x y : Item) (ys zs : List Item) → equal_values (value_in_lem x) (value_in_lem y) ≡ True → any_equal (value_in_lem x) (map value_in_lem (ys ++ (y ∷ zs))) ≡ True
-some_equal x y [] zs e = rw e (or-true (any_equal (value_in_lem x) (map value_in_lem zs))).0
-some_equal x y (w ∷ ws) zs e = rw (some_equal x y ws zs e) (or-true (equal_values (value_in_lem x) (value_in_lem w))).1
+some_equal : (x y : Item) (ys zs : List Item) → equal_values (value_in x) (value_in y) ≡ True → any_equal (value_in x) (map value_in (ys ++ (y ∷ zs))) ≡ True
+some_equal x y [] zs e = rw e (or-true (any_equal (value_in x) (map value_in zs))).0
+some_equal x y (w ∷ ws) zs e = rw (some_equal x y ws zs e) (or-true (equal_values (value_in x) (value_in w))).1
 
 pub equals_true : EqualsTrue
 equals_true x y ys zs e = ap logic (some_equal x y ys zs e)
@@ -251,11 +251,11 @@ or_assoc Bottom Bottom True = refl
 or_assoc Bottom Bottom Bottom = refl
 or_assoc Bottom Bottom False = refl
 
-equals_from : (x : Item) (known : Truth) (ys : List Item) → tally_of Many.Equals x known ys ≡ or_of known (any_equal (value_in_lem x) (map value_in_lem ys))
+equals_from : (x : Item) (known : Truth) (ys : List Item) → tally_of Many.Equals x known ys ≡ or_of known (any_equal (value_in x) (map value_in ys))
 equals_from x known [] = sym (or-false known).0
 equals_from x known (y ∷ ys) =
-    equals_from x (or_of known (equal_values (value_in_lem x) (value_in_lem y))) ys
-    ∙ or_assoc known (equal_values (value_in_lem x) (value_in_lem y)) (any_equal (value_in_lem x) (map value_in_lem ys))
+    equals_from x (or_of known (equal_values (value_in x) (value_in y))) ys
+    ∙ or_assoc known (equal_values (value_in x) (value_in y)) (any_equal (value_in x) (map value_in ys))
 
 strict_assoc : (r s t : Truth) → strict_or (strict_or r s) t ≡ strict_or r (strict_or s t)
 strict_assoc Bottom s t = refl
@@ -292,31 +292,31 @@ module _ (f : Fit) (v : Value) (e : is_text v ≡ true) where
       by true false a b = strict_bottom (of_bool a)
       by false t a b = refl
 
-fits_from : (f : Fit) (x : Item) (known : Truth) → is_text (value_in_lem x) ≡ true → (ys : List Item)
-    → tally_of (Many.Fit f) x known ys ≡ strict_or known (any_fit f (value_in_lem x) (map value_in_lem ys))
+fits_from : (f : Fit) (x : Item) (known : Truth) → is_text (value_in x) ≡ true → (ys : List Item)
+    → tally_of (Many.Fit f) x known ys ≡ strict_or known (any_fit f (value_in x) (map value_in ys))
 fits_from f x known e [] = rw e (sym (strict_false known))
 fits_from f x known e (y ∷ ys) =
-    fits_from f x (strict_or known (fit_values f (value_in_lem x) (value_in_lem y))) e ys
-    ∙ strict_assoc known (fit_values f (value_in_lem x) (value_in_lem y)) (any_fit f (value_in_lem x) (map value_in_lem ys))
-    ∙ ap (strict_or known) (one_more f (value_in_lem x) e (value_in_lem y) (map value_in_lem ys))
+    fits_from f x (strict_or known (fit_values f (value_in x) (value_in y))) e ys
+    ∙ strict_assoc known (fit_values f (value_in x) (value_in y)) (any_fit f (value_in x) (map value_in ys))
+    ∙ ap (strict_or known) (one_more f (value_in x) e (value_in y) (map value_in ys))
 
 stays_bottom : (f : Fit) (x : Item) (ys : List Item) → tally_of (Many.Fit f) x Bottom ys ≡ Bottom
 stays_bottom f x [] = refl
 stays_bottom f x (y ∷ ys) = stays_bottom f x ys
 
-fits_by : (f : Fit) (x : Item) (ys : List Item) (b : Bool) → is_text (value_in_lem x) ≡ b
-    → tally_of (Many.Fit f) x (cond (is_text (value_in_lem x)) False Bottom) ys ≡ any_fit f (value_in_lem x) (map value_in_lem ys)
+fits_by : (f : Fit) (x : Item) (ys : List Item) (b : Bool) → is_text (value_in x) ≡ b
+    → tally_of (Many.Fit f) x (cond (is_text (value_in x)) False Bottom) ys ≡ any_fit f (value_in x) (map value_in ys)
 fits_by f x ys true e = ap (λ (t : Bool). tally_of (Many.Fit f) x (cond t False Bottom) ys) e ∙ fits_from f x False e ys
 fits_by f x ys false e = ap (λ (t : Bool). tally_of (Many.Fit f) x (cond t False Bottom) ys) e ∙ stays_bottom f x ys ∙ rw e
 
 pub tally : Tally
-tally (Many.Fit f) x ys = ap logic (fits_by f x ys (is_text (value_in_lem x)) refl)
-tally Many.Equals x ys = ap logic (equals_from x False ys ∙ (or-false (any_equal (value_in_lem x) (map value_in_lem ys))).1)
+tally (Many.Fit f) x ys = ap logic (fits_by f x ys (is_text (value_in x)) refl)
+tally Many.Equals x ys = ap logic (equals_from x False ys ∙ (or-false (any_equal (value_in x) (map value_in ys))).1)
 
 -- an equal value stays
 stays_true : (x : Item) (ys : List Item) → tally_of Many.Equals x True ys ≡ True
 stays_true x [] = refl
-stays_true x (y ∷ ys) = ap (λ (t : Truth). tally_of Many.Equals x t ys) (true-or-t True (equal_values (value_in_lem x) (value_in_lem y)) refl) ∙ stays_true x ys
+stays_true x (y ∷ ys) = ap (λ (t : Truth). tally_of Many.Equals x t ys) (true-or-t True (equal_values (value_in x) (value_in y)) refl) ∙ stays_true x ys
 
 pub settled : Settled
 settled (Many.Fit f) x False ys e = true_false e

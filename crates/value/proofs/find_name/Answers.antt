@@ -8,7 +8,7 @@ use Rattle.value.proofs.find_name.Goals as goal
 
 pub returns : goal.returns
 returns c =
-    let s : tie.Start = search in let p = s.args.pool.now in let q = s.args.notice.now in
-    let at = s.args.b % 65536 in
-    let long : at + s.args.a - at ≡ s.args.a = omega arith in
+    let p = c.args.pool.now in let q = c.args.notice.now in
+    let at = c.args.b % 65536 in
+    let long : at + c.args.a - at ≡ c.args.a = omega arith in
     c.lookup_in.ensures ∙ ap (λ (n : ℕ). lookup_of q (take n (drop at p))) long

@@ -5,13 +5,13 @@ use borrow.Author.Rules.{rules}
 use Rattle.value.proofs.is_bottom.Goals as goal
 
 pub returns-in-False : goal.returns-in-False
-returns-in-False c = λ p q. rw (c.h-1.given.1, c.enum_told-1.given.1)
+returns-in-False c = λ p q. rw (c.in-Logic.is, c.in-False.is)
 
 pub returns-in-Bottom : goal.returns-in-Bottom
-returns-in-Bottom c = λ p q. rw (c.h-1.given.1, c.enum_told-in-Bottom-1.given.1)
+returns-in-Bottom c = λ p q. rw (c.in-Logic.is, c.in-Bottom.is)
 
 pub returns-in-True : goal.returns-in-True
-returns-in-True c = λ p q. rw (c.h-1.given.1, c.enum_told-in-True-1.given.1)
+returns-in-True c = λ p q. rw (c.in-Logic.is, c.in-True.is)
 
 pub returns-in-Value : goal.returns-in-Value
-returns-in-Value c = λ p q. rw c.h-in-Value-1.given.1 (ap (λ (k : ℕ). eqb k 0) (c.type_of.ensures p q))
+returns-in-Value c = λ p q. rw c.in-Value.is (ap (λ (k : ℕ). eqb k 0) (c.type_of.ensures p q))

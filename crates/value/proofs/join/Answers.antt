@@ -2,7 +2,7 @@ use borrow.Author.Rules.{rules}
 use Rattle.value.proofs.join.Goals as goal
 
 pub returns-in-Fit : goal.returns-in-Fit
-returns-in-Fit c = rw c.enum_told-1.given.1 c.strict_or.ensures
+returns-in-Fit c = rw c.in-Fit.is c.strict_or.ensures
 
 pub returns-in-Equals : goal.returns-in-Equals
-returns-in-Equals c = rw c.enum_told-in-Equals-1.given.1 c.or.ensures
+returns-in-Equals c = rw c.in-Equals.is c.or.ensures

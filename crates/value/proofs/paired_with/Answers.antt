@@ -8,11 +8,10 @@ use Rattle.value.proofs.paired_with.Goals as goal
 
 pub returns-in-Logic : goal.returns-in-Logic
 returns-in-Logic c =
-    let s : tie.Start = search in
-    λ p q. rw c.enum_told-1.given.1 (or-true (eqb (type_of (typed_of p q s.args.v)) 0))
+    λ p q. rw c.in-Logic.is (or-true (eqb (type_of (typed_of p q c.args.v)) 0))
 
 pub returns-then-any_bottom : goal.returns-then-any_bottom
-returns-then-any_bottom c = λ p q. rw c.h-1.given.1 (sym (c.any_bottom.ensures p q) ∙ c.if-any_bottom.true)
+returns-then-any_bottom c = λ p q. rw c.in-Value.is (sym (c.any_bottom.ensures p q) ∙ c.if-any_bottom.true)
 
 pub returns-else-any_bottom : goal.returns-else-any_bottom
-returns-else-any_bottom c = λ p q. rw c.h-1.given.1 (sym (c.any_bottom.ensures p q) ∙ c.if-any_bottom.false, refl, refl)
+returns-else-any_bottom c = λ p q. rw c.in-Value.is (sym (c.any_bottom.ensures p q) ∙ c.if-any_bottom.false, refl, refl)

@@ -7,7 +7,7 @@ use Rattle.value.proofs.start.Goals as goal
 
 pub returns-in-Fit : goal.returns-in-Fit
 returns-in-Fit c =
-    λ p q. rw c.enum_told-1.given.1 (c.start_fit.ensures p q ∙ ap (λ (v : Value). cond (is_text v) False Bottom) (c.value_in.ensures p q))
+    λ p q. rw c.in-Fit.is (c.start_fit.ensures p q ∙ ap (λ (v : Value). cond (is_text v) False Bottom) (c.value_in.ensures p q))
 
 pub returns-in-Equals : goal.returns-in-Equals
-returns-in-Equals c = λ p q. rw c.enum_told-in-Equals-1.given.1
+returns-in-Equals c = λ p q. rw c.in-Equals.is

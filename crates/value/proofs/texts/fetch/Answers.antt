@@ -5,9 +5,9 @@ use Rattle.value.proofs.texts.fetch.Goals as goal
 pub returns-in-Pool : goal.returns-in-Pool
 returns-in-Pool c =
     let a = c.args in
-    (rw c.enum_told-1.given.1 c.part.ensures, rw c.part.ensures (shorter a.pool.now a.p.start a.p.len (search rules)))
+    (rw c.in-Pool.is c.part.ensures, rw c.part.ensures (shorter a.pool.now a.p.start a.p.len (search rules)))
 
 pub returns-in-Notice : goal.returns-in-Notice
 returns-in-Notice c =
     let a = c.args in
-    (rw c.enum_told-in-Notice-1.given.1 c.part-in-Notice.ensures, rw c.part-in-Notice.ensures (shorter a.notice.now a.p.start a.p.len (search rules)))
+    (rw c.in-Notice.is c.part-in-Notice.ensures, rw c.part-in-Notice.ensures (shorter a.notice.now a.p.start a.p.len (search rules)))

@@ -5,12 +5,12 @@ use borrow.Author.Rules.{rules}
 use Rattle.value.proofs.values.change.Goals as goal
 
 pub returns-in-FoldCase : goal.returns-in-FoldCase
-returns-in-FoldCase c = let a = c.args in rw c.enum_told-1.given.1 (c.fold_case.ensures a.pool.now a.notice.now)
+returns-in-FoldCase c = let a = c.args in rw c.in-FoldCase.is (c.fold_case.ensures a.pool.now a.notice.now)
 
 pub returns-in-Size : goal.returns-in-Size
-returns-in-Size c = rw c.enum_told-in-Size-1.given.1 c.size.ensures
+returns-in-Size c = rw c.in-Size.is c.size.ensures
 
 pub returns-in-Complement : goal.returns-in-Complement
 returns-in-Complement c =
     let a = c.args in let p = a.pool.now in let q = a.notice.now in
-    rw c.enum_told-in-Complement-1.given.1 (c.value_of.ensures p q ∙ ap value_of (c.complement.ensures ∙ ap complement_of (c.number_of.ensures p q)))
+    rw c.in-Complement.is (c.value_of.ensures p q ∙ ap value_of (c.complement.ensures ∙ ap complement_of (c.number_of.ensures p q)))

@@ -5,5 +5,4 @@ use Rattle.value.proofs.values.combine.Goals as goal
 
 pub returns : goal.returns
 returns c =
-    let s : tie.Start = search in
-    λ p q. c.value_of.ensures p q ∙ ap value_of (c.combine_numbers.ensures ∙ ap₂ (combine_numbers s.args.edition s.args.op) (c.number_of.ensures p q) (c.number_of-2.ensures p q))
+    λ p q. c.value_of.ensures p q ∙ ap value_of (c.combine_numbers.ensures ∙ ap₂ (combine_numbers c.args.edition c.args.op) (c.number_of.ensures p q) (c.number_of-2.ensures p q))

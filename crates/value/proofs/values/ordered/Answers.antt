@@ -5,5 +5,4 @@ use Rattle.value.proofs.values.ordered.Goals as goal
 
 pub returns : goal.returns
 returns c =
-    let s : tie.Start = search in
-    λ p q. c.order.ensures ∙ ap₂ (order_of s.args.op) (c.number_of.ensures p q) (c.number_of-2.ensures p q)
+    λ p q. c.order.ensures ∙ ap₂ (order_of c.args.op) (c.number_of.ensures p q) (c.number_of-2.ensures p q)

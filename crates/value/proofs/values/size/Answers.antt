@@ -6,8 +6,8 @@ use borrow.Author.Rules.{rules}
 use Rattle.value.proofs.values.size.Goals as goal
 
 pub returns-in-Text : goal.returns-in-Text
-returns-in-Text c = rw c.v-1.given.1 c.text_size.ensures
+returns-in-Text c = rw c.in-Text.is c.text_size.ensures
 
 pub returns-in-Opaque : goal.returns-in-Opaque
 returns-in-Opaque c =
-    rw c.v-in-Opaque-1.given.1 (ap int32 (to_z-of_z w32 c.bytes_in.result (record { sfits = c.bytes_in.type_inv }) ∙ c.bytes_in.ensures))
+    rw c.in-Opaque.is (ap int32 (to_z-of_z w32 c.bytes_in.result (record { sfits = c.bytes_in.type_inv }) ∙ c.bytes_in.ensures))

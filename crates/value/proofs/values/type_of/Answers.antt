@@ -2,19 +2,19 @@ use borrow.Author.Rules.{rules}
 use Rattle.value.proofs.values.type_of.Goals as goal
 
 pub returns-in-Bottom : goal.returns-in-Bottom
-returns-in-Bottom c = λ p q. rw c.enum_told-1.given.1
+returns-in-Bottom c = λ p q. rw c.in-Bottom.is
 
 pub returns-in-Int32 : goal.returns-in-Int32
-returns-in-Int32 c = λ p q. rw c.enum_told-in-Int32-1.given.1
+returns-in-Int32 c = λ p q. rw c.in-Int32.is
 
 pub returns-in-Int64 : goal.returns-in-Int64
-returns-in-Int64 c = λ p q. rw c.enum_told-in-Int64-1.given.1
+returns-in-Int64 c = λ p q. rw c.in-Int64.is
 
 pub returns-in-Real : goal.returns-in-Real
-returns-in-Real c = λ p q. rw c.enum_told-in-Real-1.given.1
+returns-in-Real c = λ p q. rw c.in-Real.is
 
 pub returns-in-Text : goal.returns-in-Text
-returns-in-Text c = λ p q. rw c.enum_told-in-Text-1.given.1
+returns-in-Text c = λ p q. rw c.in-Text.is
 
 pub returns-in-Opaque : goal.returns-in-Opaque
-returns-in-Opaque c = λ p q. rw c.enum_told-in-Opaque-1.given.1
+returns-in-Opaque c = λ p q. rw c.in-Opaque.is

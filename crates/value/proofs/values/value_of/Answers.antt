@@ -7,14 +7,14 @@ use Rattle.value.proofs.values.value_of.Goals as goal
 
 pub returns-in-Int32 : goal.returns-in-Int32
 returns-in-Int32 c =
-    λ p q. rw c.n-1.given.1 (ap int32 (to_z-of_z w32 c.n-1.given.0.0 (record { sfits = c.known_told-1.given.0.1 })))
+    λ p q. rw c.in-Int32.is (ap int32 (to_z-of_z w32 c.in-Int32.x (record { sfits = search rules })))
 
 pub returns-in-Int64 : goal.returns-in-Int64
 returns-in-Int64 c =
-    λ p q. rw c.n-in-Int64-1.given.1 (ap int64 (to_z-of_z w64 c.n-in-Int64-1.given.0.0 (record { sfits = c.known_told-in-Int64-1.given.0.1 })))
+    λ p q. rw c.in-Int64.is (ap int64 (to_z-of_z w64 c.in-Int64.x (record { sfits = search rules })))
 
 pub returns-in-Real : goal.returns-in-Real
-returns-in-Real c = λ p q. rw c.n-in-Real-1.given.1
+returns-in-Real c = λ p q. rw c.in-Real.is
 
 pub returns-in-None : goal.returns-in-None
-returns-in-None c = λ p q. rw c.enum_told-1.given.1
+returns-in-None c = λ p q. rw c.in-None.is
