@@ -50,21 +50,21 @@ exactly (a ∷ b ∷ c ∷ d ∷ s) = 0
 abbrev pub Right : Spelling → Type 0
 Right x = (exactly x.bytes ≡ x.kind) × (7 < x.kind) × (x.kind < 44)
 
-abbrev is_right_lem : Spelling → Bool
-is_right_lem x = eqb (exactly x.bytes) x.kind && (ltb 7 x.kind && ltb x.kind 44)
+abbrev is_right : Spelling → Bool
+is_right x = eqb (exactly x.bytes) x.kind && (ltb 7 x.kind && ltb x.kind 44)
 
-is_right_lem : (x : Spelling) → is_right_lem x ≡ true → Right x
+is_right_lem : (x : Spelling) → is_right x ≡ true → Right x
 is_right_lem x e =
     let p = and_parts (eqb (exactly x.bytes) x.kind) (ltb 7 x.kind && ltb x.kind 44) e in
     let q = and_parts (ltb 7 x.kind) (ltb x.kind 44) p.1 in
     (eqb-true (exactly x.bytes) x.kind p.0, ltb-true 7 x.kind q.0, ltb-true x.kind 44 q.1)
 
-all_right : every is_right_lem spellings ≡ true
+all_right : every is_right spellings ≡ true
 unfolding spellings
 all_right = refl
 
 pub right : Each Right spellings
-right = each_map spellings is_right_lem (every_each is_right_lem spellings all_right)
+right = each_map spellings is_right_lem (every_each is_right spellings all_right)
 
 -- a kind number that is 0, or that of a spelling of these bytes
 abbrev Named : List ℕ → ℕ → Type 0

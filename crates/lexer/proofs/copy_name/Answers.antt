@@ -22,8 +22,8 @@ returns-then-ended c =
     let g = rw r at c.copy_common-n.ensures in
     let e = rw r at c.ended.ensures in
     let s = drop a.at a.text.now in
-    let w = passes_all 0 s n g.0.0 (empty (run_of 0 (drop n s)) (sym e ∙ c.if-ended.true)) in
-    (w.2, g.1 ∙ ap (sets a.part.now 0) w.1)
+    let w = passes_all 0 s n g.goes_on.0 (empty (run_of 0 (drop n s)) (sym e ∙ c.if-ended.true)) in
+    record { value = w.2; part_after = g.part_after ∙ ap (sets a.part.now 0) w.1 }
 
 pub returns : goal.returns
 returns c =
@@ -33,11 +33,12 @@ returns c =
     let g = rw r at c.copy_common-n.ensures in
     let p = rw r at c.copy_plain.ensures in
     let s = drop a.at a.text.now in
-    let z = g.0.0.2 in (
-      p.0,
-      p.1
-          ∙ ap (λ (l : List ℕ). sets l 0 (name_at a.text.now a.at)) g.1
+    let z = g.goes_on.0.2 in
+    record {
+      value = p.value;
+      part_after = p.part_after
+          ∙ ap (λ (l : List ℕ). sets l 0 (name_at a.text.now a.at)) g.part_after
           ∙ ap (sets (sets a.part.now 0 (take n s)) 0) (sym z)
           ∙ stored_again a.part.now 0 (take n s) (unescaped false (run_of 0 (drop n s)))
-          ∙ ap (sets a.part.now 0) z,
-    )
+          ∙ ap (sets a.part.now 0) z;
+    }

@@ -10,7 +10,7 @@ use Rattle.lexer.proofs.lex.Goals as goal
 
 pub returns-then-text-gt4096 : goal.returns-then-text-gt4096
 returns-then-text-gt4096 c =
-    let w = lexes_long c.args.text.now c.args.kinds.now c.args.starts.now c.if-text-gt4096.true in (w.answer, (w.kinds, w.starts))
+    let w = lexes_long c.args.text.now c.args.kinds.now c.args.starts.now c.if-text-gt4096.true in record { value = w.answer; kinds_after = w.kinds; starts_after = w.starts }
 
 pub loop-at-init : goal.loop-at-init
 loop-at-init c = (c.if-text-gt4096.false, goes_first c.args.text.now c.args.kinds.now c.args.starts.now, refl, refl)
@@ -26,9 +26,6 @@ loop-at-preserved-then-is_space c =
 
 pub scan-requires : goal.scan-requires
 scan-requires c = (c.loop-at.invariant.0, omega arith)
-
-pub enum_known-kind : goal.enum_known-kind
-enum_known-kind c = c.in-Bad.keys1
 
 pub bounds-kinds-n : goal.bounds-kinds-n
 bounds-kinds-n c =
@@ -52,31 +49,45 @@ pub overflow_add-n : goal.overflow_add-n
 overflow_add-n c = let g = c.loop-at.invariant.1 in omega arith
 
 pub overflow_add-at-in-Good : goal.overflow_add-at-in-Good
-overflow_add-at-in-Good c = let w = next c.before in omega (arith, w.2, c.loop-at.invariant.0)
+overflow_add-at-in-Good c =
+    let l = c.loop-at in
+    let a = c.args in
+    let f = sym c.is_space.ensures ∙ c.if-is_space.false in
+    let q = sym c.scan.ensures ∙ c.in-Good.is in
+    let w = goes_on a.text.now a.kinds.now a.starts.now l.kinds l.starts l.n l.at l.invariant.1 (omega arith) f c.in-Good.kind c.in-Good.length q in
+    omega (arith, w.2, l.invariant.0)
 
 pub loop-at-smaller : goal.loop-at-smaller
-loop-at-smaller c = let g = c.loop-at.invariant.1 in let w = next c.before in omega (arith, w.1, w.2)
+loop-at-smaller c =
+    let l = c.loop-at in
+    let a = c.args in
+    let f = sym c.is_space.ensures ∙ c.if-is_space.false in
+    let q = sym c.scan.ensures ∙ c.in-Good.is in
+    let w = goes_on a.text.now a.kinds.now a.starts.now l.kinds l.starts l.n l.at l.invariant.1 (omega arith) f c.in-Good.kind c.in-Good.length q in
+    let g = l.invariant.1 in
+    omega (arith, w.1, w.2)
 
 pub loop-at-preserved : goal.loop-at-preserved
 loop-at-preserved c =
     let l = c.loop-at in
-    (l.invariant.0, (next c.before).0, simp length-set l.invariant.2, simp length-set l.invariant.3)
-
-pub enum_known-number : goal.enum_known-number
-enum_known-number c = c.in-Bad.keys2
+    let a = c.args in
+    let f = sym c.is_space.ensures ∙ c.if-is_space.false in
+    let q = sym c.scan.ensures ∙ c.in-Good.is in
+    let w = goes_on a.text.now a.kinds.now a.starts.now l.kinds l.starts l.n l.at l.invariant.1 (omega arith) f c.in-Good.kind c.in-Good.length q in
+    (l.invariant.0, w.0, simp length-set l.invariant.2, simp length-set l.invariant.3)
 
 pub returns-in-Bad : goal.returns-in-Bad
 returns-in-Bad c =
     let l = c.loop-at in
     let a = c.args in
     let f = sym c.is_space.ensures ∙ c.if-is_space.false in
-    let q = sym c.scan.ensures ∙ c.number-1.given.1 in
-    let w = lexes_bad a.text.now a.kinds.now a.starts.now l.kinds l.starts l.n l.at l.invariant.0 l.invariant.1 (omega arith) f c.number-1.given.0.0 q in
-    (w.answer, (w.kinds, w.starts))
+    let q = sym c.scan.ensures ∙ c.in-Bad.is in
+    let w = lexes_bad a.text.now a.kinds.now a.starts.now l.kinds l.starts l.n l.at l.invariant.0 l.invariant.1 (omega arith) f c.in-Bad.number q in
+    record { value = w.answer; kinds_after = w.kinds; starts_after = w.starts }
 
 pub returns : goal.returns
 returns c =
     let l = c.loop-at in
     let a = c.args in
     let w = lexes_end a.text.now a.kinds.now a.starts.now l.kinds l.starts l.n l.at l.invariant.0 l.invariant.1 (omega arith) in
-    (w.answer, (w.kinds, w.starts))
+    record { value = w.answer; kinds_after = w.kinds; starts_after = w.starts }

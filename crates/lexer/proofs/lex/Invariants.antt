@@ -14,18 +14,3 @@ invariant-loop-at l = (length l.text ≤ 4096) × Goes l.text l.initial.kinds l.
 abbrev pub decreases-loop-at : goal.decreases-loop-at
 decreases-loop-at l =
     length l.text - l.at
-
--- the token that was found, stored
-next : (c : tie.After-kind invariant_loop decreases_loop) → let l = c.before.before.before.before.before.before.before.loop in
-    let a = c.before.before.before.before.before.before.before.before.before.before.before.before.args in
-    let g = c.kind.given.0 in
-    Goes a.text.now a.kinds.now a.starts.now (set l.kinds l.n g.0) (set l.starts l.n l.at) (l.n + 1) (l.at + g.1.0)
-    × (0 < g.1.0)
-    × (l.at + g.1.0 ≤ length a.text.now)
-next c =
-    let l = c.before.before.before.before.before.before.before.loop in
-    let a = c.before.before.before.before.before.before.before.before.before.before.before.before.args in
-    let g = c.kind.given.0 in
-    let f = sym c.before.before.before.before.is_space.ensures ∙ c.before.before.before.if2.false in
-    let q = sym c.before.before.scan.ensures ∙ c.kind.given.1 in
-    goes_on a.text.now a.kinds.now a.starts.now l.kinds l.starts l.n l.at l.invariant.1 (omega arith) f g.0 g.1.0 q

@@ -1,8 +1,9 @@
-use Prim.Native.Nat.{◌-◌}
+use mathlib.Core.List.{List}
+use Prim.Native.Nat.{ℕ, ◌≤◌, ◌-◌}
 use mathlib.Core.Bool.{true, false}
 use lib.ListN.{length, drop}
 use borrow.Author.Tests.{not-false}
-use Rattle.lexer.specs.Run.{run_of, unescaped, legal_name, is_empty}
+use Rattle.lexer.specs.Run.{GoesOn, run_of, unescaped, legal_name, is_empty}
 use mathlib.Core.Path.{◌≡◌, ◌∙◌, sym, ap}
 use Rattle.lexer.specs.Token.{scan_name}
 use Rattle.lexer.specs.Answer.{scanned_of}
@@ -24,25 +25,22 @@ returns-then-not-ended c =
     c.scan_odd_name.ensures ∙ ap (λ s. scanned_of (scan_name s)) c.rest.ensures
 
 -- a name of common bytes alone
-whole : (c : tie.Else1) → let s = drop c.args.at c.args.text.now in
-    let n = c.common_end-end.result - c.args.at in
+whole : (text : List ℕ) (at end : ℕ) → at ≤ end → GoesOn (drop at text) (end - at) → is_empty (run_of 0 (drop end text)) ≡ true → let s = drop at text in
+    let n = end - at in
     (n ≡ length (run_of 0 s)) × (n ≡ length (unescaped false (run_of 0 s))) × (legal_name false (run_of 0 s) ≡ true)
-whole c =
-    let a = c.args in
-    let g = c.common_end-end in
-    let e = ap (λ l. is_empty (run_of 0 l)) (rest_later a.text.now a.at g.result g.ensures.0) ∙ sym c.ended.ensures ∙ not-false _ c.if-not-ended.false in
-    ended_name (drop a.at a.text.now) (g.result - a.at) g.ensures.1 e
+whole text at end l g e =
+    ended_name (drop at text) (end - at) g (ap (λ p. is_empty (run_of 0 p)) (rest_later text at end l) ∙ e)
 
 pub returns-then-n : goal.returns-then-n
 returns-then-n c =
     let a = c.args in
-    let w = whole c.before in
+    let w = whole a.text.now a.at c.common_end-end.result c.common_end-end.ensures.0 c.common_end-end.ensures.1 (sym c.ended.ensures ∙ c.if-not-ended.false) in
     let f = rw w.1 at c.if-n.true in
     ap (λ k. Good 5 k) w.0 ∙ name_legal (drop a.at a.text.now) w.2 f
 
 pub returns : goal.returns
 returns c =
     let a = c.args in
-    let w = whole c.before in
+    let w = whole a.text.now a.at c.common_end-end.result c.common_end-end.ensures.0 c.common_end-end.ensures.1 (sym c.ended.ensures ∙ c.if-not-ended.false) in
     let f = rw w.1 at c.if-n.false in
     name_over (drop a.at a.text.now) w.2 f

@@ -29,13 +29,11 @@ returns-then-leads-n c =
 
 pub overflow_add-d : goal.overflow_add-d
 overflow_add-d c =
-    let t = c.before.before.before.before.before.before.before.before.before.before.before in
-    omega (arith, c.digits-d.ensures.0, digits_fit 10 t.args.at t.args.text.now, t.requires.0, t.requires.1)
+    omega (arith, c.digits-d.ensures.0, digits_fit 10 c.args.at c.args.text.now, c.requires.0, c.requires.1)
 
 pub overflow_add-result : goal.overflow_add-result
 overflow_add-result c =
-    let t = c.before.before.before.before.before.before.before.before.before.before.before.before.before in
-    omega (arith, c.digits-d.ensures.0, digits_fit 10 t.args.at t.args.text.now, t.requires.0)
+    omega (arith, c.digits-d.ensures.0, digits_fit 10 c.args.at c.args.text.now, c.requires.0)
 
 pub returns-then-leads-b : goal.returns-then-leads-b
 returns-then-leads-b c =

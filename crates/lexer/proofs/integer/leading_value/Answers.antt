@@ -14,10 +14,9 @@ use Rattle.lexer.proofs.integer.leading_value.Goals as goal
 
 pub returns : goal.returns
 returns c =
-    let t = c.before.before.before.before in
-    let s = t.args.text.now in
+    let s = c.args.text.now in
     let e = rw c.digits-d.ensures.1 at c.signed.ensures in
     to_z-of_z w64 _ (record { sfits = c.signed.type_inv })
     ∙ e
-    ∙ held_capped false (whole_of 10 (digits_of 10 (drop t.args.at s)))
-    ∙ ap held (leading_integer s t.args.at t.requires.0 t.requires.1)
+    ∙ held_capped false (whole_of 10 (digits_of 10 (drop c.args.at s)))
+    ∙ ap held (leading_integer s c.args.at c.requires.0 c.requires.1)

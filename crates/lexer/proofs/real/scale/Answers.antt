@@ -23,9 +23,8 @@ part c =
 small : (c : lts.After-exponent_digits tie.the-claims reads.Pre reads.Post) → let run = c.args.run.now in
     (c.exponent_digits-d.result.value ≡ whole_of 10 (exponent_digits (exponent_part run))) × (c.exponent_digits-d.result.value < 1000)
 small c =
-    let s = c.before.before.before in
-    let run = s.args.run.now in
-    let t = three_small (exponent_digits (exponent_part run)) (digits_decimal (after_sign (exponent_part run))) s.requires.0 in
+    let run = c.args.run.now in
+    let t = three_small (exponent_digits (exponent_part run)) (digits_decimal (after_sign (exponent_part run))) c.requires.0 in
     let e = rw (part c.before) at c.exponent_digits-d.ensures.1 in
     (e ∙ t.0, omega (arith, e, t.0, t.1))
 

@@ -21,7 +21,7 @@ returns-then-not-is_common c = c.loop-i.invariant
 pub loop-i-preserved-then-b-lt94 : goal.loop-i-preserved-then-b-lt94
 loop-i-preserved-then-b-lt94 c =
     let l = c.loop-i in
-    let e = sym c.is_common.ensures ∙ not-false _ c.if-not-is_common.false in
+    let e = sym c.is_common.ensures ∙ c.if-not-is_common.false in
     (omega arith, goes_on_at c.args.s.now c.args.at l.i l.invariant.0 (omega arith) e l.invariant.1)
 
 pub returns-then-b-gt126 : goal.returns-then-b-gt126

@@ -24,7 +24,7 @@ pub shape_of-part-then-not-is_common : goal.shape_of-part-then-not-is_common
 shape_of-part-then-not-is_common c = c.loop-i.invariant.3
 
 pub returns-then-not-is_common : goal.returns-then-not-is_common
-returns-then-not-is_common c = let l = c.loop-i in (l.invariant.4, l.invariant.5)
+returns-then-not-is_common c = let l = c.loop-i in record { goes_on = l.invariant.4; part_after = l.invariant.5 }
 
 pub bounds-part-i : goal.bounds-part-i
 bounds-part-i c = let l = c.loop-i in omega (arith, l.invariant.1, l.invariant.3, c.loop-i-test.true)
@@ -38,7 +38,7 @@ loop-i-preserved-then-b-lt94 c =
     let a = c.args in
     let b = get_or a.s.now l.i 0 in
     let h = c.loop-i-test.true in
-    let e = sym c.is_common.ensures ∙ not-false _ c.if-not-is_common.false in (
+    let e = sym c.is_common.ensures ∙ c.if-not-is_common.false in (
       l.invariant.0,
       l.invariant.1,
       omega (arith, h),
@@ -51,7 +51,7 @@ pub shape_of-part-then-b-gt126 : goal.shape_of-part-then-b-gt126
 shape_of-part-then-b-gt126 c = c.loop-i.invariant.3
 
 pub returns-then-b-gt126 : goal.returns-then-b-gt126
-returns-then-b-gt126 c = let l = c.loop-i in (l.invariant.4, l.invariant.5)
+returns-then-b-gt126 c = let l = c.loop-i in record { goes_on = l.invariant.4; part_after = l.invariant.5 }
 
 pub bounds-part-i-in-loop-i : goal.bounds-part-i-in-loop-i
 bounds-part-i-in-loop-i c = let l = c.loop-i in omega (arith, l.invariant.1, l.invariant.3, c.loop-i-test.true)
@@ -78,4 +78,4 @@ pub shape_of-part : goal.shape_of-part
 shape_of-part c = c.loop-i.invariant.3
 
 pub returns : goal.returns
-returns c = let l = c.loop-i in (l.invariant.4, l.invariant.5)
+returns c = let l = c.loop-i in record { goes_on = l.invariant.4; part_after = l.invariant.5 }

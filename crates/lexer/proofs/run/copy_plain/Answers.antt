@@ -19,7 +19,7 @@ pub returns-then-taken-ends : goal.returns-then-taken-ends
 returns-then-taken-ends c =
     let l = c.loop-i in
     let z = plain_stop c.args.s.now l.i (omega arith) c.args.quote l.taken (rw c.ends.ensures at c.if-taken-ends.true) in
-    (omega (arith, ap length z, l.invariant.3), (rw z at l.invariant.4))
+    record { value = omega (arith, ap length z, l.invariant.3); part_after = rw z at l.invariant.4 }
 
 pub loop-i-preserved-then-takes : goal.loop-i-preserved-then-takes
 loop-i-preserved-then-takes c =
@@ -35,11 +35,11 @@ loop-i-preserved c =
     let p = c.put in
     let f = sym c.takes.ensures ∙ c.if-takes.false in
     let d = kept c.args.s.now l.i (omega arith) c.args.quote l.taken e f in
-    let w = copied c.args.s.now l.i (omega arith) c.args.quote l.taken e p.new.0 l.part l.n f p.ensures in
+    let w = copied c.args.s.now l.i (omega arith) c.args.quote l.taken e p.new.part l.part l.n f p.ensures in
     (omega arith, omega arith, ap length p.ensures ∙ simp length-set l.invariant.2, omega (arith, ap length d, l.invariant.3), w ∙ l.invariant.4)
 
 pub returns : goal.returns
 returns c =
     let l = c.loop-i in
     let z = plain_end c.args.s.now l.i (omega arith) c.args.quote l.taken in
-    (omega (arith, ap length z, l.invariant.3), (rw z at l.invariant.4))
+    record { value = omega (arith, ap length z, l.invariant.3); part_after = rw z at l.invariant.4 }
