@@ -4,7 +4,6 @@ use mathlib.Core.Bool.{true}
 use Prim.Native.Nat.{ℕ, ◌<◌}
 use native.Mathlib.Omega.{arith}
 use lib.ListN.{length}
-use borrow.Author.Tests.{not-true, not-false}
 use Rattle.table.specs.Check.{check_of as tableCheck}
 use Rattle.store.specs.Layout.{right_of, places_in}
 use Rattle.store.specs.Calls.{first_zero, lowest_free, answered, added_by}
@@ -17,15 +16,15 @@ use Rattle.store.proofs.judge.Reads as reads
 use Rattle.store.proofs.judge.Goals as goal
 
 ok : (c : lts.Else1 tie.the-claims reads.Pre reads.Post) → right_of c.args.store.now ≡ true
-ok c = sym c.index.ensures.0 ∙ not-false _ c.if-not-index.false
+ok c = sym c.index.ensures.0 ∙ c.if-not-index.false
 
 checked : (c : lts.Else2 tie.the-claims reads.Pre reads.Post) → tableCheck c.args.table.now ≡ true
-checked c = sym c.check.ensures ∙ not-false _ c.if-not-check.false
+checked c = sym c.check.ensures ∙ c.if-not-check.false
 
 lowest : (c : lts.After-first_free tie.the-claims reads.Pre reads.Post) → c.first_free-number.result ≡ lowest_free (places_in c.args.store.now)
 lowest c =
     c.first_free-number.ensures
-    ∙ ap first_zero (c.index.ensures.1 (not-false _ c.if-not-index.false))
+    ∙ ap first_zero (c.index.ensures.1 (c.if-not-index.false))
     ∙ first_lowest c.args.store.now
 
 some_free : (c : lts.Else3 tie.the-claims reads.Pre reads.Post) → lowest_free (places_in c.args.store.now) < 64
@@ -35,16 +34,16 @@ pub returns-then-not-index : goal.returns-then-not-index
 returns-then-not-index c =
     let s = c.args.store.now in
     let t = c.args.table.now in
-    c.answer.ensures ∙ sym (ap (λ (n : ℕ). added_by n (places_in s)) (broken s t (sym c.index.ensures.0 ∙ not-true _ c.if-not-index.true)))
+    c.answer.ensures ∙ sym (ap (λ (n : ℕ). added_by n (places_in s)) (broken s t (sym c.index.ensures.0 ∙ c.if-not-index.true)))
 
 pub returns-then-not-check : goal.returns-then-not-check
 returns-then-not-check c =
     let s = c.args.store.now in
     let t = c.args.table.now in
-    c.answer-then-not-check.ensures ∙ sym (ap (λ (n : ℕ). added_by n (places_in s)) (bad_table s t (ok c.before.before.before.before) (sym c.check.ensures ∙ not-true _ c.if-not-check.true)))
+    c.answer-then-not-check.ensures ∙ sym (ap (λ (n : ℕ). added_by n (places_in s)) (bad_table s t (ok c.before.before.before.before) (sym c.check.ensures ∙ c.if-not-check.true)))
 
 pub first_free-number-requires : goal.first_free-number-requires
-first_free-number-requires c = ap length (c.index.ensures.1 (not-false _ c.if-not-index.false)) ∙ starts_64 c.args.store.now
+first_free-number-requires c = ap length (c.index.ensures.1 (c.if-not-index.false)) ∙ starts_64 c.args.store.now
 
 pub returns-then-number-eq64 : goal.returns-then-number-eq64
 returns-then-number-eq64 c =

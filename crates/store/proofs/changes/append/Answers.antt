@@ -9,51 +9,42 @@ use Rattle.word.specs.Word.{word_bytes}
 use Rattle.store.specs.Layout.{end_of}
 use Rattle.store.proofs.Stores.{Numbers, numbers, appended}
 use borrow.Author.Rules.{rules}
-use Rattle.store.proofs.changes.append.Lts as lts
-use Rattle.store.proofs.changes.append.Tie as tie
-use Rattle.store.proofs.changes.append.Reads as reads
 use Rattle.store.proofs.changes.append.Goals as goal
 
-known : (c : tie.After-read-u32-arg) → Numbers c.before.before.before.args.store.now
-known c = numbers _ c.before.before.before.requires.right
-
-end_is : (c : lts.After-read_u32 tie.the-claims reads.Pre reads.Post) → 4 + c.read_u32.result ≡ end_of c.args.store.now
-end_is c = ap (λ (n : ℕ). 4 + n) c.read_u32.ensures
-
 pub read_u32-requires : goal.read_u32-requires
-read_u32-requires c = let k = known c.before in omega (arith, k.after, k.fits)
+read_u32-requires c = let k = numbers _ c.requires.right in omega (arith, k.after, k.fits)
 
 pub read_u16-count-requires : goal.read_u16-count-requires
-read_u16-count-requires c = let k = known c.before.before.before in omega (arith, k.after, k.fits)
+read_u16-count-requires c = let k = numbers _ c.requires.right in omega (arith, k.after, k.fits)
 
 pub write_u16-requires : goal.write_u16-requires
-write_u16-requires c = omega (arith, c.requires.room, end_is c.before.before.before.before)
+write_u16-requires c = omega (arith, c.requires.room, (ap (λ (n : ℕ). 4 + n) c.read_u32.ensures))
 
 pub write_u16-requires-2 : goal.write_u16-requires-2
 write_u16-requires-2 c =
-    omega (arith, c.requires.room, end_is c.before.before.before.before.before.before.before.before, c.write_u16.auto.0)
+    omega (arith, c.requires.room, (ap (λ (n : ℕ). 4 + n) c.read_u32.ensures), c.write_u16.auto.d)
 
 pub copy_to-requires : goal.copy_to-requires
 copy_to-requires c =
-    omega (arith, c.requires.room, end_is c.before.before.before.before.before.before.before.before.before.before.before.before, c.write_u16.auto.0, c.write_u16-2.auto.0)
+    omega (arith, c.requires.room, (ap (λ (n : ℕ). 4 + n) c.read_u32.ensures), c.write_u16.auto.d, c.write_u16-2.auto.d)
 
 pub overflow_cast-end-2 : goal.overflow_cast-end-2
 overflow_cast-end-2 c =
-    let k = known c.before.before.before.before.before.before.before.before.before.before.before.before.before.before.before.before.before in omega (arith, c.requires.room, k.short, end_is c.before.before.before.before.before.before.before.before.before.before.before.before.before.before.before.before)
+    let k = numbers _ c.requires.right in omega (arith, c.requires.room, k.short, (ap (λ (n : ℕ). 4 + n) c.read_u32.ensures))
 
 pub write_u32-requires : goal.write_u32-requires
 write_u32-requires c =
-    let k = known c.before.before.before.before.before.before.before.before.before.before.before.before.before.before.before.before.before in
-    omega (arith, k.after, k.fits, c.write_u16.auto.0, c.write_u16-2.auto.0, c.copy_to.auto.0)
+    let k = numbers _ c.requires.right in
+    omega (arith, k.after, k.fits, c.write_u16.auto.d, c.write_u16-2.auto.d, c.copy_to.auto.buffer)
 
 pub overflow_add-count : goal.overflow_add-count
 overflow_add-count c =
-    let k = known c.before.before.before.before.before.before.before.before.before.before.before.before.before.before.before.before.before.before.before.before.before in omega (arith, k.few, c.read_u16-count.ensures)
+    let k = numbers _ c.requires.right in omega (arith, k.few, c.read_u16-count.ensures)
 
 pub write_u16-requires-3 : goal.write_u16-requires-3
 write_u16-requires-3 c =
-    let k = known c.before.before.before.before.before.before.before.before.before.before.before.before.before.before.before.before.before.before.before.before.before in
-    omega (arith, k.after, k.fits, c.write_u16.auto.0, c.write_u16-2.auto.0, c.copy_to.auto.0, c.write_u32.auto.0)
+    let k = numbers _ c.requires.right in
+    omega (arith, k.after, k.fits, c.write_u16.auto.d, c.write_u16-2.auto.d, c.copy_to.auto.buffer, c.write_u32.auto.d)
 
 pub returns : goal.returns
 returns c =
@@ -68,5 +59,5 @@ returns c =
     ∙ ap (λ (x : List ℕ). sets x 0 (word_bytes 4 (e + length t))) (c.copy_to.ensures
     ∙ ap (λ (x : List ℕ). sets x (e + 4) t) (c.write_u16-2.ensures
     ∙ ap (λ (x : List ℕ). sets x (e + 2) (word_bytes 2 (256 + n))) c.write_u16.ensures)))
-    ∙ ap₂ (λ (i j : ℕ). sets (sets (sets (sets (sets s i (word_bytes 2 (2 + length t))) (i + 2) (word_bytes 2 (256 + n))) (i + 4) t) 0 (word_bytes 4 (i + length t))) 6 (word_bytes 2 (j + 1))) (end_is c.before.before.before.before.before.before.before.before.before.before.before.before.before.before.before.before.before.before.before.before.before.before.before) c.read_u16-count.ensures
+    ∙ ap₂ (λ (i j : ℕ). sets (sets (sets (sets (sets s i (word_bytes 2 (2 + length t))) (i + 2) (word_bytes 2 (256 + n))) (i + 4) t) 0 (word_bytes 4 (i + length t))) 6 (word_bytes 2 (j + 1))) (ap (λ (n : ℕ). 4 + n) c.read_u32.ensures) c.read_u16-count.ensures
     ∙ appended s (λ i. (c.slice_known-1.given i).fits) n t c.requires

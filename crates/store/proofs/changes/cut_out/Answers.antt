@@ -9,64 +9,49 @@ use Rattle.word.specs.Word.{word_bytes}
 use Rattle.store.specs.Layout.{end_of, count_of, size_at}
 use Rattle.store.proofs.Stores.{Numbers, numbers, Lying, lying, cut}
 use borrow.Author.Rules.{rules}
-use Rattle.store.proofs.changes.cut_out.Lts as lts
-use Rattle.store.proofs.changes.cut_out.Tie as tie
-use Rattle.store.proofs.changes.cut_out.Reads as reads
 use Rattle.store.proofs.changes.cut_out.Goals as goal
 
-known : (c : lts.After-slice_known tie.the-claims reads.Pre reads.Post) → Numbers c.args.store.now
-known c = numbers _ c.requires.right
-
-lies : (c : lts.After-slice_known tie.the-claims reads.Pre reads.Post) → Lying c.args.store.now c.args.number c.args.at
-lies c = lying c.args.store.now (λ i. (c.slice_known-1.given i).fits) c.args.number c.args.at c.requires.right c.requires.found
-
-end_is : (c : lts.After-read_u32 tie.the-claims reads.Pre reads.Post) → 4 + c.read_u32.result ≡ end_of c.args.store.now
-end_is c = ap (λ (n : ℕ). 4 + n) c.read_u32.ensures
-
-size_is : (c : lts.After-read_u162 tie.the-claims reads.Pre reads.Post) → 2 + c.read_u16.result ≡ 2 + size_at c.args.store.now c.args.at
-size_is c = ap (λ (n : ℕ). 2 + n) c.read_u16.ensures
-
 pub read_u32-requires : goal.read_u32-requires
-read_u32-requires c = let k = known c.before.before in omega (arith, k.after, k.fits)
+read_u32-requires c = let k = numbers _ c.requires.right in omega (arith, k.after, k.fits)
 
 pub read_u16-count-requires : goal.read_u16-count-requires
-read_u16-count-requires c = let k = known c.before.before.before.before in omega (arith, k.after, k.fits)
+read_u16-count-requires c = let k = numbers _ c.requires.right in omega (arith, k.after, k.fits)
 
 pub read_u16-requires : goal.read_u16-requires
 read_u16-requires c =
-    let k = known c.before.before.before.before.before.before in let l = lies c.before.before.before.before.before.before in omega (arith, l.within, k.fits)
+    let k = numbers _ c.requires.right in let l : Lying c.args.store.now c.args.number c.args.at = lying c.args.store.now (λ i. (c.slice_known-1.given i).fits) c.args.number c.args.at c.requires.right c.requires.found in omega (arith, l.within, k.fits)
 
 pub overflow_add-at : goal.overflow_add-at
 overflow_add-at c =
-    let k = known c.before.before.before.before.before.before.before.before in let l = lies c.before.before.before.before.before.before.before.before in omega (arith, l.within, k.fits, k.short, size_is c.before.before)
+    let k = numbers _ c.requires.right in let l : Lying c.args.store.now c.args.number c.args.at = lying c.args.store.now (λ i. (c.slice_known-1.given i).fits) c.args.number c.args.at c.requires.right c.requires.found in omega (arith, l.within, k.fits, k.short, (ap (λ (n : ℕ). 2 + n) c.read_u16.ensures))
 
 pub move_down-requires : goal.move_down-requires
 move_down-requires c =
-    let k = known c.before.before.before.before.before.before.before.before in let l = lies c.before.before.before.before.before.before.before.before in omega (arith, l.within, k.fits, size_is c.before.before, end_is c.before.before.before.before.before.before)
+    let k = numbers _ c.requires.right in let l : Lying c.args.store.now c.args.number c.args.at = lying c.args.store.now (λ i. (c.slice_known-1.given i).fits) c.args.number c.args.at c.requires.right c.requires.found in omega (arith, l.within, k.fits, (ap (λ (n : ℕ). 2 + n) c.read_u16.ensures), (ap (λ (n : ℕ). 4 + n) c.read_u32.ensures))
 
 pub overflow_sub-end : goal.overflow_sub-end
 overflow_sub-end c =
-    let l = lies c.before.before.before.before.before.before.before.before.before.before.before.before in omega (arith, l.within, size_is c.before.before.before.before.before.before, end_is c.before.before.before.before.before.before.before.before.before.before)
+    let l : Lying c.args.store.now c.args.number c.args.at = lying c.args.store.now (λ i. (c.slice_known-1.given i).fits) c.args.number c.args.at c.requires.right c.requires.found in omega (arith, l.within, (ap (λ (n : ℕ). 2 + n) c.read_u16.ensures), (ap (λ (n : ℕ). 4 + n) c.read_u32.ensures))
 
 pub overflow_sub-end-2 : goal.overflow_sub-end-2
 overflow_sub-end-2 c =
-    let l = lies c.before.before.before.before.before.before.before.before.before.before.before.before in omega (arith, l.within, l.after, size_is c.before.before.before.before.before.before, end_is c.before.before.before.before.before.before.before.before.before.before)
+    let l : Lying c.args.store.now c.args.number c.args.at = lying c.args.store.now (λ i. (c.slice_known-1.given i).fits) c.args.number c.args.at c.requires.right c.requires.found in omega (arith, l.within, l.after, (ap (λ (n : ℕ). 2 + n) c.read_u16.ensures), (ap (λ (n : ℕ). 4 + n) c.read_u32.ensures))
 
 pub overflow_cast-end-2 : goal.overflow_cast-end-2
 overflow_cast-end-2 c =
-    let k = known c.before.before.before.before.before.before.before.before.before.before.before.before in omega (arith, k.fits, k.short, end_is c.before.before.before.before.before.before.before.before.before.before)
+    let k = numbers _ c.requires.right in omega (arith, k.fits, k.short, (ap (λ (n : ℕ). 4 + n) c.read_u32.ensures))
 
 pub write_u32-requires : goal.write_u32-requires
 write_u32-requires c =
-    let k = known c.before.before.before.before.before.before.before.before.before.before.before.before in omega (arith, k.after, k.fits, c.move_down.auto.0)
+    let k = numbers _ c.requires.right in omega (arith, k.after, k.fits, c.move_down.auto.buffer)
 
 pub overflow_sub-count : goal.overflow_sub-count
 overflow_sub-count c =
-    let l = lies c.before.before.before.before.before.before.before.before.before.before.before.before.before.before.before.before in omega (arith, l.some_record, c.read_u16-count.ensures)
+    let l : Lying c.args.store.now c.args.number c.args.at = lying c.args.store.now (λ i. (c.slice_known-1.given i).fits) c.args.number c.args.at c.requires.right c.requires.found in omega (arith, l.some_record, c.read_u16-count.ensures)
 
 pub write_u16-requires : goal.write_u16-requires
 write_u16-requires c =
-    let k = known c.before.before.before.before.before.before.before.before.before.before.before.before.before.before.before.before in omega (arith, k.after, k.fits, c.move_down.auto.0, c.write_u32.auto.0)
+    let k = numbers _ c.requires.right in omega (arith, k.after, k.fits, c.move_down.auto.buffer, c.write_u32.auto.d)
 
 pub returns : goal.returns
 returns c =
@@ -79,6 +64,6 @@ returns c =
     c.write_u16.ensures
     ∙ ap (λ (x : List ℕ). sets x 6 (word_bytes 2 (k - 1))) (c.write_u32.ensures
     ∙ ap (λ (x : List ℕ). sets x 0 (word_bytes 4 (e - z - 4))) c.move_down.ensures)
-    ∙ ap₂ (λ (i j : ℕ). sets (sets (sets s at (take (i - (at + z)) (drop (at + z) s))) 0 (word_bytes 4 (i - z - 4))) 6 (word_bytes 2 (j - 1))) (end_is c.before.before.before.before.before.before.before.before.before.before.before.before.before.before.before.before.before) c.read_u16-count.ensures
-    ∙ ap (λ (i : ℕ). sets (sets (sets s at (take (end_of s - (at + i)) (drop (at + i) s))) 0 (word_bytes 4 (end_of s - i - 4))) 6 (word_bytes 2 (count_of s - 1))) (size_is c.before.before.before.before.before.before.before.before.before.before.before.before.before)
+    ∙ ap₂ (λ (i j : ℕ). sets (sets (sets s at (take (i - (at + z)) (drop (at + z) s))) 0 (word_bytes 4 (i - z - 4))) 6 (word_bytes 2 (j - 1))) (ap (λ (n : ℕ). 4 + n) c.read_u32.ensures) c.read_u16-count.ensures
+    ∙ ap (λ (i : ℕ). sets (sets (sets s at (take (end_of s - (at + i)) (drop (at + i) s))) 0 (word_bytes 4 (end_of s - i - 4))) 6 (word_bytes 2 (count_of s - 1))) (ap (λ (n : ℕ). 2 + n) c.read_u16.ensures)
     ∙ cut s (λ i. (c.slice_known-1.given i).fits) a.number at c.requires.right c.requires.found

@@ -3,36 +3,26 @@ use mathlib.Core.Path.{◌≡◌, sym, ap, ◌∙◌}
 use mathlib.Core.Bool.{true}
 use Prim.Native.Nat.{ℕ, ◌+◌, ◌-◌}
 use native.Mathlib.Omega.{arith}
-use borrow.Author.Tests.{not-true, not-false}
 use Rattle.common.proofs.Choice.{false_true}
 use Rattle.store.specs.Layout.{header_right}
 use Rattle.store.proofs.Parses.{Stands, stands_parts, header_parts, no_header}
 use Rattle.store.proofs.Stores.{Walk, walk_starts, walk_stops, walk_goes, walk_ends}
 use borrow.Author.Rules.{rules}
-use Rattle.store.proofs.records.index.Lts as lts
-use Rattle.store.proofs.records.index.Tie as tie
-use Rattle.store.proofs.records.index.Reads as reads
 use Rattle.store.proofs.records.index.Goals as goal
-
-header : (c : lts.Else1 tie.the-claims reads.Pre reads.Post goal.the-invariant-loop-left goal.the-decreases-loop-left) → header_right c.args.store.now ≡ true
-header c = sym c.header_right.ensures ∙ not-false _ c.if-not-header_right.false
-
-stood : (c : lts.Else2 tie.the-claims reads.Pre reads.Post goal.the-invariant-loop-left goal.the-decreases-loop-left) → Stands c.loop-left.starts c.args.store.now (4 + c.read_u32.result) c.loop-left.at
-stood c = stands_parts _ _ _ _ (sym c.stands.ensures ∙ not-false _ c.if-not-stands.false)
 
 pub returns-then-not-header_right : goal.returns-then-not-header_right
 returns-then-not-header_right c =
-    (sym (no_header c.args.store.now (sym c.header_right.ensures ∙ not-true _ c.if-not-header_right.true)), λ z. false_true z)
+    (sym (no_header c.args.store.now (sym c.header_right.ensures ∙ c.if-not-header_right.true)), λ z. false_true z)
 
 pub read_u32-requires : goal.read_u32-requires
-read_u32-requires c = let h = header_parts _ (header c.before) in omega (arith, h.long)
+read_u32-requires c = let h = header_parts _ (sym c.header_right.ensures ∙ c.if-not-header_right.false) in omega (arith, h.long)
 
 pub read_u16-left-requires : goal.read_u16-left-requires
-read_u16-left-requires c = let h = header_parts _ (header c.before.before) in omega (arith, h.long)
+read_u16-left-requires c = let h = header_parts _ (sym c.header_right.ensures ∙ c.if-not-header_right.false) in omega (arith, h.long)
 
 pub loop-left-init : goal.loop-left-init
 loop-left-init c =
-    walk_starts c.args.store.now c.args.starts.now _ _ (header c.before.before.before) c.requires (ap (λ (n : ℕ). 4 + n) c.read_u32.ensures) c.read_u16-left.ensures
+    walk_starts c.args.store.now c.args.starts.now _ _ (sym c.header_right.ensures ∙ c.if-not-header_right.false) c.requires (ap (λ (n : ℕ). 4 + n) c.read_u32.ensures) c.read_u16-left.ensures
 
 pub stands-requires : goal.stands-requires
 stands-requires c = let w = c.loop-left.invariant in (w.fits, w.short)
@@ -40,35 +30,35 @@ stands-requires c = let w = c.loop-left.invariant in (w.fits, w.short)
 pub returns-then-not-stands : goal.returns-then-not-stands
 returns-then-not-stands c =
     let l = c.loop-left in
-    (sym (walk_stops _ l.starts _ l.left l.at l.invariant c.loop-left-test.true (sym c.stands.ensures ∙ not-true _ c.if-not-stands.true)), λ z. false_true z)
+    (sym (walk_stops _ l.starts _ l.left l.at l.invariant c.loop-left-test.true (sym c.stands.ensures ∙ c.if-not-stands.true)), λ z. false_true z)
 
 pub read_u16-requires : goal.read_u16-requires
-read_u16-requires c = let w = stood c.before in let f = c.loop-left.invariant.fits in omega (arith, w.here, f)
+read_u16-requires c = let w : Stands c.loop-left.starts c.args.store.now (4 + c.read_u32.result) c.loop-left.at = stands_parts _ _ _ _ (sym c.stands.ensures ∙ c.if-not-stands.false) in let f = c.loop-left.invariant.fits in omega (arith, w.here, f)
 
 pub overflow_sub-number : goal.overflow_sub-number
-overflow_sub-number c = let w = stood c.before.before in omega (arith, w.low, c.read_u16.ensures)
+overflow_sub-number c = let w : Stands c.loop-left.starts c.args.store.now (4 + c.read_u32.result) c.loop-left.at = stands_parts _ _ _ _ (sym c.stands.ensures ∙ c.if-not-stands.false) in omega (arith, w.low, c.read_u16.ensures)
 
 pub overflow_cast-starts : goal.overflow_cast-starts
 overflow_cast-starts c =
-    let w = stood c.before.before in let f = c.loop-left.invariant in omega (arith, w.here, f.fits, f.small)
+    let w : Stands c.loop-left.starts c.args.store.now (4 + c.read_u32.result) c.loop-left.at = stands_parts _ _ _ _ (sym c.stands.ensures ∙ c.if-not-stands.false) in let f = c.loop-left.invariant in omega (arith, w.here, f.fits, f.small)
 
 pub offset_bounds-starts-number : goal.offset_bounds-starts-number
-offset_bounds-starts-number c = let w = stood c.before.before in omega (arith, w.high, c.read_u16.ensures)
+offset_bounds-starts-number c = let w : Stands c.loop-left.starts c.args.store.now (4 + c.read_u32.result) c.loop-left.at = stands_parts _ _ _ _ (sym c.stands.ensures ∙ c.if-not-stands.false) in omega (arith, w.high, c.read_u16.ensures)
 
 pub bounds-starts-number : goal.bounds-starts-number
-bounds-starts-number c = let w = stood c.before.before in omega (arith, w.low, w.high, c.read_u16.ensures)
+bounds-starts-number c = let w : Stands c.loop-left.starts c.args.store.now (4 + c.read_u32.result) c.loop-left.at = stands_parts _ _ _ _ (sym c.stands.ensures ∙ c.if-not-stands.false) in omega (arith, w.low, w.high, c.read_u16.ensures)
 
 pub read_u16-requires-in-loop-left : goal.read_u16-requires-in-loop-left
-read_u16-requires-in-loop-left c = let w = stood c.before.before in let f = c.loop-left.invariant.fits in omega (arith, w.here, f)
+read_u16-requires-in-loop-left c = let w : Stands c.loop-left.starts c.args.store.now (4 + c.read_u32.result) c.loop-left.at = stands_parts _ _ _ _ (sym c.stands.ensures ∙ c.if-not-stands.false) in let f = c.loop-left.invariant.fits in omega (arith, w.here, f)
 
 pub overflow_add-at-in-loop-left-2 : goal.overflow_add-at-in-loop-left-2
 overflow_add-at-in-loop-left-2 c =
-    let w = stood c.before.before.before in let f = c.loop-left.invariant in omega (arith, w.within, f.fits, f.small, c.read_u16-in-loop-left.ensures)
+    let w : Stands c.loop-left.starts c.args.store.now (4 + c.read_u32.result) c.loop-left.at = stands_parts _ _ _ _ (sym c.stands.ensures ∙ c.if-not-stands.false) in let f = c.loop-left.invariant in omega (arith, w.within, f.fits, f.small, c.read_u16-in-loop-left.ensures)
 
 pub loop-left-preserved : goal.loop-left-preserved
 loop-left-preserved c =
     let l = c.loop-left in
-    walk_goes _ l.starts _ l.left l.at l.invariant c.loop-left-test.true _ _ (sym c.stands.ensures ∙ not-false _ c.if-not-stands.false) (ap (λ (n : ℕ). n - 256) c.read_u16.ensures) (ap (λ (n : ℕ). l.at + 2 + n) c.read_u16-in-loop-left.ensures)
+    walk_goes _ l.starts _ l.left l.at l.invariant c.loop-left-test.true _ _ (sym c.stands.ensures ∙ c.if-not-stands.false) (ap (λ (n : ℕ). n - 256) c.read_u16.ensures) (ap (λ (n : ℕ). l.at + 2 + n) c.read_u16-in-loop-left.ensures)
 
 pub returns : goal.returns
 returns c =
