@@ -13,7 +13,7 @@ use Rattle.octets.specs.Octets.{same_of, before_of}
 use Rattle.octets.proofs.Theorems.{and_parts, before_transitive}
 use Rattle.notice.specs.declared.Layout.{Layout}
 use Rattle.notice.specs.declared.Layout.TheVariants as layouts
-use Rattle.notice.specs.Field.{Field, name_right, size_right, field_right, all_right_lem, before_first, rising}
+use Rattle.notice.specs.Field.{Field, name_right, size_right, field_right, all_right, before_first, rising}
 use Rattle.notice.specs.Render.{fields_bytes, render, NoticeFields}
 use Rattle.common.proofs.Choice.{true_false, false_true}
 use Rattle.notice.specs.Layout.{unless, field_at, check_of, starts_of, fields_of}
@@ -39,11 +39,11 @@ or_parts false b e = (refl, e)
 
 -- ---- the fields of a notice can be written
 
-good_all : (s : List ℕ) → Bytes s → (ats : List ℕ) → all_right_lem (map (field_at s) ats) ≡ true → has_real (map (field_at s) ats) ≡ false → AllGood (map (field_at s) ats)
+good_all : (s : List ℕ) → Bytes s → (ats : List ℕ) → all_right (map (field_at s) ats) ≡ true → has_real (map (field_at s) ats) ≡ false → AllGood (map (field_at s) ats)
 unfolding has_real
 good_all s bytes [] a h = tt
 good_all s bytes (at ∷ ats) a h =
-    let p = and_parts (field_right (field_at s at)) (all_right_lem (map (field_at s) ats)) a in
+    let p = and_parts (field_right (field_at s at)) (all_right (map (field_at s) ats)) a in
     let q = or_parts (eqb (field_at s at).kind 3) (has_real (map (field_at s) ats)) h in (
       record {
         size = (and_parts (name_right (field_at s at).name) (size_right (field_at s at).kind (length (field_at s at).value)) p.0).1;
@@ -58,17 +58,17 @@ written_says s bytes well h = text_says (fields_of s) (good_all s bytes (starts_
 
 -- ---- what is read of a notice's own fields
 
-names_right_lem : (fs : List Field) → all_right_lem fs ≡ true → names_right fs ≡ true
+names_right_lem : (fs : List Field) → all_right fs ≡ true → names_right fs ≡ true
 names_right_lem [] a = refl
 names_right_lem (f ∷ fs) a =
-    let p = and_parts (field_right f) (all_right_lem fs) a in
+    let p = and_parts (field_right f) (all_right fs) a in
     let q = and_parts (name_right f.name) (size_right f.kind (length f.value)) p.0 in
     rw q.0 (names_right_lem fs p.1)
 
-sizes_right_lem : (fs : List Field) → all_right_lem fs ≡ true → sizes_right fs ≡ true
+sizes_right_lem : (fs : List Field) → all_right fs ≡ true → sizes_right fs ≡ true
 sizes_right_lem [] a = refl
 sizes_right_lem (f ∷ fs) a =
-    let p = and_parts (field_right f) (all_right_lem fs) a in
+    let p = and_parts (field_right f) (all_right fs) a in
     let q = and_parts (name_right f.name) (size_right f.kind (length f.value)) p.0 in
     rw q.1 (sizes_right_lem fs p.1)
 
@@ -163,7 +163,7 @@ write_accepts s buffer w written i well no_real fits =
 pub sorted_perm : SortedSame
 sorted_perm fs = sorted_same_fields fs
 
-all_right_lem : (fs : List Field) → names_right fs ≡ true → sizes_right fs ≡ true → all_right_lem fs ≡ true
+all_right_lem : (fs : List Field) → names_right fs ≡ true → sizes_right fs ≡ true → all_right fs ≡ true
 all_right_lem [] n z = refl
 all_right_lem (f ∷ fs) n z =
     let p = and_parts (name_right f.name) (names_right fs) n in

@@ -197,7 +197,7 @@ value_room k v b h = go (eqb k 1) (eqb k 2) (eqb k 4) refl refl refl
 field_room : (s : List ℕ) (at : ℕ) → Bytes s → right_at s at ≡ true → length (field_text (field_at s at)) ≤ 2 * (2 + size_at s at) + 5
 field_room s at b h =
     let p = parts s at h in
-    omega (arith, length_field (field_at s at), escapes_most (name_at s at), value_room (kind_at s at) (value_at s at) (value_bytes s at b) p.size_right, p.room, p.name_long, p.value_long)
+    omega (arith, length_field (field_at s at), escapes_most (name_at s at), value_room (kind_at s at) (value_at s at) (value_bytes s at b) p.size_right_lem, p.room, p.name_long, p.value_long)
 
 pub rest_room : (n : ℕ) (s : List ℕ) (at : ℕ) → Bytes s → Rest n s at → at ≤ length s → length (fields_text (fields_from n s at)) ≤ 2 * (length s - at) + 5 * n
 rest_room zero s at b r l = omega (arith, ap length (text_end 0 s at refl))

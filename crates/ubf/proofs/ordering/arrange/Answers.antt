@@ -9,50 +9,7 @@ use Rattle.notice.specs.Write.{place_among}
 use Rattle.ubf.specs.Span.{name_in, SpanIn, row_in, row_fields, Rising}
 use Rattle.ubf.specs.declared.spans.Span.{Span}
 use Rattle.ubf.proofs.Arranged.{place_within, Sofar, row_lies, rising_rows, repeated_here, sofar_start, sofar_more, arranged, not_arranged}
-use Rattle.ubf.proofs.ordering.arrange.Lts as lts
-use Rattle.ubf.proofs.ordering.arrange.Tie as tie
-use Rattle.ubf.proofs.ordering.arrange.Reads as reads
 use Rattle.ubf.proofs.ordering.arrange.Goals as goal
-
--- the row that is put in order now, and the rows after it
-lies : (c : lts.After-span_at tie.the-claims reads.Pre reads.Post goal.the-invariant-loop-left goal.the-decreases-loop-left) → SpanIn c.args.text.now c.span_at-s.result
-lies c =
-    let a = c.args in
-    let p = c.requires in
-    subst (SpanIn a.text.now) (sym c.span_at-s.ensures) (row_lies a.text.now a.rows.now a.count p.0 p.1 p.3 (c.loop-left.left - 1) (omega (arith, c.loop-left.invariant.0, c.loop-left-test.true)))
-
-rises : (c : lts.In-loop tie.the-claims reads.Pre reads.Post goal.the-invariant-loop-left goal.the-decreases-loop-left) → Rising c.args.text.now c.args.rows.now c.loop-left.order (64 - c.args.count + c.loop-left.left)
-rises c =
-    let a = c.args in
-    let p = c.requires in
-    let l = c.loop-left in
-    rising_rows a.text.now a.rows.now a.count p.0 p.1 p.3 l.order l.invariant.1 l.left l.invariant.2 (omega (arith, c.loop-left-test.true)) l.invariant.0
-
--- its place
-placed : (c : lts.After-place_for tie.the-claims reads.Pre reads.Post goal.the-invariant-loop-left goal.the-decreases-loop-left)
-    → c.place_for-at.result ≡ 64 - c.args.count + c.loop-left.left + place_among (name_in c.args.text.now (row_in c.args.rows.now (c.loop-left.left - 1))) (row_fields c.args.text.now c.args.rows.now (drop (64 - c.args.count + c.loop-left.left) c.loop-left.order))
-placed c =
-    let a = c.args in
-    let l = c.loop-left in
-    let f = 64 - a.count + l.left in
-    c.place_for-at.ensures ∙ ap (λ (s : Span). f + place_among (name_in a.text.now s) (row_fields a.text.now a.rows.now (drop f l.order))) c.span_at-s.ensures
-
-within : (c : lts.After-place_for tie.the-claims reads.Pre reads.Post goal.the-invariant-loop-left goal.the-decreases-loop-left) → (64 - c.args.count + c.loop-left.left ≤ c.place_for-at.result) × (c.place_for-at.result ≤ 64)
-within c =
-    let a = c.args in
-    let l = c.loop-left in
-    let f = 64 - a.count + l.left in
-    let w = place_within a.text.now a.rows.now l.order f (rises c.before.before.before) (name_in a.text.now (row_in a.rows.now (l.left - 1))) in
-    omega (arith, placed c)
-
--- whether its name is among those after it
-named : (c : lts.After-repeated_at tie.the-claims reads.Pre reads.Post goal.the-invariant-loop-left goal.the-decreases-loop-left)
-    → c.repeated_at.result ≡ has_name (name_in c.args.text.now (row_in c.args.rows.now (c.loop-left.left - 1))) (row_fields c.args.text.now c.args.rows.now (drop (64 - c.args.count + c.loop-left.left) c.loop-left.order))
-named c =
-    let a = c.args in
-    let l = c.loop-left in
-    let f = 64 - a.count + l.left in
-    c.repeated_at.ensures ∙ ap (λ (s : Span). has_name (name_in a.text.now s) (row_fields a.text.now a.rows.now (drop f l.order))) c.span_at-s.ensures
 
 pub loop-left-init : goal.loop-left-init
 loop-left-init c =
@@ -73,11 +30,11 @@ pub span_at-s-requires : goal.span_at-s-requires
 span_at-s-requires c = omega (arith, c.requires.0, c.requires.1, c.loop-left.invariant.0, c.loop-left-test.true)
 
 pub place_for-at-requires : goal.place_for-at-requires
-place_for-at-requires c = (lies c.before.before, rises c.before.before.before)
+place_for-at-requires c = ((subst (SpanIn c.args.text.now) (sym c.span_at-s.ensures) (row_lies c.args.text.now c.args.rows.now c.args.count c.requires.0 c.requires.1 c.requires.3 (c.loop-left.left - 1) (omega (arith, c.loop-left.invariant.0, c.loop-left-test.true)))), (rising_rows c.args.text.now c.args.rows.now c.args.count c.requires.0 c.requires.1 c.requires.3 c.loop-left.order c.loop-left.invariant.1 c.loop-left.left c.loop-left.invariant.2 (omega (arith, c.loop-left-test.true)) c.loop-left.invariant.0))
 
 pub repeated_at-requires : goal.repeated_at-requires
 repeated_at-requires c =
-    (lies c.before.before.before.before, rises c.before.before.before.before.before, c.place_for-at.ensures)
+    ((subst (SpanIn c.args.text.now) (sym c.span_at-s.ensures) (row_lies c.args.text.now c.args.rows.now c.args.count c.requires.0 c.requires.1 c.requires.3 (c.loop-left.left - 1) (omega (arith, c.loop-left.invariant.0, c.loop-left-test.true)))), (rising_rows c.args.text.now c.args.rows.now c.args.count c.requires.0 c.requires.1 c.requires.3 c.loop-left.order c.loop-left.invariant.1 c.loop-left.left c.loop-left.invariant.2 (omega (arith, c.loop-left-test.true)) c.loop-left.invariant.0), c.place_for-at.ensures)
 
 pub shape_of-order-then-repeated_at : goal.shape_of-order-then-repeated_at
 shape_of-order-then-repeated_at c = c.loop-left.invariant.1 ∙ sym c.requires.2
@@ -88,14 +45,16 @@ returns-then-repeated_at c =
     let p = c.requires in
     let l = c.loop-left in
     not_arranged a.text.now a.rows.now a.count p.0 p.1 p.3 l.order
-    (repeated_here a.text.now a.rows.now a.count p.0 p.1 p.3 l.order l.invariant.1 l.left l.invariant.2 (omega (arith, c.loop-left-test.true)) l.invariant.0 (sym c.if-repeated_at.true ∙ named c.before.before))
+    (repeated_here a.text.now a.rows.now a.count p.0 p.1 p.3 l.order l.invariant.1 l.left l.invariant.2 (omega (arith, c.loop-left-test.true)) l.invariant.0 (sym c.if-repeated_at.true ∙ (c.repeated_at.ensures ∙ ap (λ (s : Span). has_name (name_in c.args.text.now s) (row_fields c.args.text.now c.args.rows.now (drop (64 - c.args.count + c.loop-left.left) c.loop-left.order))) c.span_at-s.ensures)))
 
 pub overflow_sub-first-in-loop-left : goal.overflow_sub-first-in-loop-left
 overflow_sub-first-in-loop-left c = omega (arith, c.loop-left-test.true)
 
 pub move_down-requires : goal.move_down-requires
 move_down-requires c =
-    let w = within c.before.before.before.before.before in (omega arith, omega (arith, w), omega (arith, w, c.loop-left.invariant.1))
+    let v = place_within c.args.text.now c.args.rows.now c.loop-left.order (64 - c.args.count + c.loop-left.left) (rising_rows c.args.text.now c.args.rows.now c.args.count c.requires.0 c.requires.1 c.requires.3 c.loop-left.order c.loop-left.invariant.1 c.loop-left.left c.loop-left.invariant.2 (omega (arith, c.loop-left-test.true)) c.loop-left.invariant.0) (name_in c.args.text.now (row_in c.args.rows.now (c.loop-left.left - 1))) in
+    let q : c.place_for-at.result ≡ 64 - c.args.count + c.loop-left.left + place_among (name_in c.args.text.now (row_in c.args.rows.now (c.loop-left.left - 1))) (row_fields c.args.text.now c.args.rows.now (drop (64 - c.args.count + c.loop-left.left) c.loop-left.order)) = c.place_for-at.ensures ∙ ap (λ (s : Span). 64 - c.args.count + c.loop-left.left + place_among (name_in c.args.text.now s) (row_fields c.args.text.now c.args.rows.now (drop (64 - c.args.count + c.loop-left.left) c.loop-left.order))) c.span_at-s.ensures in
+    let w : (64 - c.args.count + c.loop-left.left ≤ c.place_for-at.result) × (c.place_for-at.result ≤ 64) = omega (arith, v, q) in (omega arith, omega (arith, w), omega (arith, w, c.loop-left.invariant.1))
 
 pub overflow_sub-order : goal.overflow_sub-order
 overflow_sub-order c = omega (arith, c.loop-left-test.true)
@@ -105,11 +64,15 @@ overflow_cast-order c = omega (arith, c.requires.0, c.loop-left.invariant.0)
 
 pub overflow_sub-order-in-loop-left : goal.overflow_sub-order-in-loop-left
 overflow_sub-order-in-loop-left c =
-    omega (arith, c.loop-left-test.true, within c.before.before.before.before.before.before.before.before)
+    let v = place_within c.args.text.now c.args.rows.now c.loop-left.order (64 - c.args.count + c.loop-left.left) (rising_rows c.args.text.now c.args.rows.now c.args.count c.requires.0 c.requires.1 c.requires.3 c.loop-left.order c.loop-left.invariant.1 c.loop-left.left c.loop-left.invariant.2 (omega (arith, c.loop-left-test.true)) c.loop-left.invariant.0) (name_in c.args.text.now (row_in c.args.rows.now (c.loop-left.left - 1))) in
+    let q : c.place_for-at.result ≡ 64 - c.args.count + c.loop-left.left + place_among (name_in c.args.text.now (row_in c.args.rows.now (c.loop-left.left - 1))) (row_fields c.args.text.now c.args.rows.now (drop (64 - c.args.count + c.loop-left.left) c.loop-left.order)) = c.place_for-at.ensures ∙ ap (λ (s : Span). 64 - c.args.count + c.loop-left.left + place_among (name_in c.args.text.now s) (row_fields c.args.text.now c.args.rows.now (drop (64 - c.args.count + c.loop-left.left) c.loop-left.order))) c.span_at-s.ensures in
+    omega (arith, c.loop-left-test.true, v, q)
 
 pub bounds-order-at : goal.bounds-order-at
 bounds-order-at c =
-    omega (arith, c.loop-left-test.true, within c.before.before.before.before.before.before.before.before, c.move_down.auto.0, c.loop-left.invariant.1)
+    let v = place_within c.args.text.now c.args.rows.now c.loop-left.order (64 - c.args.count + c.loop-left.left) (rising_rows c.args.text.now c.args.rows.now c.args.count c.requires.0 c.requires.1 c.requires.3 c.loop-left.order c.loop-left.invariant.1 c.loop-left.left c.loop-left.invariant.2 (omega (arith, c.loop-left-test.true)) c.loop-left.invariant.0) (name_in c.args.text.now (row_in c.args.rows.now (c.loop-left.left - 1))) in
+    let q : c.place_for-at.result ≡ 64 - c.args.count + c.loop-left.left + place_among (name_in c.args.text.now (row_in c.args.rows.now (c.loop-left.left - 1))) (row_fields c.args.text.now c.args.rows.now (drop (64 - c.args.count + c.loop-left.left) c.loop-left.order)) = c.place_for-at.ensures ∙ ap (λ (s : Span). 64 - c.args.count + c.loop-left.left + place_among (name_in c.args.text.now s) (row_fields c.args.text.now c.args.rows.now (drop (64 - c.args.count + c.loop-left.left) c.loop-left.order))) c.span_at-s.ensures in
+    omega (arith, c.loop-left-test.true, v, q, c.move_down.auto.buffer, c.loop-left.invariant.1)
 
 pub overflow_sub-left-in-loop-left : goal.overflow_sub-left-in-loop-left
 overflow_sub-left-in-loop-left c = omega (arith, c.loop-left-test.true)
@@ -123,8 +86,8 @@ loop-left-preserved c =
     let p = c.requires in
     let l = c.loop-left in
     let at = c.place_for-at.result in
-    let t = sofar_more a.text.now a.rows.now a.count p.0 p.1 p.3 l.order l.invariant.1 l.left l.invariant.2 (omega (arith, c.loop-left-test.true)) l.invariant.0 at (placed c.before.before.before.before.before.before.before.before) (sym c.if-repeated_at.false ∙ named c.before.before.before.before.before.before) in
-    (omega (arith, l.invariant.0), simp length-set (omega (arith, c.move_down.auto.0, l.invariant.1)), subst (λ (o : List ℕ). Sofar a.text.now a.rows.now a.count (set o (at - 1) (l.left - 1)) (l.left - 1)) (sym c.move_down.ensures) t)
+    let t = sofar_more a.text.now a.rows.now a.count p.0 p.1 p.3 l.order l.invariant.1 l.left l.invariant.2 (omega (arith, c.loop-left-test.true)) l.invariant.0 at (c.place_for-at.ensures ∙ ap (λ (s : Span). 64 - c.args.count + c.loop-left.left + place_among (name_in c.args.text.now s) (row_fields c.args.text.now c.args.rows.now (drop (64 - c.args.count + c.loop-left.left) c.loop-left.order))) c.span_at-s.ensures) (sym c.if-repeated_at.false ∙ (c.repeated_at.ensures ∙ ap (λ (s : Span). has_name (name_in c.args.text.now s) (row_fields c.args.text.now c.args.rows.now (drop (64 - c.args.count + c.loop-left.left) c.loop-left.order))) c.span_at-s.ensures)) in
+    (omega (arith, l.invariant.0), simp length-set (omega (arith, c.move_down.auto.buffer, l.invariant.1)), subst (λ (o : List ℕ). Sofar a.text.now a.rows.now a.count (set o (at - 1) (l.left - 1)) (l.left - 1)) (sym c.move_down.ensures) t)
 
 pub shape_of-order : goal.shape_of-order
 shape_of-order c = c.loop-left.invariant.1 ∙ sym c.requires.2

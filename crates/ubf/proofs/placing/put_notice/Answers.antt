@@ -14,7 +14,7 @@ use Rattle.ubf.proofs.placing.put_notice.Goals as goal
 pub put_spans-requires : goal.put_spans-requires
 put_spans-requires c =
     let a = c.args in
-    placing_whole a.text.now a.rows.now a.order.now a.count a.size _ c.requires c.write_u16-2.new.0 (omega (arith, c.write_u16-2.auto.0, c.write_u16.auto.0, c.write_u32.auto.0))
+    placing_whole a.text.now a.rows.now a.order.now a.count a.size _ c.requires c.write_u16-2.new.d (omega (arith, c.write_u16-2.auto.d, c.write_u16.auto.d, c.write_u32.auto.d))
 
 pub returns : goal.returns
 returns c =

@@ -20,14 +20,14 @@ overflow_cast-s-2 c =
 pub put_part-requires : goal.put_part-requires
 put_part-requires c =
     let a = c.args in
-    let l = length-set c.write_u16-2.new.0 (a.at + 4) a.s.namelen in
-    (c.requires.0.named, omega (arith, l, c.write_u16-2.auto.0, c.write_u16.auto.0, c.requires.3))
+    let l = length-set c.write_u16-2.new.d (a.at + 4) a.s.namelen in
+    (c.requires.0.named, omega (arith, l, c.write_u16-2.auto.d, c.write_u16.auto.d, c.requires.3))
 
 pub put_data-requires : goal.put_data-requires
 put_data-requires c =
     let a = c.args in
-    let l = length-set c.write_u16-2.new.0 (a.at + 4) a.s.namelen in
-    (c.requires.0, omega (arith, l, c.put_part.auto.0, c.write_u16-2.auto.0, c.write_u16.auto.0, c.requires.3))
+    let l = length-set c.write_u16-2.new.d (a.at + 4) a.s.namelen in
+    (c.requires.0, omega (arith, l, c.put_part.auto.buffer, c.write_u16-2.auto.d, c.write_u16.auto.d, c.requires.3))
 
 pub overflow_add-result : goal.overflow_add-result
 overflow_add-result c = omega (arith, c.well_formed, c.requires.3)
@@ -41,15 +41,15 @@ overflow_add-result-3 c = omega (arith, c.well_formed, c.requires.3)
 pub shape_of-buffer : goal.shape_of-buffer
 shape_of-buffer c =
     let a = c.args in
-    let l = length-set c.write_u16-2.new.0 (a.at + 4) a.s.namelen in
-    omega (arith, l, c.put_data.auto.0, c.put_part.auto.0, c.write_u16-2.auto.0, c.write_u16.auto.0)
+    let l = length-set c.write_u16-2.new.d (a.at + 4) a.s.namelen in
+    omega (arith, l, c.put_data.auto.buffer, c.put_part.auto.buffer, c.write_u16-2.auto.d, c.write_u16.auto.d)
 
 pub returns : goal.returns
 returns c =
     let a = c.args in
     let s = a.s in
     let f = field_in a.text.now s in
-    span_put a.text.now s c.requires.0 a.buffer.now c.put_data.new.0 a.at
+    span_put a.text.now s c.requires.0 a.buffer.now c.put_data.new.buffer a.at
     (c.put_data.ensures
     ∙ (ap (λ (t : List ℕ). sets t (a.at + 5 + s.namelen) f.value) (c.put_part.ensures
     ∙ ap (λ (t : List ℕ). sets (set t (a.at + 4) s.namelen) (a.at + 5) f.name) (c.write_u16-2.ensures

@@ -8,13 +8,7 @@ use Rattle.notice.specs.Render.{field_bytes, fields_bytes}
 use Rattle.ubf.specs.Span.{field_in, SpanIn, row_in, row_fields, ordered, RowsShort}
 use Rattle.ubf.specs.declared.spans.Span.{Span}
 use Rattle.ubf.proofs.Placed.{span_length, RowShort, row_short, rest_length, rest_stored, rest_none}
-use Rattle.ubf.proofs.placing.put_spans.Lts as lts
-use Rattle.ubf.proofs.placing.put_spans.Tie as tie
-use Rattle.ubf.proofs.placing.put_spans.Reads as reads
 use Rattle.ubf.proofs.placing.put_spans.Goals as goal
-
-row : (c : lts.In-loop tie.the-claims reads.Pre reads.Post goal.the-invariant-loop-k goal.the-decreases-loop-k) → RowShort c.args.text.now c.args.rows.now c.args.order.now c.requires.order_long c.loop-k.k
-row c = row_short c.args.text.now c.args.rows.now c.args.order.now c.requires.order_long c.loop-k.k c.loop-k-test.true c.loop-k.invariant.2
 
 pub overflow_sub-k : goal.overflow_sub-k
 overflow_sub-k c = omega (arith, c.requires.few)
@@ -26,16 +20,16 @@ pub bounds-order-k : goal.bounds-order-k
 bounds-order-k c = omega (arith, c.loop-k-test.true, c.requires.order_long)
 
 pub overflow_cast-order : goal.overflow_cast-order
-overflow_cast-order c = omega (arith, (row c.before.before.before).near)
+overflow_cast-order c = omega (arith, (row_short c.args.text.now c.args.rows.now c.args.order.now c.requires.order_long c.loop-k.k c.loop-k-test.true c.loop-k.invariant.2).near)
 
 pub span_at-requires : goal.span_at-requires
-span_at-requires c = omega (arith, (row c.before.before.before).near, c.requires.rows_long)
+span_at-requires c = omega (arith, (row_short c.args.text.now c.args.rows.now c.args.order.now c.requires.order_long c.loop-k.k c.loop-k-test.true c.loop-k.invariant.2).near, c.requires.rows_long)
 
 pub put_span-at-requires : goal.put_span-at-requires
 put_span-at-requires c =
     let a = c.args in
     let l = c.loop-k in
-    let r = row c.before.before.before.before in
+    let r = (row_short c.args.text.now c.args.rows.now c.args.order.now c.requires.order_long c.loop-k.k c.loop-k-test.true c.loop-k.invariant.2) in
     let n = rest_length a.text.now a.rows.now a.order.now c.requires.order_long l.k c.loop-k-test.true in
     let m = span_length a.text.now (row_in a.rows.now (get_or a.order.now l.k 0)) r.lies in
     subst (λ (s : Span). SpanIn a.text.now s × (s.namelen ≤ 64) × (s.len ≤ 1024) × (l.at + 5 + s.namelen + s.len ≤ length l.buffer)) (sym c.span_at.ensures)
@@ -54,14 +48,14 @@ loop-k-preserved c =
     let h = c.loop-k-test.true in
     let s = c.span_at.result in
     let p = c.put_span-at.ensures in
-    let r = row c.before.before.before.before.before.before.before in
+    let r = (row_short c.args.text.now c.args.rows.now c.args.order.now c.requires.order_long c.loop-k.k c.loop-k-test.true c.loop-k.invariant.2) in
     let n = rest_length a.text.now a.rows.now a.order.now c.requires.order_long l.k h in
     let m : length (field_bytes (field_in a.text.now s)) ≡ length (field_bytes (field_in a.text.now (row_in a.rows.now (get_or a.order.now l.k 0)))) = ap (λ (t : Span). length (field_bytes (field_in a.text.now t))) c.span_at.ensures in (
       omega arith,
-      omega (arith, c.put_span-at.auto.0, l.invariant.1),
+      omega (arith, c.put_span-at.auto.buffer, l.invariant.1),
       r.others,
-      omega (arith, n, m, p.next, c.put_span-at.auto.0, l.invariant.3),
-      rest_stored a.text.now a.rows.now a.order.now c.requires.order_long l.buffer c.put_span-at.new.0 l.at c.put_span-at.result l.k s h c.span_at.ensures p ∙ l.invariant.4,
+      omega (arith, n, m, p.next, c.put_span-at.auto.buffer, l.invariant.3),
+      rest_stored a.text.now a.rows.now a.order.now c.requires.order_long l.buffer c.put_span-at.new.buffer l.at c.put_span-at.result l.k s h c.span_at.ensures p ∙ l.invariant.4,
     )
 
 pub shape_of-buffer : goal.shape_of-buffer

@@ -12,24 +12,7 @@ use Rattle.ubf.proofs.Placed.{RunStored, run_stored, part_room, unescaped_one, u
 use Rattle.common.proofs.copy_to.Reads as copy-to-reads
 use Rattle.ubf.proofs.placing.run_end.Reads as run-end-reads
 use Rattle.ubf.proofs.scanning.byte_place.Reads as byte-place-reads
-use Rattle.ubf.proofs.placing.put_unescaped.Lts as lts
-use Rattle.ubf.proofs.placing.put_unescaped.Tie as tie
-use Rattle.ubf.proofs.placing.put_unescaped.Reads as reads
 use Rattle.ubf.proofs.placing.put_unescaped.Goals as goal
-
--- after a run
-stored : (c : lts.After-slice_known2 tie.the-claims reads.Pre reads.Post goal.the-invariant-loop-k goal.the-decreases-loop-k) → RunStored c.loop-k.buffer c.copy_to.new.0 c.args.text.now c.args.at c.loop-k.i c.args.n c.loop-k.k c.run_end-end.result
-stored c =
-    let a = c.args in
-    let l = c.loop-k in
-    let r = c.run_end-end.ensures in
-    run_stored l.buffer c.copy_to.new.0 a.text.now a.at l.i a.n l.k c.run_end-end.result l.invariant.0 r.0 r.1 r.2 l.invariant.2 c.copy_to.ensures
-
--- the byte behind it
-byte : (c : lts.After-byte_place tie.the-claims reads.Pre reads.Post goal.the-invariant-loop-k goal.the-decreases-loop-k) → ByteOf c.args.text.now c.run_end-end.result (c.args.n - (c.loop-k.k + (c.run_end-end.result - c.loop-k.i))) true c.byte_place-j.result
-byte c =
-    let s = stored c.before.before in
-    byte_of c.args.text.now c.run_end-end.result (c.args.n - (c.loop-k.k + (c.run_end-end.result - c.loop-k.i))) true c.byte_place-j.result (omega (arith, s.next, c.if-k-n.false)) c.byte_place-j.ensures s.rest
 
 pub loop-k-init : goal.loop-k-init
 loop-k-init c =
@@ -71,7 +54,7 @@ pub overflow_sub-k : goal.overflow_sub-k
 overflow_sub-k c = c.run_end-end.ensures.0
 
 pub overflow_add-k : goal.overflow_add-k
-overflow_add-k c = omega (arith, (stored c.before).next)
+overflow_add-k c = omega (arith, (run_stored c.loop-k.buffer c.copy_to.new.buffer c.args.text.now c.args.at c.loop-k.i c.args.n c.loop-k.k c.run_end-end.result c.loop-k.invariant.0 c.run_end-end.ensures.0 c.run_end-end.ensures.1 c.run_end-end.ensures.2 c.loop-k.invariant.2 c.copy_to.ensures).next)
 
 pub shape_of-buffer-then-k-n : goal.shape_of-buffer-then-k-n
 shape_of-buffer-then-k-n c = omega (arith, c.loop-k.invariant.1)
@@ -81,33 +64,33 @@ returns-then-k-n c =
     let a = c.args in
     let l = c.loop-k in
     let end = c.run_end-end.result in
-    let s = stored c.before.before in
+    let s = (run_stored c.loop-k.buffer c.copy_to.new.buffer c.args.text.now c.args.at c.loop-k.i c.args.n c.loop-k.k c.run_end-end.result c.loop-k.invariant.0 c.run_end-end.ensures.0 c.run_end-end.ensures.1 c.run_end-end.ensures.2 c.loop-k.invariant.2 c.copy_to.ensures) in
     let k = l.k + (end - l.i) in
     let m : a.n - k ≡ 0 = omega (arith, c.if-k-n.true) in
-    sym (ap (λ (n : ℕ). sets c.copy_to.new.0 (a.at + k) (bytes_in a.text.now end n true)) m) ∙ (s.same ∙ l.invariant.3)
+    sym (ap (λ (n : ℕ). sets c.copy_to.new.buffer (a.at + k) (bytes_in a.text.now end n true)) m) ∙ (s.same ∙ l.invariant.3)
 
 pub byte_place-j-requires : goal.byte_place-j-requires
 byte_place-j-requires c =
-    part_starts c.args.text.now c.run_end-end.result (c.args.n - (c.loop-k.k + (c.run_end-end.result - c.loop-k.i))) true (omega (arith, (stored c.before.before).next, c.if-k-n.false)) (stored c.before.before).rest
+    part_starts c.args.text.now c.run_end-end.result (c.args.n - (c.loop-k.k + (c.run_end-end.result - c.loop-k.i))) true (omega (arith, (run_stored c.loop-k.buffer c.copy_to.new.buffer c.args.text.now c.args.at c.loop-k.i c.args.n c.loop-k.k c.run_end-end.result c.loop-k.invariant.0 c.run_end-end.ensures.0 c.run_end-end.ensures.1 c.run_end-end.ensures.2 c.loop-k.invariant.2 c.copy_to.ensures).next, c.if-k-n.false)) (run_stored c.loop-k.buffer c.copy_to.new.buffer c.args.text.now c.args.at c.loop-k.i c.args.n c.loop-k.k c.run_end-end.result c.loop-k.invariant.0 c.run_end-end.ensures.0 c.run_end-end.ensures.1 c.run_end-end.ensures.2 c.loop-k.invariant.2 c.copy_to.ensures).rest
 
 pub bounds-text-j : goal.bounds-text-j
-bounds-text-j c = (byte c.before.before).inside
+bounds-text-j c = (byte_of c.args.text.now c.run_end-end.result (c.args.n - (c.loop-k.k + (c.run_end-end.result - c.loop-k.i))) true c.byte_place-j.result (omega (arith, (run_stored c.loop-k.buffer c.copy_to.new.buffer c.args.text.now c.args.at c.loop-k.i c.args.n c.loop-k.k c.run_end-end.result c.loop-k.invariant.0 c.run_end-end.ensures.0 c.run_end-end.ensures.1 c.run_end-end.ensures.2 c.loop-k.invariant.2 c.copy_to.ensures).next, c.if-k-n.false)) c.byte_place-j.ensures (run_stored c.loop-k.buffer c.copy_to.new.buffer c.args.text.now c.args.at c.loop-k.i c.args.n c.loop-k.k c.run_end-end.result c.loop-k.invariant.0 c.run_end-end.ensures.0 c.run_end-end.ensures.1 c.run_end-end.ensures.2 c.loop-k.invariant.2 c.copy_to.ensures).rest).inside
 
 pub overflow_add-buffer : goal.overflow_add-buffer
-overflow_add-buffer c = let s = stored c.before.before.before.before in omega (arith, s.next, c.requires.1)
+overflow_add-buffer c = let s = (run_stored c.loop-k.buffer c.copy_to.new.buffer c.args.text.now c.args.at c.loop-k.i c.args.n c.loop-k.k c.run_end-end.result c.loop-k.invariant.0 c.run_end-end.ensures.0 c.run_end-end.ensures.1 c.run_end-end.ensures.2 c.loop-k.invariant.2 c.copy_to.ensures) in omega (arith, s.next, c.requires.1)
 
 pub bounds-buffer-at : goal.bounds-buffer-at
 bounds-buffer-at c =
-    let s = stored c.before.before.before.before in omega (arith, s.next, c.if-k-n.false, c.requires.1, c.loop-k.invariant.1)
+    let s = (run_stored c.loop-k.buffer c.copy_to.new.buffer c.args.text.now c.args.at c.loop-k.i c.args.n c.loop-k.k c.run_end-end.result c.loop-k.invariant.0 c.run_end-end.ensures.0 c.run_end-end.ensures.1 c.run_end-end.ensures.2 c.loop-k.invariant.2 c.copy_to.ensures) in omega (arith, s.next, c.if-k-n.false, c.requires.1, c.loop-k.invariant.1)
 
 pub overflow_add-i : goal.overflow_add-i
-overflow_add-i c = omega (arith, (byte c.before.before).inside)
+overflow_add-i c = omega (arith, (byte_of c.args.text.now c.run_end-end.result (c.args.n - (c.loop-k.k + (c.run_end-end.result - c.loop-k.i))) true c.byte_place-j.result (omega (arith, (run_stored c.loop-k.buffer c.copy_to.new.buffer c.args.text.now c.args.at c.loop-k.i c.args.n c.loop-k.k c.run_end-end.result c.loop-k.invariant.0 c.run_end-end.ensures.0 c.run_end-end.ensures.1 c.run_end-end.ensures.2 c.loop-k.invariant.2 c.copy_to.ensures).next, c.if-k-n.false)) c.byte_place-j.ensures (run_stored c.loop-k.buffer c.copy_to.new.buffer c.args.text.now c.args.at c.loop-k.i c.args.n c.loop-k.k c.run_end-end.result c.loop-k.invariant.0 c.run_end-end.ensures.0 c.run_end-end.ensures.1 c.run_end-end.ensures.2 c.loop-k.invariant.2 c.copy_to.ensures).rest).inside)
 
 pub overflow_add-k-in-loop-k : goal.overflow_add-k-in-loop-k
-overflow_add-k-in-loop-k c = let s = stored c.before.before.before.before in omega (arith, s.next, c.if-k-n.false)
+overflow_add-k-in-loop-k c = let s = (run_stored c.loop-k.buffer c.copy_to.new.buffer c.args.text.now c.args.at c.loop-k.i c.args.n c.loop-k.k c.run_end-end.result c.loop-k.invariant.0 c.run_end-end.ensures.0 c.run_end-end.ensures.1 c.run_end-end.ensures.2 c.loop-k.invariant.2 c.copy_to.ensures) in omega (arith, s.next, c.if-k-n.false)
 
 pub loop-k-smaller : goal.loop-k-smaller
-loop-k-smaller c = let s = stored c.before.before.before.before in omega (arith, s.next, c.if-k-n.false)
+loop-k-smaller c = let s = (run_stored c.loop-k.buffer c.copy_to.new.buffer c.args.text.now c.args.at c.loop-k.i c.args.n c.loop-k.k c.run_end-end.result c.loop-k.invariant.0 c.run_end-end.ensures.0 c.run_end-end.ensures.1 c.run_end-end.ensures.2 c.loop-k.invariant.2 c.copy_to.ensures) in omega (arith, s.next, c.if-k-n.false)
 
 pub loop-k-preserved : goal.loop-k-preserved
 loop-k-preserved c =
@@ -115,14 +98,14 @@ loop-k-preserved c =
     let l = c.loop-k in
     let end = c.run_end-end.result in
     let k = l.k + (end - l.i) in
-    let s = stored c.before.before.before.before in
+    let s = (run_stored c.loop-k.buffer c.copy_to.new.buffer c.args.text.now c.args.at c.loop-k.i c.args.n c.loop-k.k c.run_end-end.result c.loop-k.invariant.0 c.run_end-end.ensures.0 c.run_end-end.ensures.1 c.run_end-end.ensures.2 c.loop-k.invariant.2 c.copy_to.ensures) in
     let j = c.byte_place-j.result in
-    let b = byte c.before.before in
+    let b = (byte_of c.args.text.now c.run_end-end.result (c.args.n - (c.loop-k.k + (c.run_end-end.result - c.loop-k.i))) true c.byte_place-j.result (omega (arith, (run_stored c.loop-k.buffer c.copy_to.new.buffer c.args.text.now c.args.at c.loop-k.i c.args.n c.loop-k.k c.run_end-end.result c.loop-k.invariant.0 c.run_end-end.ensures.0 c.run_end-end.ensures.1 c.run_end-end.ensures.2 c.loop-k.invariant.2 c.copy_to.ensures).next, c.if-k-n.false)) c.byte_place-j.ensures (run_stored c.loop-k.buffer c.copy_to.new.buffer c.args.text.now c.args.at c.loop-k.i c.args.n c.loop-k.k c.run_end-end.result c.loop-k.invariant.0 c.run_end-end.ensures.0 c.run_end-end.ensures.1 c.run_end-end.ensures.2 c.loop-k.invariant.2 c.copy_to.ensures).rest) in
     let h : k < a.n = omega (arith, s.next, c.if-k-n.false) in (
       omega arith,
       simp length-set (omega (arith, l.invariant.1)),
       unescaped_rest a.text.now end a.n k j h b,
-      unescaped_one c.copy_to.new.0 a.text.now a.at end a.n k j h b ∙ (s.same ∙ l.invariant.3),
+      unescaped_one c.copy_to.new.buffer a.text.now a.at end a.n k j h b ∙ (s.same ∙ l.invariant.3),
     )
 
 pub shape_of-buffer : goal.shape_of-buffer

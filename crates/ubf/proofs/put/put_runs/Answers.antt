@@ -41,7 +41,7 @@ returns-then-end-s c =
     let p = c.put_bytes-p.ensures in
     let h : length s ≤ end = omega (arith, c.if-end-s.true) in
     record {
-      stored = escaped_end s c.put_bytes-p.new.0 c.put_bytes-p.result end h ∙ (escaped_run s l.i end r l.out l.p p ∙ l.invariant.3);
+      stored = escaped_end s c.put_bytes-p.new.out c.put_bytes-p.result end h ∙ (escaped_run s l.i end r l.out l.p p ∙ l.invariant.3);
       next = omega (arith, p.next, length_run s l.i end r, rest_run s l.i end r, no_escapes s end h, l.invariant.2);
     }
 
@@ -75,7 +75,7 @@ loop-i-preserved c =
       omega arith,
       omega (arith, l.invariant.1),
       omega (arith, p.next, q.next, length_run s l.i end r, rest_run s l.i end r, rest_escapes s end h, l.invariant.2),
-      escaped_one s c.put_bytes-p.new.0 c.put_bytes-p.result end h q ∙ (escaped_run s l.i end r l.out l.p p ∙ l.invariant.3),
+      escaped_one s c.put_bytes-p.new.out c.put_bytes-p.result end h q ∙ (escaped_run s l.i end r l.out l.p p ∙ l.invariant.3),
     )
 
 pub returns : goal.returns

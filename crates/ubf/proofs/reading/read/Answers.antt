@@ -8,31 +8,25 @@ use Rattle.ubf.specs.Fields.{said, is_tuple}
 use Rattle.ubf.specs.Span.{ordered}
 use Rattle.ubf.proofs.Refusals.{not_tuple, read_refused, read_accepted}
 use borrow.Author.Rules.{rules}
-use Rattle.ubf.proofs.reading.read.Lts as lts
-use Rattle.ubf.proofs.reading.read.Tie as tie
-use Rattle.ubf.proofs.reading.read.Reads as reads
 use Rattle.ubf.proofs.reading.read.Goals as goal
-
-none : (c : lts.Then1 tie.the-claims reads.Pre reads.Post) → is_tuple (said c.args.text.now) ≡ false
-none c = c.tuple_in-t.ensures.none (not-true c.tuple_in-t.result.right c.if-not-t.true)
 
 pub returns-then-in_syntax : goal.returns-then-in_syntax
 returns-then-in_syntax c =
     let a = c.args in
-    let n = not_tuple a.text.now (length a.buffer.now) c.in_syntax.result (none c.before.before.before.before) c.in_syntax.ensures in
+    let n = not_tuple a.text.now (length a.buffer.now) c.in_syntax.result (c.tuple_in-t.ensures.none (not-true c.tuple_in-t.result.right c.if-not-t.true)) c.in_syntax.ensures in
     let r = read_refused a.text.now a.buffer.now 23 (λ e. omega arith) (n ∙ ap (λ (b : Bool). cond b 23 22) c.if-in_syntax.true) in
     (c.refused.ensures ∙ r.answer, r.bytes)
 
 pub returns-then-not-t : goal.returns-then-not-t
 returns-then-not-t c =
     let a = c.args in
-    let n = not_tuple a.text.now (length a.buffer.now) c.in_syntax.result (none c.before.before.before.before) c.in_syntax.ensures in
+    let n = not_tuple a.text.now (length a.buffer.now) c.in_syntax.result (c.tuple_in-t.ensures.none (not-true c.tuple_in-t.result.right c.if-not-t.true)) c.in_syntax.ensures in
     let r = read_refused a.text.now a.buffer.now 22 (λ e. omega arith) (n ∙ ap (λ (b : Bool). cond b 23 22) c.if-in_syntax.false) in
     (c.refused-then-not-t.ensures ∙ r.answer, r.bytes)
 
 pub refusal-number-requires : goal.refusal-number-requires
 refusal-number-requires c =
-    (c.tuple_in-t.ensures.found (not-false c.tuple_in-t.result.right c.if-not-t.false), c.tuple_in-t.auto.1.0, refl)
+    (c.tuple_in-t.ensures.found (not-false c.tuple_in-t.result.right c.if-not-t.false), c.tuple_in-t.auto.rows, refl)
 
 pub returns-then-number-ne0 : goal.returns-then-number-ne0
 returns-then-number-ne0 c =
@@ -49,6 +43,6 @@ returns c =
     let z = c.if-number-ne0.false in
     let q = c.refusal-number.ensures in
     let t = c.tuple_in-t.result in
-    let o = c.refusal-number.new.1.1.1.0 in
-    let r = read_accepted a.text.now a.buffer.now t.size (ordered a.text.now c.tuple_in-t.new.1.0 t.count o) c.put_notice.new.0 (sym q.number ∙ z) (q.rises z) (q.placing z).size_is c.put_notice.ensures in
+    let o = c.refusal-number.new.order in
+    let r = read_accepted a.text.now a.buffer.now t.size (ordered a.text.now c.tuple_in-t.new.rows t.count o) c.put_notice.new.buffer (sym q.number ∙ z) (q.rises z) (q.placing z).size_is c.put_notice.ensures in
     (r.answer, r.bytes)

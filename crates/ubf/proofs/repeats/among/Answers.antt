@@ -1,7 +1,6 @@
 -- `among` meets its contract: from `at` to i fields were read, and whether one of them has the name. Assumes nothing.
 use Prim.Native.Nat.{◌-◌}
 use native.Mathlib.Omega.{arith}
-use borrow.Author.Tests.{not-true, not-false}
 use lib.ListN.{length}
 use Rattle.ubf.specs.Span.{name_in, FieldFound, WithinTuple}
 use Rattle.ubf.proofs.Within.{name_comes, field_comes, within_next, Follows, follows_none, follows_more, follows_end}
@@ -21,7 +20,7 @@ ends-requires c = c.loop-s.invariant.0.near
 
 pub field_at-t-requires : goal.field_at-t-requires
 field_at-t-requires c =
-    let l = c.loop-s in name_comes c.args.text.now l.i l.invariant.0 c.ends.result c.ends.ensures (not-true c.ends.result c.loop-s-test.true)
+    let l = c.loop-s in name_comes c.args.text.now l.i l.invariant.0 c.ends.result c.ends.ensures c.loop-s-test.true
 
 pub name_same-found-requires : goal.name_same-found-requires
 name_same-found-requires c = ((field c.before).lies, c.requires.1)
@@ -41,4 +40,4 @@ pub returns : goal.returns
 returns c =
     let a = c.args in
     let l = c.loop-s in
-    follows_end a.text.now a.at (name_in a.text.now a.s) l.i l.found c.ends.result c.ends.ensures (not-false c.ends.result c.loop-s-test.false) l.invariant.1
+    follows_end a.text.now a.at (name_in a.text.now a.s) l.i l.found c.ends.result c.ends.ensures c.loop-s-test.false l.invariant.1

@@ -1,7 +1,6 @@
 -- `repeats` meets its contract: no name of the fields before i is repeated. Assumes nothing.
 use Prim.Native.Nat.{◌-◌}
 use native.Mathlib.Omega.{arith}
-use borrow.Author.Tests.{not-true, not-false}
 use lib.ListN.{length}
 use Rattle.ubf.specs.Span.{FieldFound}
 use Rattle.ubf.proofs.Within.{name_comes, field_comes, within_next, Passed, brace_comes, passed_none, passed_more, passed_repeated, passed_all}
@@ -33,7 +32,7 @@ ends-requires c = c.loop-s.invariant.within.near
 
 pub field_at-s-requires : goal.field_at-s-requires
 field_at-s-requires c =
-    let l = c.loop-s in name_comes c.args.text.now l.i l.invariant.within c.ends.result c.ends.ensures (not-true c.ends.result c.loop-s-test.true)
+    let l = c.loop-s in name_comes c.args.text.now l.i l.invariant.within c.ends.result c.ends.ensures c.loop-s-test.true
 
 pub among-requires : goal.among-requires
 among-requires c =
@@ -52,4 +51,4 @@ loop-s-preserved c =
 
 pub returns : goal.returns
 returns c =
-    passed_all c.args.text.now c.loop-s.i c.ends.result c.loop-s.invariant c.ends.ensures (not-false c.ends.result c.loop-s-test.false)
+    passed_all c.args.text.now c.loop-s.i c.ends.result c.loop-s.invariant c.ends.ensures c.loop-s-test.false

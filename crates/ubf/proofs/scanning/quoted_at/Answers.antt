@@ -1,4 +1,3 @@
-use borrow.Author.Tests.{not-true, not-false}
 use mathlib.Core.Path.{sym, ◌∙◌}
 use borrow.Author.Rules.{rules}
 use Prim.Native.Nat.{◌-◌}
@@ -31,7 +30,7 @@ loop-i-preserved c =
     let l = c.loop-i in
     let s = c.before.before.before.before.before.before.before.before.before in
     let a = s.args in
-    opens_two a.text.now a.at a.q l.i l.escapes l.invariant s.requires.1 (omega arith) c.if-b-ne92.false (sym c.escape_right.ensures ∙ not-false _ c.if-not-escape_right.false)
+    opens_two a.text.now a.at a.q l.i l.escapes l.invariant s.requires.1 (omega arith) c.if-b-ne92.false (sym c.escape_right.ensures ∙ c.if-not-escape_right.false)
 
 pub returns-after-loop-i : goal.returns-after-loop-i
 returns-after-loop-i c =
@@ -44,4 +43,4 @@ returns-then-not-escape_right c =
     let l = c.loop-i in
     let s = c.before.before.before.before.before.before.before.before.before in
     let a = s.args in
-    opens_wrong a.text.now a.at a.q l.i l.escapes l.invariant s.requires.1 (omega arith) c.if-b-ne92.false (sym c.escape_right.ensures ∙ not-true _ c.if-not-escape_right.true)
+    opens_wrong a.text.now a.at a.q l.i l.escapes l.invariant s.requires.1 (omega arith) c.if-b-ne92.false (sym c.escape_right.ensures ∙ c.if-not-escape_right.true)

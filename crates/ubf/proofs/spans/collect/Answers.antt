@@ -55,7 +55,7 @@ pub loop-t-preserved : goal.loop-t-preserved
 loop-t-preserved c =
     let a = c.args in
     let l = c.loop-t in
-    collecting_more a.text.now a.at a.rows.now l.rows l.t l.invariant c.field_at-s.result c.keep.new.0 c.grown-t.result (c.field_at-s.ensures.found c.if-s-eq0.false) c.keep.ensures c.grown-t.ensures
+    collecting_more a.text.now a.at a.rows.now l.rows l.t l.invariant c.field_at-s.result c.keep.new.rows c.grown-t.result (c.field_at-s.ensures.found c.if-s-eq0.false) c.keep.ensures c.grown-t.ensures
 
 pub shape_of-rows : goal.shape_of-rows
 shape_of-rows c = c.loop-t.invariant.rooms

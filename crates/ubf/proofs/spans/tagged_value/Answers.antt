@@ -1,7 +1,7 @@
 use mathlib.Core.Path.{sym, ◌∙◌}
 use native.Mathlib.Omega.{arith}
 use Rattle.octets.proofs.Theorems.{and_parts}
-use Rattle.ubf.proofs.Advances.{tag_none, tag_told, tag_other, tag_found, not-true, not-false}
+use Rattle.ubf.proofs.Advances.{tag_none, tag_told, tag_other, tag_found}
 use borrow.Author.Rules.{rules}
 use Rattle.ubf.proofs.spans.tagged_value.Goals as goal
 
@@ -21,14 +21,14 @@ pub returns-then-not-tagged-fits8 : goal.returns-then-not-tagged-fits8
 returns-then-not-tagged-fits8 c =
     let a = c.args in
     let q = c.quoted_at-end in
-    tag_other a.text.now a.at a.negative a.n q.result.end q.result.escapes c.requires.0 c.requires.1 q.ensures (omega arith) c.no_value-then-not-tagged-fits8.result (tag_told a.text.now a.at a.negative a.n q.result.end c.same-tagged.result c.fits8.result c.same-tagged.ensures c.fits8.ensures ∙ not-true _ c.if-not-tagged-fits8.true) c.no_value-then-not-tagged-fits8.ensures
+    tag_other a.text.now a.at a.negative a.n q.result.end q.result.escapes c.requires.0 c.requires.1 q.ensures (omega arith) c.no_value-then-not-tagged-fits8.result (tag_told a.text.now a.at a.negative a.n q.result.end c.same-tagged.result c.fits8.result c.same-tagged.ensures c.fits8.ensures ∙ c.if-not-tagged-fits8.true) c.no_value-then-not-tagged-fits8.ensures
 
 pub bits8-requires : goal.bits8-requires
 bits8-requires c =
-    sym c.fits8.ensures ∙ (and_parts c.same-tagged.result c.fits8.result (not-false _ c.if-not-tagged-fits8.false)).1
+    sym c.fits8.ensures ∙ (and_parts c.same-tagged.result c.fits8.result c.if-not-tagged-fits8.false).1
 
 pub returns : goal.returns
 returns c =
     let a = c.args in
     let q = c.quoted_at-end in
-    tag_found a.text.now a.at a.negative a.n q.result.end q.result.escapes c.requires.0 c.requires.1 q.ensures (omega arith) c.bits8.result c.blanks.result (tag_told a.text.now a.at a.negative a.n q.result.end c.same-tagged.result c.fits8.result c.same-tagged.ensures c.fits8.ensures ∙ not-false _ c.if-not-tagged-fits8.false) c.bits8.ensures c.blanks.ensures
+    tag_found a.text.now a.at a.negative a.n q.result.end q.result.escapes c.requires.0 c.requires.1 q.ensures (omega arith) c.bits8.result c.blanks.result (tag_told a.text.now a.at a.negative a.n q.result.end c.same-tagged.result c.fits8.result c.same-tagged.ensures c.fits8.ensures ∙ c.if-not-tagged-fits8.false) c.bits8.ensures c.blanks.ensures

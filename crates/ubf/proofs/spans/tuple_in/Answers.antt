@@ -21,7 +21,7 @@ returns-then-not-t c =
     let a = c.args in
     let b = c.blanks-start in
     let t = c.collect-t in
-    tuple_none a.text.now b.result b.ensures (omega arith) c.if-text-start-ne123.false c.blanks.result c.blanks.ensures t.new.1.1.0 t.result t.ensures (not-true _ c.if-not-t.true)
+    tuple_none a.text.now b.result b.ensures (omega arith) c.if-text-start-ne123.false c.blanks.result c.blanks.ensures t.new.rows t.result t.ensures (not-true _ c.if-not-t.true)
 
 pub ends-requires : goal.ends-requires
 ends-requires c = (c.collect-t.ensures.found (not-false _ c.if-not-t.false)).near
@@ -31,11 +31,11 @@ returns-then-ends c =
     let a = c.args in
     let b = c.blanks-start in
     let t = c.collect-t in
-    tuple-found a.text.now b.result b.ensures (omega arith) c.if-text-start-ne123.false c.blanks.result c.blanks.ensures t.new.1.1.0 t.result t.ensures (not-false _ c.if-not-t.false) c.ends.result c.ends.ensures c.if-ends.true
+    tuple-found a.text.now b.result b.ensures (omega arith) c.if-text-start-ne123.false c.blanks.result c.blanks.ensures t.new.rows t.result t.ensures (not-false _ c.if-not-t.false) c.ends.result c.ends.ensures c.if-ends.true
 
 pub returns : goal.returns
 returns c =
     let a = c.args in
     let b = c.blanks-start in
     let t = c.collect-t in
-    tuple-open a.text.now b.result b.ensures (omega arith) c.if-text-start-ne123.false c.blanks.result c.blanks.ensures t.new.1.1.0 t.result t.ensures (not-false _ c.if-not-t.false) c.ends.result c.ends.ensures c.tuple_at-2.result b.result c.if-ends.false c.tuple_at-2.ensures
+    tuple-open a.text.now b.result b.ensures (omega arith) c.if-text-start-ne123.false c.blanks.result c.blanks.ensures t.new.rows t.result t.ensures (not-false _ c.if-not-t.false) c.ends.result c.ends.ensures c.tuple_at-2.result b.result c.if-ends.false c.tuple_at-2.ensures

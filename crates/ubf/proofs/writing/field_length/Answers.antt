@@ -67,7 +67,7 @@ slice_bounds-value_length-end c = let p = parts c.args.notice.now c.args.at c.re
 
 pub value_length-requires : goal.value_length-requires
 value_length-requires c =
-    let p = parts c.args.notice.now c.args.at c.requires in let e = value_part c.args.notice.now c.args.at (c.args.at + 5 + c.name_size.result) (c.args.at + 2 + c.field_size.result) (omega arith) (omega arith) in ap₂ (λ (k : ℕ) (v : List ℕ). size_right k (length v)) c.read_u16.ensures e ∙ p.size_right
+    let p = parts c.args.notice.now c.args.at c.requires in let e = value_part c.args.notice.now c.args.at (c.args.at + 5 + c.name_size.result) (c.args.at + 2 + c.field_size.result) (omega arith) (omega arith) in ap₂ (λ (k : ℕ) (v : List ℕ). size_right k (length v)) c.read_u16.ensures e ∙ p.size_right_lem
 
 pub overflow_add-result-2 : goal.overflow_add-result-2
 overflow_add-result-2 c =

@@ -59,7 +59,7 @@ slice_bounds-put_value-end c = let p = parts c.args.notice.now c.args.at c.requi
 
 pub put_value-requires : goal.put_value-requires
 put_value-requires c =
-    let p = parts c.args.notice.now c.args.at c.requires.0 in let e = name_part c.args.notice.now c.args.at (c.args.at + 5 + c.name_size.result) (omega arith) in let f = value_part c.args.notice.now c.args.at (c.args.at + 5 + c.name_size.result) (c.args.at + 2 + c.field_size.result) (omega arith) (omega arith) in let s = c.args.notice.now in let i = c.args.at in let z = c.put_string-next.ensures.next ∙ ap (λ (l : List ℕ). c.args.p + length (string_text l)) e in let k = c.read_u16.ensures in (ap₂ (λ (k : ℕ) (v : List ℕ). size_right k (length v)) k f ∙ p.size_right, omega (arith, length_field (field_at s i), length_string (name_at s i), z, ap₂ (λ (k : ℕ) (v : List ℕ). length (value_text k v)) k f))
+    let p = parts c.args.notice.now c.args.at c.requires.0 in let e = name_part c.args.notice.now c.args.at (c.args.at + 5 + c.name_size.result) (omega arith) in let f = value_part c.args.notice.now c.args.at (c.args.at + 5 + c.name_size.result) (c.args.at + 2 + c.field_size.result) (omega arith) (omega arith) in let s = c.args.notice.now in let i = c.args.at in let z = c.put_string-next.ensures.next ∙ ap (λ (l : List ℕ). c.args.p + length (string_text l)) e in let k = c.read_u16.ensures in (ap₂ (λ (k : ℕ) (v : List ℕ). size_right k (length v)) k f ∙ p.size_right_lem, omega (arith, length_field (field_at s i), length_string (name_at s i), z, ap₂ (λ (k : ℕ) (v : List ℕ). length (value_text k v)) k f))
 
 pub returns : goal.returns
 returns c =

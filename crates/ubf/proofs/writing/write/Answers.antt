@@ -1,5 +1,5 @@
 use mathlib.Core.Path.{sym, ap, ◌∙◌}
-use borrow.Author.Tests.{leb-true, leb-false, not-true, not-false}
+use borrow.Author.Tests.{leb-true, leb-false}
 use Rattle.ubf.proofs.Writes.{answer, faulted, real_field, no_room, written}
 use borrow.Author.Rules.{rules}
 use Rattle.notice.proofs.check.Reads as check-reads
@@ -9,33 +9,33 @@ use Rattle.ubf.proofs.writing.put_text.Reads as put-text-reads
 use Rattle.ubf.proofs.writing.write.Goals as goal
 
 pub has_real-requires : goal.has_real-requires
-has_real-requires c = sym c.check-layout.ensures ∙ c.enum_told-1.given.1
+has_real-requires c = sym c.check-layout.ensures ∙ c.in-WellFormed.is
 
 pub returns-then-has_real : goal.returns-then-has_real
 returns-then-has_real c =
-    let a = c.args in real_field a.notice.now a.buffer.now (sym c.check-layout.ensures ∙ c.enum_told-1.given.1) (sym c.has_real.ensures ∙ c.if-has_real.true)
+    let a = c.args in real_field a.notice.now a.buffer.now (sym c.check-layout.ensures ∙ c.in-WellFormed.is) (sym c.has_real.ensures ∙ c.if-has_real.true)
 
 pub has_room-requires : goal.has_room-requires
-has_room-requires c = sym c.check-layout.ensures ∙ c.enum_told-1.given.1
+has_room-requires c = sym c.check-layout.ensures ∙ c.in-WellFormed.is
 
 pub returns-then-not-has_room : goal.returns-then-not-has_room
 returns-then-not-has_room c =
     let a = c.args in
-    let f = sym c.has_room.ensures ∙ not-true _ c.if-not-has_room.true in
-    no_room a.notice.now a.buffer.now (sym c.check-layout.ensures ∙ c.enum_told-1.given.1) (sym c.has_real.ensures ∙ c.if-has_real.false) (leb-false _ _ f)
+    let f = sym c.has_room.ensures ∙ c.if-not-has_room.true in
+    no_room a.notice.now a.buffer.now (sym c.check-layout.ensures ∙ c.in-WellFormed.is) (sym c.has_real.ensures ∙ c.if-has_real.false) (leb-false _ _ f)
 
 pub put_text-len-requires : goal.put_text-len-requires
 put_text-len-requires c =
-    (sym c.check-layout.ensures ∙ c.enum_told-1.given.1, leb-true _ _ (sym c.has_room.ensures ∙ not-false _ c.if-not-has_room.false))
+    (sym c.check-layout.ensures ∙ c.in-WellFormed.is, leb-true _ _ (sym c.has_room.ensures ∙ c.if-not-has_room.false))
 
 pub returns-in-Fault : goal.returns-in-Fault
 returns-in-Fault c =
-    let a = c.args in faulted a.notice.now a.buffer.now c.layout-1.given.0.0 (sym c.check-layout.ensures ∙ c.layout-1.given.1)
+    let a = c.args in faulted a.notice.now a.buffer.now c.in-Fault.place (sym c.check-layout.ensures ∙ c.in-Fault.is)
 
 pub returns-else-not-has_room : goal.returns-else-not-has_room
 returns-else-not-has_room c =
     let a = c.args in
-    let f = sym c.has_room.ensures ∙ not-false _ c.if-not-has_room.false in
-    let r = written a.notice.now a.buffer.now (sym c.check-layout.ensures ∙ c.enum_told-1.given.1) (sym c.has_real.ensures ∙ c.if-has_real.false) (leb-true _ _ f) in
+    let f = sym c.has_room.ensures ∙ c.if-not-has_room.false in
+    let r = written a.notice.now a.buffer.now (sym c.check-layout.ensures ∙ c.in-WellFormed.is) (sym c.has_real.ensures ∙ c.if-has_real.false) (leb-true _ _ f) in
     let p = c.put_text-len.ensures in
     (ap (answer 0 0) p.1 ∙ r.0, p.0 ∙ r.1)
