@@ -1,21 +1,21 @@
 -- What the grammar derives the parser accepts, with the same tree. Assumes nothing.
-use Prim.Native.Nat.{ℕ, zero, suc, ◌+◌, ◌-◌, ◌*◌, ◌<◌, ◌≤◌}
+use Prim.Native.Nat.{ℕ, suc, ◌+◌, ◌<◌, ◌≤◌}
 use native.Mathlib.Omega.{arith}
 use native.Mathlib.Numerals.{add-one}
-use mathlib.Core.Path.{◌≡◌, refl, sym, ap, ◌∙◌, subst}
+use mathlib.Core.Path.{◌≡◌, refl, sym, ap, ◌∙◌}
 use mathlib.Core.Bool.{true, false}
 use mathlib.Core.List.{List, [], ◌∷◌, ◌++◌, append_assoc}
-use lib.ListN.{length, get_or, get_or-eq_default, length-append}
+use lib.ListN.{length, get_or-eq_default, length-append}
 use lib.Seq.{get_or-append_seam}
-use lib.Dec.{eqb, leb}
-use borrow.Author.Tests.{eq-eqb, ne_eqb, leb-true, eqb-true, le-leb}
+use lib.Dec.{leb}
+use borrow.Author.Tests.{eq-eqb, ne_eqb, leb-true}
 use Rattle.common.proofs.Choice.{false_true}
 use Rattle.octets.proofs.Theorems.{and_parts}
 use Rattle.lexer.specs.Kind.{naming, opening, closing, comma}
 use Rattle.lexer.specs.Token.{Token, kind_of}
-use Rattle.grammar.specs.Tree.{Tree, leaf, group, unary, binary, call, Trees, none, ◌then◌}
+use Rattle.grammar.specs.Tree.{Tree, call, Trees, none}
 use Rattle.grammar.specs.Grammar.{rank, is_prefix, is_literal, Level, operator, tighter, tightest, Prefix, applied, plain, Operand, a_literal, a_name, a_group, a_call_none, a_call, Arguments, first, next}
-use Rattle.grammar.specs.Parse.{Result, ok, bad, and_then, ended, token_at, kind_at, is, level_of, more_of, prefix_of, operand_of, arguments_of, parse_all}
+use Rattle.grammar.specs.Parse.{ok, ended, token_at, kind_at, level_of, more_of, prefix_of, operand_of, arguments_of, parse_all}
 use Rattle.grammar.proofs.Laws.{level_prefix, level_then, more_then, more_stop, prefix_applied, prefix_plain, operand_literal, operand_name, operand_call_none, operand_call, operand_group, args_comma, args_close}
 
 literal_kind : (k : ℕ) → is_literal k ≡ true → (1 ≤ k) × (k ≤ 4)

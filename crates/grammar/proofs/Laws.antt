@@ -1,18 +1,16 @@
 -- The steps of the parser, as equations with no test in them. Assumes nothing.
-use Prim.Native.Nat.{ℕ, zero, suc, ◌+◌, ◌-◌, ◌*◌, ◌<◌, ◌≤◌}
+use Prim.Native.Nat.{ℕ, ◌+◌, ◌<◌, ◌≤◌}
 use native.Mathlib.Omega.{arith}
-use mathlib.Core.Path.{◌≡◌, refl, sym, ap, ◌∙◌, subst}
+use mathlib.Core.Path.{◌≡◌, ◌∙◌}
 use mathlib.Core.Bool.{Bool, true, false, cond}
-use mathlib.Core.List.{List, [], ◌∷◌}
-use lib.ListN.{length, get_or}
-use lib.Dec.{eqb}
+use mathlib.Core.List.{List}
 use borrow.Author.Tests.{eq-eqb, ne_eqb}
 use Rattle.common.specs.Choice.{pick}
 use Rattle.lexer.specs.Kind.{naming, opening, closing, comma}
 use Rattle.lexer.specs.Token.{Token}
 use Rattle.grammar.specs.Tree.{Tree, leaf, group, unary, binary, call, Trees, none, ◌then◌}
 use Rattle.grammar.specs.Grammar.{rank, is_prefix, is_literal}
-use Rattle.grammar.specs.Parse.{Result, ok, bad, and_then, token_at, kind_at, is, level_of, more_of, prefix_of, operand_of, arguments_of}
+use Rattle.grammar.specs.Parse.{ok, bad, and_then, token_at, kind_at, is, level_of, more_of, prefix_of, operand_of, arguments_of}
 use Rattle.grammar.proofs.Fuel.{level_is, more_is, prefix_is, operand_is, arguments_is}
 
 module _ (ks : List Token) (i : ℕ) where

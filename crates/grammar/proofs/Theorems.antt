@@ -1,15 +1,12 @@
 -- The theorems that specs/Theorems.antt states. Assumes nothing.
-use Prim.Native.Nat.{ℕ, suc, ◌+◌, ◌<◌, ◌≤◌}
+use Prim.Native.Nat.{ℕ, ◌<◌, ◌≤◌}
 use native.Mathlib.Omega.{arith}
 use native.Mathlib.Decide.{dec_lt}
 use mathlib.Core.Path.{◌≡◌, refl, sym, ap, ◌∙◌}
-use mathlib.Core.Logic.{◌↔◌}
 use mathlib.Core.List.{List, ◌++◌, append_assoc}
 use lib.ListN.{length, take, length-append, get_or-append}
 use lib.Seq.{slice, take-length, length-take-le, get_or-take}
 use Rattle.lexer.specs.Token.{Token}
-use Rattle.grammar.specs.Tree.{Tree}
-use Rattle.grammar.specs.Grammar.{Level}
 use Rattle.grammar.specs.Parse.{Result, ok, bad, ended, token_at, parse_all}
 use Rattle.grammar.specs.Place.{Completes, Breaks}
 use Rattle.grammar.specs.Theorems.{Parses, Unique, NamesPlace, JustEnds}

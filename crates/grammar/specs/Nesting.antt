@@ -1,5 +1,5 @@
 -- Refusal 6: "over 24 parentheses open at once (a `)` with none open is passed over), or over 24 of `!` `~` in a row".
-use Rattle.std.specs.Prelude.{ℕ, zero, suc, ◌+◌, ◌-◌, Bool, true, false, not, cond, ◌||◌, List, [], ◌∷◌, eqb, ltb}
+use Rattle.std.specs.Prelude.{ℕ, ◌+◌, ◌-◌, Bool, false, not, cond, ◌||◌, List, [], ◌∷◌, eqb, ltb}
 use Rattle.lexer.specs.Kind.{opening, closing}
 use Rattle.grammar.specs.Grammar.{is_prefix}
 

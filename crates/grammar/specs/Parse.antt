@@ -1,5 +1,5 @@
 -- The computing parser: the tree that stands at a token. That it accepts exactly what the grammar derives is `Parses` of specs/Theorems.antt.
-use Rattle.std.specs.Prelude.{ℕ, zero, suc, ◌+◌, ◌-◌, ◌*◌, ◌<◌, ◌≤◌, Bool, List, [], ◌∷◌, length, get_or, eqb}
+use Rattle.std.specs.Prelude.{ℕ, zero, suc, ◌+◌, ◌*◌, Bool, List, length, get_or, eqb}
 use Rattle.common.specs.Choice.{pick}
 use Rattle.lexer.specs.Kind.{naming, opening, closing, comma, ending}
 use Rattle.lexer.specs.Token.{Token, symbol, kind_of}

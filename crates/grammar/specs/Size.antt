@@ -1,5 +1,5 @@
 -- What the postfix code of a tree takes: entries, bytes of the pool, and slots of the stack. Refusals 7, 8 and 9 ask these. Document 01, "Table": "Translation is postfix. ..".
-use Rattle.std.specs.Prelude.{ℕ, ◌+◌, max, Bool, true, false, cond, ◌||◌, eqb, length}
+use Rattle.std.specs.Prelude.{ℕ, ◌+◌, max, Bool, cond, ◌||◌, eqb, length}
 use Rattle.opcode.specs.Number.{and_op, or_op}
 use Rattle.lexer.specs.Token.{Token, name, int32, int64, real, text, symbol}
 use Rattle.grammar.specs.Tree.{Tree, leaf, group, unary, binary, call, Trees, none, ◌then◌}

@@ -1,14 +1,7 @@
-use mathlib.Core.Path.{◌≡◌, refl, sym, ◌∙◌}
-use mathlib.Core.Bool.{true, false}
+use mathlib.Core.Path.{◌≡◌}
 use Prim.Native.Nat.{◌≤◌, ◌-◌}
-use native.Mathlib.Omega.{arith}
 use lib.ListN.{length, drop}
 use Rattle.grammar.specs.Nesting.{too_deep, deep_from}
-use Rattle.grammar.proofs.Streams.{deep_opened, deep_row, deep_on, deep_flat, deep_end}
-use borrow.Author.Rules.{rules}
-use Rattle.grammar.proofs.stream.is_flat.Reads as is-flat-reads
-use Rattle.grammar.proofs.stream.open_after.Reads as open-after-reads
-use Rattle.grammar.proofs.stream.row_after.Reads as row-after-reads
 use Rattle.grammar.proofs.too_deep.Given as goal
 
 abbrev pub invariant-loop-i : goal.invariant-loop-i

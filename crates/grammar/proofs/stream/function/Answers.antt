@@ -1,9 +1,4 @@
-use mathlib.Core.Path.{◌≡◌, sym, ◌∙◌}
 use borrow.Author.Tests.{eq-eqb, ne_eqb}
-use borrow.Author.Rules.{rules}
-use Rattle.grammar.proofs.stream.change.Reads as change-reads
-use Rattle.grammar.proofs.stream.matching.Reads as matching-reads
-use Rattle.grammar.proofs.stream.test.Reads as test-reads
 use Rattle.grammar.proofs.stream.function.Goals as goal
 
 pub returns-then-a-ne0 : goal.returns-then-a-ne0

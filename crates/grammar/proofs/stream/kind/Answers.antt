@@ -1,7 +1,6 @@
 use mathlib.Core.Path.{sym}
 use lib.ListN.{get_or-eq_default}
 use Rattle.grammar.proofs.Streams.{within}
-use borrow.Author.Rules.{rules}
 use Rattle.grammar.proofs.stream.kind.Goals as goal
 
 pub returns-then-at-kinds : goal.returns-then-at-kinds

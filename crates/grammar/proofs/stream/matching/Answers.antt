@@ -1,6 +1,4 @@
 use mathlib.Core.Path.{sym, ◌∙◌}
-use borrow.Author.Rules.{rules}
-use Rattle.lexer.proofs.name_is.Reads as name-is-reads
 use Rattle.grammar.proofs.stream.matching.Goals as goal
 
 pub returns-then-name_is : goal.returns-then-name_is

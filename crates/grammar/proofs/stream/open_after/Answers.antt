@@ -1,8 +1,5 @@
 use borrow.Author.Tests.{eq-eqb, ne_eqb}
 use native.Mathlib.Omega.{arith}
-use mathlib.Core.Path.{◌≡◌}
-use Prim.Native.Nat.{◌-◌}
-use borrow.Author.Rules.{rules}
 use Rattle.grammar.proofs.stream.open_after.Goals as goal
 
 pub returns-then-k-eq-OPEN : goal.returns-then-k-eq-OPEN

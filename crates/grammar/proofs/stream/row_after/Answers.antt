@@ -1,6 +1,4 @@
 use mathlib.Core.Path.{sym, ◌∙◌}
-use borrow.Author.Rules.{rules}
-use Rattle.grammar.proofs.stream.is_prefix.Reads as is-prefix-reads
 use Rattle.grammar.proofs.stream.row_after.Goals as goal
 
 pub returns-then-is_prefix : goal.returns-then-is_prefix

@@ -1,7 +1,5 @@
 use mathlib.Core.Path.{sym}
 use lib.ListN.{get_or-eq_default}
-use borrow.Author.Rules.{rules}
-use Rattle.grammar.proofs.stream.wide.Reads as wide-reads
 use Rattle.grammar.proofs.stream.start.Goals as goal
 
 pub returns-else-at-starts : goal.returns-else-at-starts
