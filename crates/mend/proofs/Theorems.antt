@@ -2,7 +2,7 @@
 use mathlib.Core.Path.{◌≡◌, refl, sym, ap, ap₂, subst, ◌∙◌}
 use mathlib.Core.Bool.{Bool, true, false, cond, ◌&&◌}
 use mathlib.Core.List.{List, [], ◌∷◌, Permᴰ}
-use Prim.Native.Nat.{ℕ, suc, ◌+◌, ◌-◌, ◌*◌, ◌≤◌, ◌<◌}
+use Prim.Native.Nat.{ℕ, suc, ◌+◌, ◌*◌, ◌≤◌, ◌<◌}
 use native.Mathlib.Omega.{arith}
 use lib.Dec.{eqb, leb}
 use lib.ListN.{length, take, drop, length-map}
@@ -11,7 +11,6 @@ use borrow.Author.Tests.{le-leb, leb-true, eqb-true, ne_eqb, lt-ltb}
 use Rattle.common.specs.Each.{Each}
 use Rattle.common.proofs.Each.{each_map}
 use Rattle.word.specs.Word.{word_at, word_bytes}
-use Rattle.notice.specs.declared.Layout.TheVariants as layouts
 use Rattle.notice.specs.Field.{Field}
 use Rattle.notice.specs.Render.{field_bytes, fields_bytes, header_bytes, render, NoticeFields}
 use Rattle.notice.specs.Layout.{unless, size_at, field_at, count_of, check_of, starts_from, starts_of, fields_of}

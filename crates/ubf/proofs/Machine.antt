@@ -13,7 +13,7 @@ use Rattle.common.proofs.Choice.{true_false}
 use Rattle.octets.proofs.Theorems.{and_parts, or_parts}
 use Rattle.ubf.specs.Byte.{is, is_space, is_digit, digit_of, is_quote}
 use Rattle.ubf.specs.Escape.{needs_escape, escape_of, escapes}
-use Rattle.ubf.specs.Item.{Item, integer, quoted, binary, mark, between, within, escaped, minus, digits, counted, ended, broken, State, state, closed, counting, shut, dollar, fresh, step, run}
+use Rattle.ubf.specs.Item.{Item, integer, binary, mark, between, within, escaped, minus, digits, counted, ended, broken, State, state, closed, counting, shut, dollar, fresh, step, run}
 use Rattle.ubf.specs.Fields.{no_text, said_in}
 use Rattle.ubf.specs.Scan.{onward, part, is_blank, is_delimiter, is_mark}
 

@@ -1,7 +1,6 @@
 -- From items to fields. Document 02, request 5: "one tuple of name and value by turns, the name a string"; "Untagged integers are int32, integers tagged `int64` are int64,
 -- strings are strings, counted binaries are opaque."
-use Rattle.std.specs.Prelude.{ℕ, ◌+◌, ◌*◌, ◌-◌, ◌^◌, Bool, true, false, cond, List, [], ◌∷◌, ◌++◌, eqb, leb, ltb}
-use Rattle.std.proofs.Math.Option.{none}
+use Rattle.std.specs.Prelude.{ℕ, ◌*◌, ◌-◌, ◌^◌, Bool, true, false, cond, List, [], ◌∷◌, ◌++◌, eqb, leb, ltb}
 use Rattle.word.specs.Word.{word_bytes}
 use Rattle.octets.specs.Octets.{same_of}
 use Rattle.notice.specs.Field.{Field}

@@ -3,7 +3,7 @@ use Rattle.std.specs.Prelude.{ℕ, suc, ◌+◌, ◌*◌, ◌-◌, ◌≤◌, �
 use Rattle.ubf.specs.Byte.{is, is_space, is_digit, digit_of}
 use Rattle.ubf.specs.Escape.{escapes}
 use Rattle.ubf.specs.Item.{Item, integer, quoted, binary, mark, between, within, digits, counted, State, state, run, closed}
-use Rattle.ubf.specs.Fields.{Said, no_text, says, said_in, in_syntax}
+use Rattle.ubf.specs.Fields.{Said, no_text, said_in, in_syntax}
 use Rattle.ubf.specs.declared.syntax.Progress.{Progress}
 
 -- what a text says, where the machine stands in a state before its byte `at`

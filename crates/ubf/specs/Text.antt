@@ -1,5 +1,5 @@
 -- The one fixed form in which a notice is written: "no whitespace, no comments, plain decimal, escapes only where needed, names rising".
-use Rattle.std.specs.Prelude.{ℕ, ◌+◌, ◌-◌, ◌^◌, Bool, true, false, cond, List, [], ◌∷◌, ◌++◌, eqb, ltb, length}
+use Rattle.std.specs.Prelude.{ℕ, ◌-◌, ◌^◌, Bool, true, false, cond, List, [], ◌∷◌, ◌++◌, eqb, ltb, length}
 use Rattle.word.specs.Word.{word_at}
 use Rattle.decimal.specs.Decimal.{decimal_of}
 use Rattle.notice.specs.Field.{Field}

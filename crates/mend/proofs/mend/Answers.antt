@@ -1,6 +1,5 @@
 -- `mend` meets its contract: two refusals, and else what is answered with room for the notes. Assumes nothing.
 use Rattle.mend.proofs.Answers.{too_short, too_long}
-use borrow.Author.Rules.{rules}
 use Rattle.mend.proofs.mend.Goals as goal
 
 pub returns-then-bytes-lt8 : goal.returns-then-bytes-lt8

@@ -2,7 +2,6 @@
 use native.Mathlib.Omega.{arith}
 use mathlib.Core.Path.{refl}
 use Rattle.mend.proofs.Answers.{too_many, count_fits, no_room, can-list, can_write, mended}
-use borrow.Author.Rules.{rules}
 use Rattle.mend.proofs.mend_in.Goals as goal
 
 pub survey-t-requires : goal.survey-t-requires

@@ -3,7 +3,6 @@ use native.Mathlib.Omega.{arith}
 use mathlib.Core.Path.{refl}
 use Rattle.word.specs.Word.{Bytes}
 use Rattle.mend.proofs.Copies.{first_word, word_copied}
-use borrow.Author.Rules.{rules}
 use Rattle.mend.proofs.copying.copy_block.Goals as goal
 
 pub returns : goal.returns

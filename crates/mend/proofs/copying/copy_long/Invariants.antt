@@ -1,10 +1,8 @@
 -- `copy_long` meets its contract: the bytes before i are copied. Assumes nothing.
-use mathlib.Core.Path.{◌≡◌, refl, ◌∙◌}
+use mathlib.Core.Path.{◌≡◌}
 use Prim.Native.Nat.{◌+◌, ◌-◌, ◌≤◌}
-use native.Mathlib.Omega.{arith}
 use lib.ListN.{length, take}
 use lib.Seq.{sets}
-use Rattle.mend.proofs.Copies.{more_copied, last_copied}
 use Rattle.mend.proofs.copying.copy_long.Given as goal
 
 abbrev pub invariant-loop-i : goal.invariant-loop-i

@@ -1,7 +1,6 @@
 -- `compared` meets its contract: the two names as they are. Assumes nothing.
 use mathlib.Core.Path.{ap₂, ◌∙◌}
 use Rattle.octets.specs.Octets.{before_of}
-use borrow.Author.Rules.{rules}
 use Rattle.mend.proofs.fields.compared.Goals as goal
 
 pub returns : goal.returns

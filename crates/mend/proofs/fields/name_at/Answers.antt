@@ -5,7 +5,6 @@ use native.Mathlib.Omega.{arith}
 use lib.ListN.{take, drop}
 use Rattle.notice.specs.Layout.{name_size_at}
 use Rattle.notice.proofs.Places.{right_lies}
-use borrow.Author.Rules.{rules}
 use Rattle.mend.proofs.fields.name_at.Goals as goal
 
 pub overflow_add-name : goal.overflow_add-name

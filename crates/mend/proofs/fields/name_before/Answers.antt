@@ -4,7 +4,6 @@ use Prim.Native.Nat.{◌+◌, ◌<◌}
 use lib.ListN.{length}
 use Rattle.notice.proofs.Places.{right_lies, right_name}
 use Rattle.mend.proofs.Orders.{by_first}
-use borrow.Author.Rules.{rules}
 use Rattle.mend.proofs.fields.name_before.Lts as lts
 use Rattle.mend.proofs.fields.name_before.Tie as tie
 use Rattle.mend.proofs.fields.name_before.Reads as reads

@@ -1,7 +1,6 @@
 -- `right` meets its contract: a right field has a length word, a kind, a name's length and a name. Assumes nothing.
 use native.Mathlib.Omega.{arith}
 use Rattle.mend.proofs.Walks.{too_short}
-use borrow.Author.Rules.{rules}
 use Rattle.mend.proofs.fields.right.Goals as goal
 
 pub returns-then-end-at-lt6 : goal.returns-then-end-at-lt6

@@ -2,7 +2,6 @@
 use mathlib.Core.Path.{ap₂, ◌∙◌}
 use Rattle.octets.specs.Octets.{same_of}
 use Rattle.octets.proofs.Theorems.{not_folded}
-use borrow.Author.Rules.{rules}
 use Rattle.mend.proofs.fields.same_name.Goals as goal
 
 pub returns : goal.returns

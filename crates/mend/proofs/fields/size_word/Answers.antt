@@ -1,7 +1,6 @@
 -- `size_word` meets its contract: past the end there is a 0. Assumes nothing.
 use native.Mathlib.Omega.{arith}
 use Rattle.mend.proofs.Walks.{single_byte}
-use borrow.Author.Rules.{rules}
 use Rattle.mend.proofs.fields.size_word.Goals as goal
 
 pub overflow_cast-result : goal.overflow_cast-result

@@ -2,7 +2,6 @@
 use mathlib.Core.Path.{sym, ◌∙◌}
 use Rattle.notice.specs.Layout.{name_at}
 use Rattle.mend.proofs.Orders.{is_repeated, is_moved, is_kept}
-use borrow.Author.Rules.{rules}
 use Rattle.mend.proofs.ordering.among.Goals as goal
 
 pub returns-then-repeated : goal.returns-then-repeated

@@ -5,7 +5,6 @@ use native.Mathlib.Omega.{arith}
 use Rattle.notice.specs.Layout.{name_at}
 use Rattle.notice.proofs.Places.{right_lies}
 use Rattle.mend.proofs.Orders.{right_at_lem, none_before, by_last}
-use borrow.Author.Rules.{rules}
 use Rattle.mend.proofs.ordering.comes_last.Goals as goal
 
 pub returns-then-n-eq0 : goal.returns-then-n-eq0

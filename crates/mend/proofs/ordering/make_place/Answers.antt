@@ -1,12 +1,10 @@
 -- `make_place` meets its contract: the places from i on have moved. Assumes nothing.
 use mathlib.Core.Path.{◌≡◌, refl, ap, ◌∙◌}
 use mathlib.Core.List.{List}
-use Prim.Native.Nat.{ℕ, ◌+◌, ◌-◌, ◌≤◌}
+use Prim.Native.Nat.{ℕ, ◌+◌, ◌-◌}
 use native.Mathlib.Omega.{arith}
-use lib.ListN.{length, get_or, set, take, drop, length-set}
-use lib.Seq.{sets}
+use lib.ListN.{get_or, set, length-set}
 use Rattle.common.proofs.Stores.{moved_one}
-use borrow.Author.Rules.{rules}
 use Rattle.mend.proofs.ordering.make_place.Goals as goal
 
 pub loop-i-init : goal.loop-i-init

@@ -1,12 +1,8 @@
 -- `make_place` meets its contract: the places from i on have moved. Assumes nothing.
-use mathlib.Core.Path.{◌≡◌, refl, ap, ◌∙◌}
-use mathlib.Core.List.{List}
-use Prim.Native.Nat.{ℕ, ◌+◌, ◌-◌, ◌≤◌}
-use native.Mathlib.Omega.{arith}
-use lib.ListN.{length, get_or, set, take, drop, length-set}
+use mathlib.Core.Path.{◌≡◌}
+use Prim.Native.Nat.{◌+◌, ◌-◌, ◌≤◌}
+use lib.ListN.{length, take, drop}
 use lib.Seq.{sets}
-use Rattle.common.proofs.Stores.{moved_one}
-use borrow.Author.Rules.{rules}
 use Rattle.mend.proofs.ordering.make_place.Given as goal
 
 abbrev pub invariant-loop-i : goal.invariant-loop-i

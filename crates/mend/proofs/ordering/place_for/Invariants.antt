@@ -1,14 +1,8 @@
 -- `place_for` meets its contract: the place lies between `low` and `high`. Assumes nothing.
-use mathlib.Core.Path.{◌≡◌, sym, ◌∙◌}
-use mathlib.Core.Bool.{true}
-use Prim.Native.Nat.{◌+◌, ◌-◌, ◌/◌, ◌≤◌}
-use native.Mathlib.Omega.{arith}
-use lib.ListN.{get_or}
-use Rattle.notice.specs.Layout.{name_at, right_at}
+use Prim.Native.Nat.{◌-◌, ◌≤◌}
+use Rattle.notice.specs.Layout.{name_at}
 use Rattle.notice.specs.Write.{place_among}
-use Rattle.notice.proofs.Places.{right_lies}
 use Rattle.mend.specs.Order.{fields_in}
-use Rattle.mend.proofs.Orders.{right_at_lem, place_within, not_after, after}
 use Rattle.mend.proofs.ordering.place_for.Given as goal
 
 abbrev pub invariant-loop-low : goal.invariant-loop-low

@@ -6,7 +6,6 @@ use native.Mathlib.Omega.{arith}
 use lib.ListN.{length, set, take, drop, length-set}
 use lib.Seq.{length-sets}
 use Rattle.mend.proofs.Orders.{places_more}
-use borrow.Author.Rules.{rules}
 use Rattle.mend.proofs.ordering.put_in.Goals as goal
 
 pub returns : goal.returns

@@ -1,13 +1,10 @@
 -- `repeated` meets its contract: where names rise, only the one before the place may be the same. Assumes nothing.
-use mathlib.Core.Path.{◌≡◌, sym, ◌∙◌}
-use mathlib.Core.Bool.{true}
-use Prim.Native.Nat.{◌-◌, ◌≤◌}
+use mathlib.Core.Path.{sym, ◌∙◌}
+use Prim.Native.Nat.{◌-◌}
 use native.Mathlib.Omega.{arith}
-use lib.ListN.{get_or}
-use Rattle.notice.specs.Layout.{name_at, right_at}
+use Rattle.notice.specs.Layout.{name_at}
 use Rattle.notice.proofs.Places.{right_lies}
 use Rattle.mend.proofs.Orders.{right_at_lem, place_within, first_new, by_before}
-use borrow.Author.Rules.{rules}
 use Rattle.mend.proofs.ordering.repeated.Goals as goal
 
 pub returns-then-place-eq0 : goal.returns-then-place-eq0

@@ -12,7 +12,6 @@ use Rattle.mend.specs.Mend.{onto}
 use Rattle.mend.specs.Order.{fields_in}
 use Rattle.mend.proofs.Orders.{order_length}
 use Rattle.mend.proofs.Stores.{header_stored}
-use borrow.Author.Rules.{rules}
 use Rattle.mend.proofs.placing.put_notice.Goals as goal
 
 pub overflow_sub-size : goal.overflow_sub-size

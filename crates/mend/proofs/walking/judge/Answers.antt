@@ -1,15 +1,13 @@
 -- `judge` meets its contract: cut, bad, kept, or what it is among those kept. Assumes nothing.
 use mathlib.Core.Path.{◌≡◌, sym, ◌∙◌}
-use mathlib.Core.Bool.{true}
 use native.Mathlib.Omega.{arith}
 use borrow.Author.Tests.{eqb-true}
 use Rattle.common.proofs.Choice.{false_true}
-use Rattle.notice.specs.Layout.{name_at, right_at}
+use Rattle.notice.specs.Layout.{name_at}
 use Rattle.mend.specs.Mend.{code_among}
 use Rattle.mend.specs.Order.{fields_in}
 use Rattle.mend.proofs.Orders.{kept_place}
 use Rattle.mend.proofs.Walks.{is_cut, is_bad, is_among}
-use borrow.Author.Rules.{rules}
 use Rattle.mend.proofs.walking.judge.Goals as goal
 
 pub returns-then-bytes-end : goal.returns-then-bytes-end

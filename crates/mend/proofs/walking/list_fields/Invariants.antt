@@ -1,8 +1,7 @@
 -- `list_fields` meets its contract: what is left to list makes the same of the buffer. Assumes nothing.
 use Prim.Native.Nat.{◌-◌}
-use native.Mathlib.Omega.{arith}
 use lib.ListN.{length}
-use Rattle.mend.proofs.Turns.{Listing, list_starts, entry_room, code_there, lists_on, listed}
+use Rattle.mend.proofs.Turns.{Listing}
 use Rattle.mend.proofs.walking.list_fields.Given as goal
 
 abbrev pub invariant-loop-at : goal.invariant-loop-at

@@ -1,6 +1,5 @@
 -- `put_entry` meets its contract: offset and code stand one after the other. Assumes nothing.
 use Rattle.mend.proofs.Stores.{entry_stored}
-use borrow.Author.Rules.{rules}
 use Rattle.mend.proofs.walking.put_entry.Goals as goal
 
 pub returns : goal.returns

@@ -1,11 +1,11 @@
 -- `survey` meets its contract: the fields kept so far, by their places, their bytes, and what each field is. Assumes nothing.
 use mathlib.Core.Path.{sym, ◌∙◌}
-use Prim.Native.Nat.{◌-◌, ◌<◌}
+use Prim.Native.Nat.{◌-◌}
 use native.Mathlib.Omega.{arith}
 use lib.ListN.{length}
 use Rattle.mend.specs.Mend.{stays}
 use Rattle.mend.proofs.Walks.{less}
-use Rattle.mend.proofs.Turns.{Counted, count_starts, both, not_both, note_room, counts_on, survey_ends}
+use Rattle.mend.proofs.Turns.{count_starts, both, not_both, note_room, counts_on, survey_ends}
 use Rattle.mend.proofs.walking.survey.Goals as goal
 
 pub loop-end-init : goal.loop-end-init

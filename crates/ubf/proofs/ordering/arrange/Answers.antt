@@ -3,10 +3,10 @@ use mathlib.Core.Path.{◌≡◌, sym, ap, subst, ◌∙◌}
 use mathlib.Core.List.{List}
 use Prim.Native.Nat.{ℕ, ◌+◌, ◌-◌, ◌≤◌}
 use native.Mathlib.Omega.{arith}
-use lib.ListN.{length, drop, set, length-set}
+use lib.ListN.{drop, set, length-set}
 use Rattle.notice.specs.Write.{has_name}
 use Rattle.notice.specs.Write.{place_among}
-use Rattle.ubf.specs.Span.{name_in, SpanIn, row_in, row_fields, Rising}
+use Rattle.ubf.specs.Span.{name_in, SpanIn, row_in, row_fields}
 use Rattle.ubf.specs.declared.spans.Span.{Span}
 use Rattle.ubf.proofs.Arranged.{place_within, Sofar, row_lies, rising_rows, repeated_here, sofar_start, sofar_more, arranged, not_arranged}
 use Rattle.ubf.proofs.ordering.arrange.Goals as goal

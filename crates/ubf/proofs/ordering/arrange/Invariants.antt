@@ -1,14 +1,8 @@
 -- `arrange` meets its contract: the rows from `left` on are in order, and none of their names is repeated. Assumes nothing.
-use mathlib.Core.Path.{◌≡◌, sym, ap, subst, ◌∙◌}
-use mathlib.Core.List.{List}
-use Prim.Native.Nat.{ℕ, ◌+◌, ◌-◌, ◌≤◌}
-use native.Mathlib.Omega.{arith}
-use lib.ListN.{length, drop, set, length-set}
-use Rattle.notice.specs.Write.{has_name}
-use Rattle.notice.specs.Write.{place_among}
-use Rattle.ubf.specs.Span.{name_in, SpanIn, row_in, row_fields, Rising}
-use Rattle.ubf.specs.declared.spans.Span.{Span}
-use Rattle.ubf.proofs.Arranged.{place_within, Sofar, row_lies, rising_rows, repeated_here, sofar_start, sofar_more, arranged, not_arranged}
+use mathlib.Core.Path.{◌≡◌}
+use Prim.Native.Nat.{◌≤◌}
+use lib.ListN.{length}
+use Rattle.ubf.proofs.Arranged.{Sofar}
 use Rattle.ubf.proofs.ordering.arrange.Given as goal
 
 abbrev pub invariant-loop-left : goal.invariant-loop-left

@@ -1,5 +1,5 @@
 -- `escaped_before` meets its contract: what is left of both names compares as the names do. Assumes nothing.
-use mathlib.Core.Path.{◌≡◌, refl, sym, ap, ap₂, ◌∙◌}
+use mathlib.Core.Path.{refl, sym, ap, ap₂, ◌∙◌}
 use Prim.Native.Nat.{◌+◌, ◌-◌, ◌<◌}
 use native.Mathlib.Omega.{arith}
 use borrow.Author.Tests.{ltb-true}
@@ -8,7 +8,6 @@ use lib.ListN.{get_or}
 use Rattle.octets.specs.Octets.{before_of}
 use Rattle.octets.proofs.Theorems.{and_parts}
 use Rattle.ubf.specs.Escape.{bytes_in, byte_place}
-use Rattle.ubf.specs.Span.{name_in, PartIn}
 use Rattle.ubf.proofs.Names.{nonzero, ByteOf, byte_of, part_starts, first_differ, first_same, one_ended, ended}
 use Rattle.ubf.proofs.ordering.escaped_before.Lts as lts
 use Rattle.ubf.proofs.ordering.escaped_before.Tie as tie

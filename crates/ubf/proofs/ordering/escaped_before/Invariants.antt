@@ -1,15 +1,9 @@
 -- `escaped_before` meets its contract: what is left of both names compares as the names do. Assumes nothing.
-use mathlib.Core.Path.{◌≡◌, refl, sym, ap, ap₂, ◌∙◌}
-use Prim.Native.Nat.{◌+◌, ◌-◌, ◌<◌}
-use native.Mathlib.Omega.{arith}
-use borrow.Author.Tests.{ltb-true}
+use mathlib.Core.Path.{◌≡◌}
 use lib.Dec.{ltb}
-use lib.ListN.{get_or}
 use Rattle.octets.specs.Octets.{before_of}
-use Rattle.octets.proofs.Theorems.{and_parts}
-use Rattle.ubf.specs.Escape.{bytes_in, byte_place}
+use Rattle.ubf.specs.Escape.{bytes_in}
 use Rattle.ubf.specs.Span.{name_in, PartIn}
-use Rattle.ubf.proofs.Names.{nonzero, ByteOf, byte_of, part_starts, first_differ, first_same, one_ended, ended}
 use Rattle.ubf.proofs.ordering.escaped_before.Given as goal
 
 abbrev pub invariant-loop-left : goal.invariant-loop-left

@@ -3,7 +3,6 @@ use mathlib.Core.Path.{ap₂, ◌∙◌}
 use native.Mathlib.Omega.{arith}
 use Rattle.octets.specs.Octets.{before_of}
 use Rattle.ubf.proofs.Names.{Plain, plain_names}
-use borrow.Author.Rules.{rules}
 use Rattle.ubf.proofs.ordering.name_before.Lts as lts
 use Rattle.ubf.proofs.ordering.name_before.Tie as tie
 use Rattle.ubf.proofs.ordering.name_before.Reads as reads

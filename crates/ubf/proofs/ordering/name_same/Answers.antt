@@ -5,7 +5,6 @@ use Rattle.octets.specs.Octets.{same_of}
 use Rattle.ubf.proofs.Names.{same_neither, Plain, plain_names}
 use mathlib.Core.Bool.{Bool, not, ◌&&◌}
 use Rattle.ubf.specs.Span.{name_in}
-use borrow.Author.Rules.{rules}
 use Rattle.ubf.proofs.ordering.name_same.Lts as lts
 use Rattle.ubf.proofs.ordering.name_same.Tie as tie
 use Rattle.ubf.proofs.ordering.name_same.Reads as reads

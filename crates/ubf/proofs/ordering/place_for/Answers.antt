@@ -1,10 +1,8 @@
 -- `place_for` meets its contract: the place lies between `low` and `high`. Assumes nothing.
 use mathlib.Core.Path.{sym, subst, ◌∙◌}
-use Prim.Native.Nat.{◌+◌, ◌-◌, ◌/◌, ◌≤◌}
+use Prim.Native.Nat.{◌+◌, ◌-◌, ◌/◌}
 use native.Mathlib.Omega.{arith}
-use lib.ListN.{drop}
-use Rattle.notice.specs.Write.{place_among}
-use Rattle.ubf.specs.Span.{name_in, SpanIn, row_fields}
+use Rattle.ubf.specs.Span.{name_in, SpanIn}
 use Rattle.ubf.proofs.Arranged.{RowAt, row_at, not_after, after, place_within}
 use Rattle.ubf.proofs.ordering.place_for.Lts as lts
 use Rattle.ubf.proofs.ordering.place_for.Tie as tie

@@ -1,11 +1,8 @@
 -- `place_for` meets its contract: the place lies between `low` and `high`. Assumes nothing.
-use mathlib.Core.Path.{sym, subst, ◌∙◌}
-use Prim.Native.Nat.{◌+◌, ◌-◌, ◌/◌, ◌≤◌}
-use native.Mathlib.Omega.{arith}
+use Prim.Native.Nat.{◌+◌, ◌-◌, ◌≤◌}
 use lib.ListN.{drop}
 use Rattle.notice.specs.Write.{place_among}
-use Rattle.ubf.specs.Span.{name_in, SpanIn, row_fields}
-use Rattle.ubf.proofs.Arranged.{RowAt, row_at, not_after, after, place_within}
+use Rattle.ubf.specs.Span.{name_in, row_fields}
 use Rattle.ubf.proofs.ordering.place_for.Given as goal
 
 abbrev pub invariant-loop-low : goal.invariant-loop-low

@@ -4,7 +4,6 @@ use Prim.Native.Nat.{◌-◌, ◌≤◌, ◌<◌}
 use native.Mathlib.Omega.{arith}
 use Rattle.ubf.specs.Span.{name_in, SpanIn}
 use Rattle.ubf.proofs.Arranged.{RowAt, row_at, place_within, there, there_before}
-use borrow.Author.Rules.{rules}
 use Rattle.ubf.proofs.ordering.repeated_at.Lts as lts
 use Rattle.ubf.proofs.ordering.repeated_at.Tie as tie
 use Rattle.ubf.proofs.ordering.repeated_at.Reads as reads

@@ -8,7 +8,6 @@ use lib.Dec.{ltb}
 use lib.Seq.{sets}
 use Rattle.ubf.specs.Escape.{bytes_in}
 use Rattle.ubf.proofs.Placed.{Numeric, int32_value, int64_value, Textual, text_value}
-use borrow.Author.Rules.{rules}
 use Rattle.ubf.proofs.placing.put_data.Lts as lts
 use Rattle.ubf.proofs.placing.put_data.Tie as tie
 use Rattle.ubf.proofs.placing.put_data.Reads as reads

@@ -8,7 +8,6 @@ use Rattle.word.specs.Word.{word_bytes}
 use Rattle.notice.specs.Render.{fields_bytes}
 use Rattle.ubf.specs.Span.{ordered}
 use Rattle.ubf.proofs.Placed.{placing_whole, notice_stored}
-use borrow.Author.Rules.{rules}
 use Rattle.ubf.proofs.placing.put_notice.Goals as goal
 
 pub put_spans-requires : goal.put_spans-requires

@@ -8,7 +8,6 @@ use lib.Dec.{ltb}
 use lib.ListN.{length, take, drop}
 use lib.Seq.{sets}
 use Rattle.ubf.specs.Escape.{bytes_in}
-use borrow.Author.Rules.{rules}
 use Rattle.ubf.proofs.placing.put_part.Lts as lts
 use Rattle.ubf.proofs.placing.put_part.Tie as tie
 use Rattle.ubf.proofs.placing.put_part.Reads as reads

@@ -9,7 +9,6 @@ use lib.Seq.{sets}
 use Rattle.word.specs.Word.{word_bytes}
 use Rattle.ubf.specs.Span.{field_in}
 use Rattle.ubf.proofs.Placed.{kind_small, span_stored, span_put}
-use borrow.Author.Rules.{rules}
 use Rattle.ubf.proofs.placing.put_span.Goals as goal
 
 pub overflow_cast-s-2 : goal.overflow_cast-s-2

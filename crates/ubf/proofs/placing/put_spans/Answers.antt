@@ -1,13 +1,13 @@
 -- `put_spans` meets its contract: storing the fields from place k of the order on makes the same of the buffer. Assumes nothing.
 use mathlib.Core.Path.{◌≡◌, refl, sym, ap, subst, ◌∙◌}
-use Prim.Native.Nat.{◌+◌, ◌-◌, ◌≤◌}
+use Prim.Native.Nat.{◌+◌, ◌≤◌}
 use native.Mathlib.Omega.{arith}
-use lib.ListN.{length, get_or, drop}
+use lib.ListN.{length, get_or}
 use lib.Seq.{sets}
-use Rattle.notice.specs.Render.{field_bytes, fields_bytes}
-use Rattle.ubf.specs.Span.{field_in, SpanIn, row_in, row_fields, ordered, RowsShort}
+use Rattle.notice.specs.Render.{field_bytes}
+use Rattle.ubf.specs.Span.{field_in, SpanIn, row_in}
 use Rattle.ubf.specs.declared.spans.Span.{Span}
-use Rattle.ubf.proofs.Placed.{span_length, RowShort, row_short, rest_length, rest_stored, rest_none}
+use Rattle.ubf.proofs.Placed.{span_length, row_short, rest_length, rest_stored, rest_none}
 use Rattle.ubf.proofs.placing.put_spans.Goals as goal
 
 pub overflow_sub-k : goal.overflow_sub-k

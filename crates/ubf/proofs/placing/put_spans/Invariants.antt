@@ -1,13 +1,10 @@
 -- `put_spans` meets its contract: storing the fields from place k of the order on makes the same of the buffer. Assumes nothing.
-use mathlib.Core.Path.{◌≡◌, refl, sym, ap, subst, ◌∙◌}
+use mathlib.Core.Path.{◌≡◌}
 use Prim.Native.Nat.{◌+◌, ◌-◌, ◌≤◌}
-use native.Mathlib.Omega.{arith}
-use lib.ListN.{length, get_or, drop}
+use lib.ListN.{length, drop}
 use lib.Seq.{sets}
-use Rattle.notice.specs.Render.{field_bytes, fields_bytes}
-use Rattle.ubf.specs.Span.{field_in, SpanIn, row_in, row_fields, ordered, RowsShort}
-use Rattle.ubf.specs.declared.spans.Span.{Span}
-use Rattle.ubf.proofs.Placed.{span_length, RowShort, row_short, rest_length, rest_stored, rest_none}
+use Rattle.notice.specs.Render.{fields_bytes}
+use Rattle.ubf.specs.Span.{row_fields, ordered, RowsShort}
 use Rattle.ubf.proofs.placing.put_spans.Given as goal
 
 abbrev pub invariant-loop-k : goal.invariant-loop-k

@@ -1,17 +1,13 @@
 -- `put_unescaped` meets its contract: what is left to store after k bytes makes the same of the buffer. Assumes nothing.
 use mathlib.Core.Path.{◌≡◌, refl, sym, ap, ◌∙◌}
 use mathlib.Core.Bool.{true}
-use Prim.Native.Nat.{ℕ, ◌+◌, ◌-◌, ◌≤◌, ◌<◌}
+use Prim.Native.Nat.{ℕ, ◌+◌, ◌-◌, ◌<◌}
 use native.Mathlib.Omega.{arith}
-use lib.ListN.{length, drop, length-set, length-drop}
+use lib.ListN.{drop, length-set, length-drop}
 use lib.Seq.{sets, length-take-le}
 use Rattle.ubf.specs.Escape.{bytes_in}
-use Rattle.ubf.specs.Span.{PartIn}
-use Rattle.ubf.proofs.Names.{ByteOf, byte_of, part_starts}
-use Rattle.ubf.proofs.Placed.{RunStored, run_stored, part_room, unescaped_one, unescaped_rest}
-use Rattle.common.proofs.copy_to.Reads as copy-to-reads
-use Rattle.ubf.proofs.placing.run_end.Reads as run-end-reads
-use Rattle.ubf.proofs.scanning.byte_place.Reads as byte-place-reads
+use Rattle.ubf.proofs.Names.{byte_of, part_starts}
+use Rattle.ubf.proofs.Placed.{run_stored, part_room, unescaped_one, unescaped_rest}
 use Rattle.ubf.proofs.placing.put_unescaped.Goals as goal
 
 pub loop-k-init : goal.loop-k-init

@@ -1,6 +1,4 @@
 use native.Mathlib.Omega.{arith}
-use borrow.Author.Rules.{rules}
-use Rattle.ubf.proofs.words.plain_to.Reads as plain-to-reads
 use Rattle.ubf.proofs.placing.run_end.Goals as goal
 
 pub returns-then-at-n : goal.returns-then-at-n

@@ -1,11 +1,5 @@
-use mathlib.Core.Path.{◌≡◌}
-use Prim.Native.Nat.{◌+◌, ◌*◌, ◌-◌, ◌≤◌}
 use native.Mathlib.Omega.{arith}
-use lib.ListN.{length, drop}
-use Rattle.ubf.specs.Escape.{escapes}
 use Rattle.ubf.proofs.Laws.{rest_escapes, no_escapes}
-use borrow.Author.Rules.{rules}
-use Rattle.ubf.proofs.put.width.Reads as width-reads
 use Rattle.ubf.proofs.put.escaped_length.Goals as goal
 
 pub loop-i-init : goal.loop-i-init

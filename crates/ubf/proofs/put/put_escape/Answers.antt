@@ -4,8 +4,6 @@ use mathlib.Core.Bool.{true, false}
 use native.Mathlib.Omega.{arith}
 use Rattle.ubf.specs.Escape.{needs_escape}
 use Rattle.ubf.proofs.Laws.{wide, narrow, put_wide, put_narrow}
-use borrow.Author.Rules.{rules}
-use Rattle.ubf.proofs.words.needs_escape.Reads as needs-escape-reads
 use Rattle.ubf.proofs.put.put_escape.Goals as goal
 
 pub bounds-out-at : goal.bounds-out-at

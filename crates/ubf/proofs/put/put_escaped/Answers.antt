@@ -1,12 +1,6 @@
-use mathlib.Core.Path.{◌≡◌, refl, ◌∙◌}
-use Prim.Native.Nat.{◌+◌, ◌-◌, ◌≤◌}
+use mathlib.Core.Path.{refl, ◌∙◌}
 use native.Mathlib.Omega.{arith}
-use lib.ListN.{length, drop}
-use lib.Seq.{sets}
-use Rattle.ubf.specs.Escape.{escapes}
 use Rattle.ubf.proofs.Laws.{rest_escapes, no_escapes, escaped_one, escaped_end}
-use borrow.Author.Rules.{rules}
-use Rattle.ubf.proofs.put.put_escape.Reads as put-escape-reads
 use Rattle.ubf.proofs.put.put_escaped.Goals as goal
 
 pub loop-i-init : goal.loop-i-init

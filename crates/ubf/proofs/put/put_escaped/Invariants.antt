@@ -1,12 +1,8 @@
-use mathlib.Core.Path.{◌≡◌, refl, ◌∙◌}
+use mathlib.Core.Path.{◌≡◌}
 use Prim.Native.Nat.{◌+◌, ◌-◌, ◌≤◌}
-use native.Mathlib.Omega.{arith}
 use lib.ListN.{length, drop}
 use lib.Seq.{sets}
 use Rattle.ubf.specs.Escape.{escapes}
-use Rattle.ubf.proofs.Laws.{rest_escapes, no_escapes, escaped_one, escaped_end}
-use borrow.Author.Rules.{rules}
-use Rattle.ubf.proofs.put.put_escape.Reads as put-escape-reads
 use Rattle.ubf.proofs.put.put_escaped.Given as goal
 
 abbrev pub invariant-loop-i : goal.invariant-loop-i

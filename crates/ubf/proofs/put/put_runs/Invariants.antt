@@ -1,15 +1,9 @@
 -- `put_runs` meets its contract: the escapes of what is left of s make the same of the buffer. Assumes nothing.
-use mathlib.Core.Path.{◌≡◌, refl, ◌∙◌}
-use Prim.Native.Nat.{◌+◌, ◌-◌, ◌≤◌, ◌<◌}
-use native.Mathlib.Omega.{arith}
+use mathlib.Core.Path.{◌≡◌}
+use Prim.Native.Nat.{◌+◌, ◌-◌, ◌≤◌}
 use lib.ListN.{length, drop}
 use lib.Seq.{sets}
 use Rattle.ubf.specs.Escape.{escapes}
-use Rattle.ubf.proofs.Laws.{rest_escapes, no_escapes, escaped_one, escaped_end, length_run, rest_run, escaped_run}
-use borrow.Author.Rules.{rules}
-use Rattle.decimal.proofs.put_bytes.Reads as put-bytes-reads
-use Rattle.ubf.proofs.put.put_escape.Reads as put-escape-reads
-use Rattle.ubf.proofs.words.plain_to.Reads as plain-to-reads
 use Rattle.ubf.proofs.put.put_runs.Given as goal
 
 abbrev pub invariant-loop-i : goal.invariant-loop-i

@@ -4,10 +4,7 @@ use native.Mathlib.Omega.{arith}
 use mathlib.Core.List.{[], ◌∷◌}
 use Rattle.decimal.specs.Decimal.{decimal_of}
 use Rattle.decimal.proofs.Laws.{joined, renamed}
-use Rattle.decimal.proofs.put_byte.Reads as put-byte-reads
-use Rattle.decimal.proofs.put_decimal.Reads as put-decimal-reads
 use Rattle.ubf.proofs.Laws.{sign_true, sign_false}
-use borrow.Author.Rules.{rules}
 use Rattle.ubf.proofs.put.put_signed.Goals as goal
 
 pub put_byte-next-requires : goal.put_byte-next-requires

@@ -1,11 +1,8 @@
 use native.Mathlib.Omega.{arith}
 use mathlib.Core.List.{[], ◌∷◌, ◌++◌}
 use Rattle.decimal.proofs.Laws.{joined}
-use Rattle.decimal.proofs.put_byte.Reads as put-byte-reads
 use Rattle.ubf.specs.Escape.{escapes}
 use Rattle.ubf.proofs.Laws.{length_string}
-use borrow.Author.Rules.{rules}
-use Rattle.ubf.proofs.put.put_inside.Reads as put-inside-reads
 use Rattle.ubf.proofs.put.put_string.Goals as goal
 
 pub put_inside-b-requires : goal.put_inside-b-requires

@@ -1,6 +1,5 @@
 use native.Mathlib.Omega.{arith}
 use Rattle.ubf.proofs.Laws.{signed_low, signed_high}
-use borrow.Author.Rules.{rules}
 use Rattle.ubf.proofs.put.signed8.Goals as goal
 
 pub returns-then-u-lt9223372036854775808 : goal.returns-then-u-lt9223372036854775808

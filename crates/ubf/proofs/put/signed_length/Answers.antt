@@ -2,9 +2,7 @@ use lib.ListN.{length}
 use mathlib.Core.Path.{ap}
 use native.Mathlib.Omega.{arith}
 use lib.ListN.{length}
-use Rattle.decimal.proofs.places.Reads as places-reads
 use Rattle.ubf.proofs.Laws.{sign_true, sign_false}
-use borrow.Author.Rules.{rules}
 use Rattle.ubf.proofs.put.signed_length.Goals as goal
 
 pub returns-then-s : goal.returns-then-s

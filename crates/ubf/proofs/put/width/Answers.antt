@@ -3,8 +3,6 @@ use mathlib.Core.Bool.{true, false}
 use native.Mathlib.Omega.{arith}
 use Rattle.ubf.specs.Escape.{needs_escape}
 use Rattle.ubf.proofs.Laws.{wide, narrow}
-use borrow.Author.Rules.{rules}
-use Rattle.ubf.proofs.words.needs_escape.Reads as needs-escape-reads
 use Rattle.ubf.proofs.put.width.Goals as goal
 
 pub returns-then-needs_escape : goal.returns-then-needs_escape

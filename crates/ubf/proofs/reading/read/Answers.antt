@@ -1,13 +1,11 @@
 -- `read` meets its contract: by what the text is, and what of its fields is refused. Assumes nothing.
-use mathlib.Core.Path.{◌≡◌, refl, sym, ap, ◌∙◌}
-use mathlib.Core.Bool.{Bool, false, cond}
+use mathlib.Core.Path.{refl, sym, ap, ◌∙◌}
+use mathlib.Core.Bool.{Bool, cond}
 use native.Mathlib.Omega.{arith}
 use borrow.Author.Tests.{not-true, not-false}
 use lib.ListN.{length}
-use Rattle.ubf.specs.Fields.{said, is_tuple}
 use Rattle.ubf.specs.Span.{ordered}
 use Rattle.ubf.proofs.Refusals.{not_tuple, read_refused, read_accepted}
-use borrow.Author.Rules.{rules}
 use Rattle.ubf.proofs.reading.read.Goals as goal
 
 pub returns-then-in_syntax : goal.returns-then-in_syntax

@@ -1,13 +1,10 @@
 -- `refusal` meets its contract: by the refusals in their order. Assumes nothing.
-use mathlib.Core.Path.{◌≡◌, sym, ap, subst, ◌∙◌}
-use mathlib.Core.Bool.{true}
-use Prim.Native.Nat.{◌≤◌}
+use mathlib.Core.Path.{sym, ap, subst, ◌∙◌}
 use native.Mathlib.Omega.{arith}
 use borrow.Author.Tests.{not-true, not-false}
 use Rattle.ubf.specs.Answer.{repeated}
 use Rattle.ubf.specs.Span.{ArrangedIs}
 use Rattle.ubf.proofs.Refusals.{few_lie, wrong_name, wrong_size, name-again, too_many, too_long, accepted}
-use borrow.Author.Rules.{rules}
 use Rattle.ubf.specs.Fields.{is_tuple}
 use Rattle.ubf.proofs.reading.refusal.Goals as goal
 

@@ -1,9 +1,7 @@
 -- `among` meets its contract: from `at` to i fields were read, and whether one of them has the name. Assumes nothing.
-use Prim.Native.Nat.{◌-◌}
 use native.Mathlib.Omega.{arith}
-use lib.ListN.{length}
-use Rattle.ubf.specs.Span.{name_in, FieldFound, WithinTuple}
-use Rattle.ubf.proofs.Within.{name_comes, field_comes, within_next, Follows, follows_none, follows_more, follows_end}
+use Rattle.ubf.specs.Span.{name_in, FieldFound}
+use Rattle.ubf.proofs.Within.{name_comes, field_comes, within_next, follows_none, follows_more, follows_end}
 use Rattle.ubf.proofs.repeats.among.Lts as lts
 use Rattle.ubf.proofs.repeats.among.Tie as tie
 use Rattle.ubf.proofs.repeats.among.Reads as reads

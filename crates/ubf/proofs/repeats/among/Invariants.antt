@@ -1,10 +1,8 @@
 -- `among` meets its contract: from `at` to i fields were read, and whether one of them has the name. Assumes nothing.
 use Prim.Native.Nat.{◌-◌}
-use native.Mathlib.Omega.{arith}
-use borrow.Author.Tests.{not-true, not-false}
 use lib.ListN.{length}
-use Rattle.ubf.specs.Span.{name_in, FieldFound, WithinTuple}
-use Rattle.ubf.proofs.Within.{name_comes, field_comes, within_next, Follows, follows_none, follows_more, follows_end}
+use Rattle.ubf.specs.Span.{name_in, WithinTuple}
+use Rattle.ubf.proofs.Within.{Follows}
 use Rattle.ubf.proofs.repeats.among.Given as goal
 
 abbrev pub invariant-loop-s : goal.invariant-loop-s

@@ -1,9 +1,7 @@
 -- `repeats` meets its contract: no name of the fields before i is repeated. Assumes nothing.
-use Prim.Native.Nat.{◌-◌}
 use native.Mathlib.Omega.{arith}
-use lib.ListN.{length}
 use Rattle.ubf.specs.Span.{FieldFound}
-use Rattle.ubf.proofs.Within.{name_comes, field_comes, within_next, Passed, brace_comes, passed_none, passed_more, passed_repeated, passed_all}
+use Rattle.ubf.proofs.Within.{name_comes, field_comes, within_next, brace_comes, passed_none, passed_more, passed_repeated, passed_all}
 use Rattle.ubf.proofs.repeats.repeats.Lts as lts
 use Rattle.ubf.proofs.repeats.repeats.Tie as tie
 use Rattle.ubf.proofs.repeats.repeats.Reads as reads

@@ -1,10 +1,7 @@
 -- `repeats` meets its contract: no name of the fields before i is repeated. Assumes nothing.
 use Prim.Native.Nat.{◌-◌}
-use native.Mathlib.Omega.{arith}
-use borrow.Author.Tests.{not-true, not-false}
 use lib.ListN.{length}
-use Rattle.ubf.specs.Span.{FieldFound}
-use Rattle.ubf.proofs.Within.{name_comes, field_comes, within_next, Passed, brace_comes, passed_none, passed_more, passed_repeated, passed_all}
+use Rattle.ubf.proofs.Within.{Passed}
 use Rattle.ubf.proofs.repeats.repeats.Given as goal
 
 abbrev pub invariant-loop-s : goal.invariant-loop-s

@@ -1,6 +1,5 @@
 use native.Mathlib.Omega.{arith}
 use Rattle.ubf.proofs.Scans.{binary_cut, binary_ends, binary_lacks}
-use borrow.Author.Rules.{rules}
 use Rattle.ubf.proofs.scanning.binary_end.Goals as goal
 
 pub returns-then-left-n : goal.returns-then-left-n

@@ -1,5 +1,4 @@
 use Rattle.ubf.proofs.Scans.{place_escaped, place_plain}
-use borrow.Author.Rules.{rules}
 use Rattle.ubf.proofs.scanning.byte_place.Goals as goal
 
 pub returns-then-escaped-text : goal.returns-then-escaped-text

@@ -1,7 +1,6 @@
 use native.Mathlib.Omega.{arith}
 use Prim.Native.Nat.{◌-◌}
 use Rattle.ubf.proofs.Scans.{grow_small, grow_big, over_facts, digit_fits}
-use borrow.Author.Rules.{rules}
 use Rattle.ubf.proofs.scanning.digit_more.Goals as goal
 
 pub returns-then-size-gt1844674407370955161 : goal.returns-then-size-gt1844674407370955161

@@ -1,12 +1,7 @@
-use borrow.Author.Rules.{rules}
-use Prim.Native.Nat.{◌-◌}
-use lib.ListN.{length}
 use native.Mathlib.Omega.{arith}
-use Rattle.ubf.proofs.Scans.{Counts, counts_none, counts_one, counts_end}
+use Rattle.ubf.proofs.Scans.{counts_none, counts_one, counts_end}
 use Rattle.ubf.proofs.Machine.{digit_bounds}
 use mathlib.Core.Path.{refl, sym, ◌∙◌}
-use Rattle.ubf.proofs.scanning.digit_more.Reads as digit-more-reads
-use Rattle.ubf.proofs.scanning.is_digit.Reads as is-digit-reads
 use Rattle.ubf.proofs.scanning.digits.Goals as goal
 
 pub loop-i-init : goal.loop-i-init

@@ -1,7 +1,5 @@
 use mathlib.Core.Path.{◌∙◌}
 use Rattle.ubf.proofs.Scans.{escape_cut, escape_there}
-use borrow.Author.Rules.{rules}
-use Rattle.ubf.proofs.words.needs_escape.Reads as needs-escape-reads
 use Rattle.ubf.proofs.scanning.escape_right.Goals as goal
 
 pub returns-then-text-at-lt2 : goal.returns-then-text-at-lt2

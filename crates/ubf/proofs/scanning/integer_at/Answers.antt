@@ -1,6 +1,4 @@
 use Rattle.ubf.proofs.Scans.{digit_there, integer_plain, integer_signed, integer_bare}
-use borrow.Author.Rules.{rules}
-use Rattle.ubf.proofs.scanning.digits.Reads as digits-reads
 use Rattle.ubf.proofs.scanning.integer_at.Goals as goal
 
 pub returns-then-text-at-ne45 : goal.returns-then-text-at-ne45

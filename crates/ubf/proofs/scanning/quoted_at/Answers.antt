@@ -1,10 +1,6 @@
 use mathlib.Core.Path.{sym, ◌∙◌}
-use borrow.Author.Rules.{rules}
-use Prim.Native.Nat.{◌-◌}
-use lib.ListN.{length}
 use native.Mathlib.Omega.{arith}
-use Rattle.ubf.proofs.Scans.{Opens, opens_none, opens_one, opens_two, opens_close, opens_cut, opens_wrong}
-use Rattle.ubf.proofs.scanning.escape_right.Reads as escape-right-reads
+use Rattle.ubf.proofs.Scans.{opens_none, opens_one, opens_two, opens_close, opens_cut, opens_wrong}
 use Rattle.ubf.proofs.scanning.quoted_at.Goals as goal
 
 pub loop-i-init : goal.loop-i-init

@@ -1,11 +1,9 @@
 -- `string_at` meets its contract: the string is open where a run starts. Assumes nothing.
 use mathlib.Core.Path.{sym, ◌∙◌}
-use Prim.Native.Nat.{◌+◌, ◌-◌, ◌<◌}
+use Prim.Native.Nat.{◌<◌}
 use native.Mathlib.Omega.{arith}
 use lib.ListN.{length, get_or}
-use Rattle.ubf.proofs.Scans.{Opens, opens_none, opens_to, opens_two, opens_close, opens_cut, opens_wrong, stop_backslash}
-use Rattle.ubf.proofs.scanning.escape_right.Reads as escape-right-reads
-use Rattle.ubf.proofs.words.plain_to.Reads as plain-to-reads
+use Rattle.ubf.proofs.Scans.{opens_none, opens_to, opens_two, opens_close, opens_cut, opens_wrong, stop_backslash}
 use Rattle.ubf.proofs.scanning.string_at.Goals as goal
 
 pub loop-i-init : goal.loop-i-init

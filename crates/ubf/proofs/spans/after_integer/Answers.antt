@@ -1,6 +1,5 @@
 use mathlib.Core.Path.{sym, ◌∙◌}
 use Rattle.ubf.proofs.Advances.{plain_large, plain_found}
-use borrow.Author.Rules.{rules}
 use Rattle.ubf.proofs.spans.after_integer.Goals as goal
 
 pub returns-then-not-fits4 : goal.returns-then-not-fits4

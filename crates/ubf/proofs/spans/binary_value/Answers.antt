@@ -1,6 +1,5 @@
 use native.Mathlib.Omega.{arith}
 use Rattle.ubf.proofs.Advances.{binary_negative, binary_none, binary_found}
-use borrow.Author.Rules.{rules}
 use Rattle.ubf.proofs.spans.binary_value.Goals as goal
 
 pub returns-then-negative-n : goal.returns-then-negative-n

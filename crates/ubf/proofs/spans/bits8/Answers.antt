@@ -1,6 +1,5 @@
 use native.Mathlib.Omega.{arith}
 use Rattle.ubf.proofs.Numbers.{bits8_low, bits8_minus, bits8_plain}
-use borrow.Author.Rules.{rules}
 use Rattle.ubf.proofs.spans.bits8.Goals as goal
 
 pub overflow_add-result : goal.overflow_add-result

@@ -1,7 +1,5 @@
 use native.Mathlib.Omega.{arith}
-use Prim.Native.Nat.{◌-◌}
-use lib.ListN.{length}
-use Rattle.ubf.proofs.Tuples.{Collecting, collecting_none, collecting_more, collected, collected_end, collected_none}
+use Rattle.ubf.proofs.Tuples.{collecting_none, collecting_more, collected, collected_end, collected_none}
 use Rattle.ubf.proofs.spans.collect.Goals as goal
 
 pub tuple_at-t-requires : goal.tuple_at-t-requires

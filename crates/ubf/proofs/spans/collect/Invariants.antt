@@ -1,7 +1,6 @@
-use native.Mathlib.Omega.{arith}
 use Prim.Native.Nat.{◌-◌}
 use lib.ListN.{length}
-use Rattle.ubf.proofs.Tuples.{Collecting, collecting_none, collecting_more, collected, collected_end, collected_none}
+use Rattle.ubf.proofs.Tuples.{Collecting}
 use Rattle.ubf.proofs.spans.collect.Given as goal
 
 abbrev pub invariant-loop-t : goal.invariant-loop-t

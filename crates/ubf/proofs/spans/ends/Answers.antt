@@ -1,6 +1,5 @@
 use native.Mathlib.Omega.{arith}
 use Rattle.ubf.proofs.Advances.{ends_cut, ends_other, ends_open, ends_last}
-use borrow.Author.Rules.{rules}
 use Rattle.ubf.proofs.spans.ends.Goals as goal
 
 pub returns-then-at-text : goal.returns-then-at-text

@@ -1,6 +1,6 @@
 use mathlib.Core.Bool.{true}
 use native.Mathlib.Omega.{arith}
-use Rattle.ubf.proofs.Parts.{byte_inside, next_byte, Judged, judged_none, judged_end, judged_wrong, judged_more, name_wrong, small_name}
+use Rattle.ubf.proofs.Parts.{byte_inside, next_byte, judged_none, judged_end, judged_wrong, judged_more, name_wrong, small_name}
 use Rattle.ubf.proofs.spans.escaped_right.Goals as goal
 
 pub returns-then-n : goal.returns-then-n

@@ -1,6 +1,4 @@
-use mathlib.Core.Bool.{true}
-use native.Mathlib.Omega.{arith}
-use Rattle.ubf.proofs.Parts.{byte_inside, next_byte, Judged, judged_none, judged_end, judged_wrong, judged_more, name_wrong, small_name}
+use Rattle.ubf.proofs.Parts.{Judged}
 use Rattle.ubf.proofs.spans.escaped_right.Given as goal
 
 abbrev pub invariant-loop-left : goal.invariant-loop-left

@@ -1,6 +1,5 @@
 use native.Mathlib.Omega.{arith}
 use Rattle.ubf.proofs.Advances.{field_unclosed, field_cut, field_after}
-use borrow.Author.Rules.{rules}
 use Rattle.ubf.proofs.spans.field_at.Goals as goal
 
 pub returns-then-name-text : goal.returns-then-name-text

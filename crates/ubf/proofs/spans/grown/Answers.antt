@@ -1,5 +1,4 @@
 use Rattle.ubf.proofs.Tuples.{grown_is}
-use borrow.Author.Rules.{rules}
 use Rattle.ubf.proofs.spans.grown.Goals as goal
 
 pub returns : goal.returns

@@ -1,7 +1,6 @@
 use native.Mathlib.Omega.{arith}
 use lib.ListN.{length-set}
 use Rattle.ubf.proofs.Rows.{row_kept, row_left}
-use borrow.Author.Rules.{rules}
 use Rattle.ubf.proofs.spans.keep.Goals as goal
 
 pub returns-then-rows-k : goal.returns-then-rows-k

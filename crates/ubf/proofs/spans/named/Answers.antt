@@ -2,7 +2,6 @@ use mathlib.Core.Path.{ap, ◌∙◌}
 use native.Mathlib.Omega.{arith}
 use Rattle.notice.specs.Field.{name_right}
 use Rattle.ubf.proofs.Parts.{escaped_part_lem, escaped_name, plain_part, plain_slice}
-use borrow.Author.Rules.{rules}
 use Rattle.ubf.proofs.spans.named.Goals as goal
 
 pub escaped_right-requires : goal.escaped_right-requires

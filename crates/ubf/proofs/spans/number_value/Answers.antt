@@ -1,6 +1,5 @@
 use native.Mathlib.Omega.{arith}
 use Rattle.ubf.proofs.Advances.{integer_none, integer_cut, integer_after}
-use borrow.Author.Rules.{rules}
 use Rattle.ubf.proofs.spans.number_value.Goals as goal
 
 pub returns-then-n-at : goal.returns-then-n-at

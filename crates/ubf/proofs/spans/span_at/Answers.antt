@@ -1,6 +1,5 @@
 use Prim.Native.Nat.{◌*◌}
 use Rattle.ubf.proofs.Rows.{row_read}
-use borrow.Author.Rules.{rules}
 use Rattle.ubf.proofs.spans.span_at.Goals as goal
 
 pub returns : goal.returns

@@ -1,6 +1,5 @@
 use native.Mathlib.Omega.{arith}
 use Rattle.ubf.proofs.Advances.{string_none, string_found}
-use borrow.Author.Rules.{rules}
 use Rattle.ubf.proofs.spans.string_value.Goals as goal
 
 pub returns-then-s-text : goal.returns-then-s-text

@@ -2,7 +2,6 @@ use mathlib.Core.Path.{sym, ◌∙◌}
 use native.Mathlib.Omega.{arith}
 use Rattle.octets.proofs.Theorems.{and_parts}
 use Rattle.ubf.proofs.Advances.{tag_none, tag_told, tag_other, tag_found}
-use borrow.Author.Rules.{rules}
 use Rattle.ubf.proofs.spans.tagged_value.Goals as goal
 
 pub returns-then-end-text : goal.returns-then-end-text

@@ -1,7 +1,6 @@
 use native.Mathlib.Omega.{arith}
 use Rattle.ubf.proofs.Advances.{not-true, not-false}
 use Rattle.ubf.proofs.Tuples.{tuple_cut, tuple_other, tuple_none, tuple-found, tuple-open}
-use borrow.Author.Rules.{rules}
 use Rattle.ubf.proofs.spans.tuple_in.Goals as goal
 
 pub returns-then-start-text : goal.returns-then-start-text

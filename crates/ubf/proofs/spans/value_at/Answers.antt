@@ -1,7 +1,6 @@
 use mathlib.Core.Path.{sym, ◌∙◌}
 use lib.ListN.{get_or}
 use Rattle.ubf.proofs.Advances.{digit_or, value_other}
-use borrow.Author.Rules.{rules}
 use Rattle.ubf.proofs.spans.value_at.Goals as goal
 
 pub number_value-requires : goal.number_value-requires

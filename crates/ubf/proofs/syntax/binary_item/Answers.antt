@@ -1,7 +1,4 @@
 use Rattle.ubf.proofs.Items.{binary_none, binary-unclosed, binary-past}
-use borrow.Author.Rules.{rules}
-use Rattle.ubf.proofs.scanning.binary_end.Reads as binary-end-reads
-use Rattle.ubf.proofs.syntax.past.Reads as past-reads
 use Rattle.ubf.proofs.syntax.binary_item.Goals as goal
 
 pub returns-then-p : goal.returns-then-p

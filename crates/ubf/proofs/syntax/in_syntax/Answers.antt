@@ -1,11 +1,7 @@
-use borrow.Author.Rules.{rules}
 use native.Mathlib.Omega.{arith}
-use Prim.Native.Nat.{◌-◌, ◌<◌}
+use Prim.Native.Nat.{◌<◌}
 use lib.ListN.{length}
-use Rattle.ubf.proofs.Items.{Judged, moved_to, judged_none, judged_moved, judged_item, judged_cut, judged_dollar}
-use Rattle.ubf.proofs.scanning.blanks.Reads as blanks-reads
-use Rattle.ubf.proofs.syntax.item.Reads as item-reads
-use Rattle.ubf.proofs.syntax.past.Reads as past-reads
+use Rattle.ubf.proofs.Items.{moved_to, judged_none, judged_moved, judged_item, judged_cut, judged_dollar}
 use Rattle.ubf.proofs.syntax.in_syntax.Goals as goal
 
 pub loop-p-init : goal.loop-p-init

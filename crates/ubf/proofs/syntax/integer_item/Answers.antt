@@ -1,7 +1,4 @@
 use Rattle.ubf.proofs.Items.{integer_none, integer_past}
-use borrow.Author.Rules.{rules}
-use Rattle.ubf.proofs.scanning.integer_at.Reads as integer-at-reads
-use Rattle.ubf.proofs.syntax.past.Reads as past-reads
 use Rattle.ubf.proofs.syntax.integer_item.Goals as goal
 
 pub returns-then-n-p : goal.returns-then-n-p

@@ -1,11 +1,5 @@
 use mathlib.Core.Path.{refl}
 use Rattle.ubf.proofs.Items.{mark_there}
-use borrow.Author.Rules.{rules}
-use Rattle.ubf.proofs.scanning.is_digit.Reads as is-digit-reads
-use Rattle.ubf.proofs.syntax.binary_item.Reads as binary-item-reads
-use Rattle.ubf.proofs.syntax.integer_item.Reads as integer-item-reads
-use Rattle.ubf.proofs.syntax.mark_item.Reads as mark-item-reads
-use Rattle.ubf.proofs.syntax.quoted_item.Reads as quoted-item-reads
 use Rattle.ubf.proofs.syntax.item.Goals as goal
 
 pub integer_item-requires : goal.integer_item-requires

@@ -1,6 +1,4 @@
 use Rattle.ubf.proofs.Items.{mark_open, mark_unmatched, mark_shut, mark_comma, mark_other}
-use borrow.Author.Rules.{rules}
-use Rattle.ubf.proofs.syntax.past.Reads as past-reads
 use Rattle.ubf.proofs.syntax.mark_item.Goals as goal
 
 pub returns-then-b-eq123 : goal.returns-then-b-eq123

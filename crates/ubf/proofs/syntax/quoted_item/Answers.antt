@@ -1,9 +1,6 @@
 use native.Mathlib.Omega.{arith}
 use mathlib.Core.Path.{refl}
 use Rattle.ubf.proofs.Items.{delimiter_not, quoted_unclosed, quoted_past}
-use borrow.Author.Rules.{rules}
-use Rattle.ubf.proofs.scanning.quoted_at.Reads as quoted-at-reads
-use Rattle.ubf.proofs.syntax.past.Reads as past-reads
 use Rattle.ubf.proofs.syntax.quoted_item.Goals as goal
 
 pub quoted_at-end-requires : goal.quoted_at-end-requires

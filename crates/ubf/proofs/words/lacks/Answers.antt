@@ -1,5 +1,4 @@
 use Rattle.ubf.proofs.Plains.{sum_fits, word_lacks}
-use borrow.Author.Rules.{rules}
 use Rattle.ubf.proofs.words.lacks.Goals as goal
 
 pub overflow_add-high : goal.overflow_add-high

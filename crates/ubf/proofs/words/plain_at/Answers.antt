@@ -5,9 +5,6 @@ use Rattle.common.proofs.Choice.{false_true}
 use Rattle.word.specs.Word.{word_bytes}
 use Rattle.ubf.specs.Escape.{lacking}
 use Rattle.ubf.proofs.Plains.{word_plain}
-use borrow.Author.Rules.{rules}
-use Rattle.ubf.proofs.words.lacks.Reads as lacks-reads
-use Rattle.word.proofs.read_u64.Reads as read-u64-reads
 use Rattle.ubf.proofs.words.plain_at.Goals as goal
 
 pub returns-then-s-at-lt8 : goal.returns-then-s-at-lt8

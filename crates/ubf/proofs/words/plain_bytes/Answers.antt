@@ -1,11 +1,6 @@
 use mathlib.Core.Path.{sym, ◌∙◌}
-use Prim.Native.Nat.{◌-◌, ◌≤◌}
 use native.Mathlib.Omega.{arith}
-use lib.ListN.{length}
-use Rattle.ubf.specs.Escape.{Plain}
 use Rattle.ubf.proofs.Plains.{plain_none, plain_one}
-use borrow.Author.Rules.{rules}
-use Rattle.ubf.proofs.words.needs_escape.Reads as needs-escape-reads
 use Rattle.ubf.proofs.words.plain_bytes.Goals as goal
 
 pub loop-i-init : goal.loop-i-init

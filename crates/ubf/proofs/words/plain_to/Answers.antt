@@ -1,10 +1,6 @@
 use mathlib.Core.Path.{sym, ◌∙◌}
 use native.Mathlib.Omega.{arith}
 use Rattle.ubf.proofs.Plains.{plain_none, plain_more}
-use borrow.Author.Rules.{rules}
-use Rattle.ubf.proofs.words.needs_escape.Reads as needs-escape-reads
-use Rattle.ubf.proofs.words.plain_bytes.Reads as plain-bytes-reads
-use Rattle.ubf.proofs.words.plain_words.Reads as plain-words-reads
 use Rattle.ubf.proofs.words.plain_to.Goals as goal
 
 pub returns-then-needs_escape : goal.returns-then-needs_escape

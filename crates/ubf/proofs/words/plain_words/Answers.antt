@@ -1,9 +1,6 @@
-use Prim.Native.Nat.{◌+◌, ◌-◌, ◌≤◌}
+use Prim.Native.Nat.{◌+◌}
 use native.Mathlib.Omega.{arith}
-use lib.ListN.{length}
-use Rattle.ubf.specs.Escape.{Plain}
 use Rattle.ubf.proofs.Plains.{plain_none, plain_more}
-use Rattle.ubf.proofs.words.plain_at.Reads as plain-at-reads
 use Rattle.ubf.proofs.words.plain_words.Goals as goal
 
 pub loop-i-init : goal.loop-i-init

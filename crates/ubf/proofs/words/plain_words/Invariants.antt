@@ -1,9 +1,6 @@
-use Prim.Native.Nat.{◌+◌, ◌-◌, ◌≤◌}
-use native.Mathlib.Omega.{arith}
+use Prim.Native.Nat.{◌-◌, ◌≤◌}
 use lib.ListN.{length}
 use Rattle.ubf.specs.Escape.{Plain}
-use Rattle.ubf.proofs.Plains.{plain_none, plain_more}
-use Rattle.ubf.proofs.words.plain_at.Reads as plain-at-reads
 use Rattle.ubf.proofs.words.plain_words.Given as goal
 
 abbrev pub invariant-loop-i : goal.invariant-loop-i

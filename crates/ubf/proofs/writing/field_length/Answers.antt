@@ -1,6 +1,6 @@
 use mathlib.Core.List.{List}
 use mathlib.Core.Path.{ap, ap₂, ◌∙◌}
-use Prim.Native.Nat.{ℕ, ◌+◌, ◌-◌}
+use Prim.Native.Nat.{ℕ, ◌+◌}
 use native.Mathlib.Omega.{arith}
 use lib.ListN.{length}
 use Rattle.ubf.specs.Escape.{escapes}
@@ -8,11 +8,6 @@ use Rattle.ubf.specs.Text.{value_text}
 use Rattle.notice.specs.Layout.{field_at}
 use Rattle.notice.specs.Field.{size_right}
 use Rattle.ubf.proofs.Values.{parts, name_part, value_part, length_field}
-use Rattle.ubf.proofs.put.escaped_length.Reads as escaped-length-reads
-use Rattle.ubf.proofs.writing.field_size.Reads as field-size-reads
-use Rattle.ubf.proofs.writing.name_size.Reads as name-size-reads
-use Rattle.ubf.proofs.writing.value_length.Reads as value-length-reads
-use Rattle.word.proofs.read_u16.Reads as read-u16-reads
 use Rattle.ubf.proofs.writing.field_length.Goals as goal
 
 pub overflow_add-name : goal.overflow_add-name

@@ -1,16 +1,12 @@
 -- `has_real` meets its contract: whether there was a real64, or is one among the fields that are left. Assumes nothing.
 use mathlib.Core.Path.{◌≡◌, sym, ap, ◌∙◌}
-use mathlib.Core.Bool.{◌||◌}
 use mathlib.Core.List.{map}
 use Prim.Native.Nat.{ℕ, ◌+◌}
 use native.Mathlib.Omega.{arith}
-use Rattle.notice.specs.Layout.{next_at, field_at, fields_of}
+use Rattle.notice.specs.Layout.{next_at, field_at}
 use Rattle.notice.proofs.Renders.{fields_from, well_header, well_starts}
 use Rattle.ubf.specs.Answer.{has_real}
-use Rattle.ubf.proofs.Values.{Rest, rest_start, rest_right, rest_next, real_next, real_end, parts}
-use borrow.Author.Rules.{rules}
-use Rattle.ubf.proofs.writing.field_size.Reads as field-size-reads
-use Rattle.word.proofs.read_u16.Reads as read-u16-reads
+use Rattle.ubf.proofs.Values.{rest_start, rest_right, rest_next, real_next, real_end, parts}
 use Rattle.ubf.proofs.writing.has_real.Goals as goal
 
 pub read_u16-left-requires : goal.read_u16-left-requires

@@ -8,8 +8,6 @@ use Rattle.notice.specs.Layout.{fields_of}
 use Rattle.notice.proofs.Renders.{well_header}
 use Rattle.ubf.specs.Text.{text_of}
 use Rattle.ubf.proofs.Writes.{length_text, text_room}
-use borrow.Author.Rules.{rules}
-use Rattle.ubf.proofs.writing.measure.Reads as measure-reads
 use Rattle.ubf.proofs.writing.has_room.Goals as goal
 
 pub overflow_add-notice : goal.overflow_add-notice

@@ -3,11 +3,7 @@ use native.Mathlib.Omega.{arith}
 use mathlib.Core.List.{[], ◌∷◌, ◌++◌}
 use Rattle.decimal.specs.Decimal.{decimal_of}
 use Rattle.decimal.proofs.Laws.{joined}
-use Rattle.decimal.proofs.put_byte.Reads as put-byte-reads
-use Rattle.decimal.proofs.put_bytes.Reads as put-bytes-reads
-use Rattle.decimal.proofs.put_decimal.Reads as put-decimal-reads
 use Rattle.ubf.proofs.Laws.{length_binary}
-use borrow.Author.Rules.{rules}
 use Rattle.ubf.proofs.writing.put_binary.Goals as goal
 
 pub put_decimal-a-requires : goal.put_decimal-a-requires

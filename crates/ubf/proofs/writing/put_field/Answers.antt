@@ -1,5 +1,5 @@
 use mathlib.Core.Path.{ap, ap₂, ◌∙◌}
-use Prim.Native.Nat.{ℕ, ◌+◌, ◌-◌}
+use Prim.Native.Nat.{ℕ, ◌+◌}
 use native.Mathlib.Omega.{arith}
 use mathlib.Core.List.{List}
 use lib.ListN.{length}
@@ -9,12 +9,6 @@ use Rattle.notice.specs.Layout.{kind_at, name_at, value_at, field_at}
 use Rattle.notice.specs.Field.{size_right}
 use Rattle.ubf.proofs.Laws.{length_string}
 use Rattle.ubf.proofs.Values.{parts, name_part, value_part, length_field}
-use borrow.Author.Rules.{rules}
-use Rattle.ubf.proofs.put.put_string.Reads as put-string-reads
-use Rattle.ubf.proofs.writing.field_size.Reads as field-size-reads
-use Rattle.ubf.proofs.writing.name_size.Reads as name-size-reads
-use Rattle.ubf.proofs.writing.put_value.Reads as put-value-reads
-use Rattle.word.proofs.read_u16.Reads as read-u16-reads
 use Rattle.ubf.proofs.writing.put_field.Goals as goal
 
 pub overflow_add-name : goal.overflow_add-name

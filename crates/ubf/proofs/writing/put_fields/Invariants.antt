@@ -1,17 +1,11 @@
-use mathlib.Core.Path.{◌≡◌, refl, sym, ap, ◌∙◌}
-use Prim.Native.Nat.{ℕ, ◌+◌, ◌-◌}
-use native.Mathlib.Omega.{arith}
+use mathlib.Core.Path.{◌≡◌}
+use Prim.Native.Nat.{◌+◌}
 use lib.ListN.{length}
 use lib.Seq.{sets}
 use Rattle.ubf.specs.Text.{fields_text}
-use Rattle.notice.specs.Layout.{next_at, field_at, fields_of}
-use Rattle.notice.proofs.Renders.{fields_from, well_header, well_starts}
-use mathlib.Core.List.{map}
-use Rattle.ubf.proofs.Values.{Rest, rest_start, rest_right, rest_next, put_more, length_more, text_end, parts}
-use borrow.Author.Rules.{rules}
-use Rattle.ubf.proofs.writing.field_size.Reads as field-size-reads
-use Rattle.ubf.proofs.writing.put_field.Reads as put-field-reads
-use Rattle.word.proofs.read_u16.Reads as read-u16-reads
+use Rattle.notice.specs.Layout.{fields_of}
+use Rattle.notice.proofs.Renders.{fields_from}
+use Rattle.ubf.proofs.Values.{Rest}
 use Rattle.ubf.proofs.writing.put_fields.Given as goal
 
 abbrev pub invariant-loop-left : goal.invariant-loop-left

@@ -4,12 +4,9 @@ use native.Mathlib.Omega.{arith}
 use lib.ListN.{length}
 use mathlib.Core.List.{[], ◌∷◌, ◌++◌}
 use Rattle.decimal.proofs.Laws.{joined}
-use Rattle.decimal.proofs.put_byte.Reads as put-byte-reads
 use Rattle.ubf.specs.Text.{fields_text, text_of}
 use Rattle.notice.specs.Layout.{fields_of}
 use Rattle.ubf.proofs.Writes.{length_text, stored_leaves}
-use borrow.Author.Rules.{rules}
-use Rattle.ubf.proofs.writing.put_fields.Reads as put-fields-reads
 use Rattle.ubf.proofs.writing.put_text.Goals as goal
 
 pub put_byte-a-requires : goal.put_byte-a-requires

@@ -1,20 +1,10 @@
 use mathlib.Core.Path.{ap, ◌∙◌}
-use Prim.Native.Nat.{◌+◌, ◌-◌}
 use native.Mathlib.Omega.{arith}
 use mathlib.Core.List.{◌++◌}
 use lib.ListN.{length, length-append}
 use Rattle.decimal.proofs.Laws.{joined, renamed}
 use Rattle.ubf.specs.Text.{signed_of, signed_text, tag_text}
 use Rattle.ubf.proofs.Values.{size_4, size_8, text_1, text_2, text_4, text_other}
-use borrow.Author.Rules.{rules}
-use Rattle.ubf.proofs.put.put_signed.Reads as put-signed-reads
-use Rattle.ubf.proofs.put.put_string.Reads as put-string-reads
-use Rattle.ubf.proofs.put.put_tag.Reads as put-tag-reads
-use Rattle.ubf.proofs.put.signed4.Reads as signed4-reads
-use Rattle.ubf.proofs.put.signed8.Reads as signed8-reads
-use Rattle.ubf.proofs.writing.put_binary.Reads as put-binary-reads
-use Rattle.word.proofs.read_u32.Reads as read-u32-reads
-use Rattle.word.proofs.read_u64.Reads as read-u64-reads
 use Rattle.ubf.proofs.writing.put_value.Goals as goal
 
 pub read_u32-requires : goal.read_u32-requires

@@ -1,19 +1,10 @@
 use mathlib.Core.Path.{ap, ◌∙◌}
-use Prim.Native.Nat.{◌-◌}
 use native.Mathlib.Omega.{arith}
 use lib.ListN.{length, length-append}
 use Rattle.ubf.specs.Text.{signed_of, signed_text, tag_text}
 use Rattle.word.specs.Word.{word_at}
 use Rattle.ubf.proofs.Laws.{length_string}
 use Rattle.ubf.proofs.Values.{size_4, size_8, size_most, text_1, text_2, text_4, text_other}
-use borrow.Author.Rules.{rules}
-use Rattle.ubf.proofs.put.escaped_length.Reads as escaped-length-reads
-use Rattle.ubf.proofs.put.signed4.Reads as signed4-reads
-use Rattle.ubf.proofs.put.signed8.Reads as signed8-reads
-use Rattle.ubf.proofs.put.signed_length.Reads as signed-length-reads
-use Rattle.ubf.proofs.writing.binary_length.Reads as binary-length-reads
-use Rattle.word.proofs.read_u32.Reads as read-u32-reads
-use Rattle.word.proofs.read_u64.Reads as read-u64-reads
 use Rattle.ubf.proofs.writing.value_length.Goals as goal
 
 pub read_u32-requires : goal.read_u32-requires

@@ -1,11 +1,6 @@
 use mathlib.Core.Path.{sym, ap, ◌∙◌}
 use borrow.Author.Tests.{leb-true, leb-false}
 use Rattle.ubf.proofs.Writes.{answer, faulted, real_field, no_room, written}
-use borrow.Author.Rules.{rules}
-use Rattle.notice.proofs.check.Reads as check-reads
-use Rattle.ubf.proofs.writing.has_room.Reads as has-room-reads
-use Rattle.ubf.proofs.writing.has_real.Reads as has-real-reads
-use Rattle.ubf.proofs.writing.put_text.Reads as put-text-reads
 use Rattle.ubf.proofs.writing.write.Goals as goal
 
 pub has_real-requires : goal.has_real-requires
