@@ -1,6 +1,5 @@
 -- `interpreter::run` meets its contract: 12, then the answer of the kept table's run. Assumes nothing.
 use mathlib.Core.Path.{sym, ◌∙◌}
-use borrow.Author.Tests.{not-true, not-false}
 use Rattle.interpreter.proofs.Answers.{table_refused}
 use borrow.Author.Rules.{rules}
 use Rattle.interpreter.proofs.run.Goals as goal
@@ -8,10 +7,10 @@ use Rattle.interpreter.proofs.run.Goals as goal
 pub returns-then-not-check : goal.returns-then-not-check
 returns-then-not-check c =
     let a = c.args in
-    c.refused.ensures ∙ table_refused a.table.now a.notice.now (sym c.check.ensures ∙ not-true _ c.if-not-check.true)
+    c.refused.ensures ∙ table_refused a.table.now a.notice.now (sym c.check.ensures ∙ c.if-not-check.true)
 
 pub run_kept-requires : goal.run_kept-requires
-run_kept-requires c = sym c.check.ensures ∙ not-false _ c.if-not-check.false
+run_kept-requires c = sym c.check.ensures ∙ c.if-not-check.false
 
 pub returns : goal.returns
 returns c = c.run_kept.ensures

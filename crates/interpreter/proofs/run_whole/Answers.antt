@@ -11,7 +11,5 @@ count-n-requires c = (laid c.args.table.now (checked_layout _ c.requires.0)).hea
 
 pub returns : goal.returns
 returns c =
-    let s : tie.Start = search in
-    let n : tie.After-count = search in
-    answer_is s.args.table.now s.args.notice.now c.run_indexed-m.result n.count.result s.pre.0 n.count.ensures.0 c.run_indexed-m.ensures
-    c.truth_in-verdict.result (c.truth_in-verdict.ensures (pool_of s.args.table.now) s.args.notice.now)
+    answer_is c.args.table.now c.args.notice.now c.run_indexed-m.result c.count-n.result c.requires.0 c.count-n.ensures.0 c.run_indexed-m.ensures
+    c.truth_in-verdict.result (c.truth_in-verdict.ensures (pool_of c.args.table.now) c.args.notice.now)
