@@ -12,7 +12,7 @@ use borrow.Author.Tests.{ne_eqb, ltb-true, leb-true}
 use Rattle.common.proofs.Choice.{false_true}
 use Rattle.lexer.specs.Kind.{opening, closing, comma, ending}
 use Rattle.lexer.specs.Token.{Token}
-use Rattle.grammar.specs.Tree.{Tree, leaf, binary, call, Trees, none, ◌then◌}
+use Rattle.grammar.specs.Tree.{Tree, leaf, binary, Trees, none, ◌then◌}
 use Rattle.grammar.specs.Grammar.{rank, is_prefix}
 use Rattle.grammar.specs.Parse.{Result, ok, bad, and_then, token_at, kind_at, level_of, prefix_of, operand_of, arguments_of}
 use Rattle.grammar.specs.Function.{function_of}

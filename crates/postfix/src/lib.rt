@@ -31,7 +31,7 @@ pub enum Parsed {
 }
 
 // An expression of the level l or a tighter one, from the token `at` on, whose first code is the code i. The answer is one number (packed.rt), and the loop keeps no more than the number of what stands left.
-#[cycle(arguments_first_level_operand_prefix_tighter)]
+#[cycle(level)]
 fn level(marks: &[u8], codes: &mut [u16], at: usize, l: u8, i: usize) -> u64
     requires { Ready marks.now at i × (l ≤ 11) }
     ensures { Tells marks.now (λ ks. level_of ks at l) i codes.old codes.new result }
@@ -58,7 +58,7 @@ fn level(marks: &[u8], codes: &mut [u16], at: usize, l: u8, i: usize) -> u64
 }
 
 // The right side of an operator. Most are a literal or a name that no operator of the level follows, and the tightest level has no operators: these take no frame of the recursion.
-#[cycle(arguments_first_level_operand_prefix_tighter)]
+#[cycle(level)]
 fn tighter(marks: &[u8], codes: &mut [u16], at: usize, l: u8, i: usize) -> u64
     requires { Ready marks.now at i × (l ≤ 11) }
     ensures { Tells marks.now (λ ks. level_of ks at l) i codes.old codes.new result }
@@ -73,7 +73,7 @@ fn tighter(marks: &[u8], codes: &mut [u16], at: usize, l: u8, i: usize) -> u64
 }
 
 // What stands first on a level. Most often it is a literal or a name.
-#[cycle(arguments_first_level_operand_prefix_tighter)]
+#[cycle(level)]
 fn first(marks: &[u8], codes: &mut [u16], at: usize, i: usize) -> u64
     requires { Ready marks.now at i }
     ensures { Tells marks.now (λ ks. prefix_of ks at) i codes.old codes.new result }
@@ -86,7 +86,7 @@ fn first(marks: &[u8], codes: &mut [u16], at: usize, i: usize) -> u64
 }
 
 // "`!` and `~` (prefix, on what follows directly)": a run of them is a loop.
-#[cycle(arguments_first_level_operand_prefix_tighter)]
+#[cycle(level)]
 fn prefix(marks: &[u8], codes: &mut [u16], at: usize, i: usize) -> u64
     requires { Ready marks.now at i }
     ensures { Tells marks.now (λ ks. prefix_of ks at) i codes.old codes.new result }
@@ -97,7 +97,7 @@ fn prefix(marks: &[u8], codes: &mut [u16], at: usize, i: usize) -> u64
 }
 
 // A literal, a name, an expression in parentheses, or a call.
-#[cycle(arguments_first_level_operand_prefix_tighter)]
+#[cycle(level)]
 fn operand(marks: &[u8], codes: &mut [u16], at: usize, i: usize) -> u64
     requires { Ready marks.now at i }
     ensures { Tells marks.now (λ ks. operand_of ks at) i codes.old codes.new result }
@@ -114,7 +114,7 @@ fn operand(marks: &[u8], codes: &mut [u16], at: usize, i: usize) -> u64
 }
 
 // The call whose mark stands at `at`, before a `(`.
-#[cycle(arguments_first_level_operand_prefix_tighter)]
+#[cycle(level)]
 fn arguments(marks: &[u8], codes: &mut [u16], at: usize, i: usize) -> u64
     requires { Ready marks.now at i × (calling ≤ get_or marks.now at ending) }
     ensures { Tells marks.now (λ ks. operand_of ks at) i codes.old codes.new result }

@@ -1,4 +1,3 @@
-use borrow.Author.Rules.{rules}
 use Rattle.postfix.proofs.answer.Goals as goal
 
 pub returns-then-broken-next : goal.returns-then-broken-next

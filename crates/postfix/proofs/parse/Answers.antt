@@ -6,7 +6,6 @@ use Rattle.postfix.specs.Answer.{read_by}
 use Rattle.postfix.proofs.Marks.{length_marks}
 use Rattle.postfix.proofs.Steps.{kept}
 use Rattle.postfix.proofs.Whole.{whole_answered}
-use borrow.Author.Rules.{rules}
 use Rattle.postfix.proofs.parse.Goals as goal
 
 pub level-x-requires : goal.level-x-requires

@@ -1,5 +1,4 @@
 use mathlib.Core.Path.{sym, ◌∙◌}
-use borrow.Author.Rules.{rules}
 use Rattle.postfix.proofs.mark.after.Goals as goal
 
 pub returns-then-broken : goal.returns-then-broken

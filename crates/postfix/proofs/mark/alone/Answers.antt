@@ -1,14 +1,9 @@
 use Prim.Native.Nat.{ℕ}
-use native.Mathlib.Omega.{arith}
 use mathlib.Core.Path.{ap, ap₂, ◌∙◌}
 use mathlib.Core.Bool.{Bool, ◌&&◌, ◌||◌}
 use lib.Dec.{ltb, leb}
 use Rattle.grammar.specs.Grammar.{rank}
 use Rattle.grammar.specs.Marks.{is_operand}
-use borrow.Author.Rules.{rules}
-use Rattle.grammar.proofs.stream.kind.Reads as kind-reads
-use Rattle.postfix.proofs.mark.is_leaf.Reads as is-leaf-reads
-use Rattle.postfix.proofs.mark.rank.Reads as rank-reads
 use Rattle.postfix.proofs.mark.alone.Goals as goal
 
 pub returns : goal.returns

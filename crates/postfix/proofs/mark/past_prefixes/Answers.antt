@@ -1,9 +1,6 @@
 use mathlib.Core.Path.{sym, ◌∙◌}
 use native.Mathlib.Omega.{arith}
-use Prim.Native.Nat.{◌-◌}
-use lib.ListN.{length}
-use borrow.Author.Rules.{rules}
-use Rattle.postfix.proofs.Prefixes.{prefix_within, Passed, none_passed, one_passed}
+use Rattle.postfix.proofs.Prefixes.{prefix_within, none_passed, one_passed}
 use Rattle.postfix.proofs.mark.past_prefixes.Goals as goal
 
 pub loop-n-init : goal.loop-n-init

@@ -1,4 +1,3 @@
-use borrow.Author.Rules.{rules}
 use Rattle.postfix.proofs.packed.broken.Goals as goal
 
 pub returns : goal.returns

@@ -1,5 +1,4 @@
 use borrow.Author.Tests.{eq-eqb, ne_eqb}
-use borrow.Author.Rules.{rules}
 use Rattle.postfix.proofs.part.all_texts.Goals as goal
 
 pub returns-then-count-eq0 : goal.returns-then-count-eq0

@@ -1,5 +1,4 @@
 use borrow.Author.Tests.{le-leb, lt-leb}
-use borrow.Author.Rules.{rules}
 use Rattle.postfix.proofs.part.call_code.Goals as goal
 
 pub returns-then-function-ge-BEGINS_WITH : goal.returns-then-function-ge-BEGINS_WITH

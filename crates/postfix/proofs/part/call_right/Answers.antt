@@ -1,5 +1,4 @@
 use borrow.Author.Tests.{eq-eqb, ne_eqb}
-use borrow.Author.Rules.{rules}
 use Rattle.postfix.proofs.part.call_right.Goals as goal
 
 pub returns-then-function-eq-FOLD_CASE : goal.returns-then-function-eq-FOLD_CASE

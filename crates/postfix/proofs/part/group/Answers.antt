@@ -1,6 +1,5 @@
 use mathlib.Core.Path.{sym, ◌∙◌}
 use borrow.Author.Tests.{eq-eqb, ne_eqb}
-use borrow.Author.Rules.{rules}
 use Rattle.postfix.proofs.part.group.Goals as goal
 
 pub returns-then-broken : goal.returns-then-broken

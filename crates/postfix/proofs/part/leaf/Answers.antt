@@ -1,11 +1,9 @@
 use mathlib.Core.Path.{refl, sym, ◌∙◌}
-use borrow.Author.Tests.{not-true, not-false}
-use borrow.Author.Rules.{rules}
 use Rattle.postfix.proofs.part.leaf.Goals as goal
 
 pub returns-then-not-is_leaf : goal.returns-then-not-is_leaf
-returns-then-not-is_leaf c = rw (sym c.is_leaf.ensures ∙ not-true _ c.if-not-is_leaf.true) (c.broken_at.ensures, refl)
+returns-then-not-is_leaf c = rw (sym c.is_leaf.ensures ∙ c.if-not-is_leaf.true) (c.broken_at.ensures, refl)
 
 pub returns : goal.returns
 returns c =
-    rw (sym c.is_leaf.ensures ∙ not-false _ c.if-not-is_leaf.false, ← c.code_of.ensures, ← c.leaf_form.ensures.0, ← c.knowing.ensures.0) (c.pack.ensures, c.leave.ensures)
+    rw (sym c.is_leaf.ensures ∙ c.if-not-is_leaf.false, ← c.code_of.ensures, ← c.leaf_form.ensures.0, ← c.knowing.ensures.0) (c.pack.ensures, c.leave.ensures)

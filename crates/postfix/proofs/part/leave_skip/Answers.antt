@@ -1,5 +1,4 @@
 use borrow.Author.Tests.{eq-eqb, ne_eqb}
-use borrow.Author.Rules.{rules}
 use Rattle.postfix.proofs.part.leave_skip.Goals as goal
 
 pub returns-then-k-eq-AND : goal.returns-then-k-eq-AND

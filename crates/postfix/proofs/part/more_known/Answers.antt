@@ -1,5 +1,4 @@
 use native.Mathlib.Omega.{arith}
-use borrow.Author.Rules.{rules}
 use Rattle.postfix.proofs.part.more_known.Goals as goal
 
 pub returns : goal.returns

@@ -1,8 +1,7 @@
 use mathlib.Core.Path.{◌≡◌, refl, ap, ◌∙◌}
 use native.Mathlib.Omega.{arith}
 use lib.ListN.{length}
-use borrow.Author.Rules.{rules}
-use Rattle.postfix.proofs.Prefixes.{unary_length, Wrapping, wrapped_one}
+use Rattle.postfix.proofs.Prefixes.{unary_length, wrapped_one}
 use Rattle.postfix.proofs.part.prefixed.Goals as goal
 
 pub loop-n-init : goal.loop-n-init
@@ -15,8 +14,7 @@ pub loop-n-smaller : goal.loop-n-smaller
 loop-n-smaller c = omega (arith, c.loop-n-test.true)
 
 pub loop-n-preserved : goal.loop-n-preserved
-loop-n-preserved c =
-    (
+loop-n-preserved c = (
   ap length c.unary-x.ensures.1 ∙ unary_length c.kind.result c.loop-n.x c.loop-n.codes ∙ c.loop-n.invariant.0,
   λ ks i was m run few room h.
       let v = c.loop-n.invariant.1 ks i was m run few room h in

@@ -1,8 +1,4 @@
-use mathlib.Core.Path.{◌≡◌, refl, ap, ◌∙◌}
-use native.Mathlib.Omega.{arith}
-use lib.ListN.{length}
-use borrow.Author.Rules.{rules}
-use Rattle.postfix.proofs.Prefixes.{unary_length, Wrapping, wrapped_one}
+use Rattle.postfix.proofs.Prefixes.{Wrapping}
 use Rattle.postfix.proofs.part.prefixed.Given as goal
 
 abbrev pub invariant-loop-n : goal.invariant-loop-n

@@ -1,6 +1,5 @@
 use mathlib.Core.Path.{sym, ◌∙◌}
 use native.Mathlib.Omega.{arith}
-use borrow.Author.Rules.{rules}
 use Rattle.postfix.proofs.part.right_start.Goals as goal
 
 pub returns-then-is_skipping : goal.returns-then-is_skipping

@@ -1,5 +1,4 @@
 use mathlib.Core.Path.{refl, sym, ◌∙◌}
-use borrow.Author.Rules.{rules}
 use Rattle.postfix.proofs.part.unary.Goals as goal
 
 pub returns-then-broken : goal.returns-then-broken

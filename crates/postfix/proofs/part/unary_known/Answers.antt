@@ -1,5 +1,4 @@
 use mathlib.Core.Path.{◌∙◌}
-use borrow.Author.Rules.{rules}
 use Rattle.postfix.proofs.part.unary_known.Goals as goal
 
 pub returns : goal.returns
