@@ -12,7 +12,7 @@ use mathlib.Core.Logic.{◌⊎◌, inl, inr, ⊎_elim}
 use Rattle.common.proofs.Choice.{false_true}
 use Rattle.lexer.specs.Kind.{naming, opening}
 use Rattle.lexer.specs.Token.{Token}
-use Rattle.grammar.specs.Tree.{Tree, leaf, Trees, none, ◌then◌}
+use Rattle.grammar.specs.Tree.{Tree, leaf, Trees, ◌then◌}
 use Rattle.grammar.specs.Grammar.{rank, is_prefix, is_literal}
 use Rattle.grammar.specs.Parse.{ok, token_at, kind_at, parse_all}
 use Rattle.grammar.specs.Function.{function_of}

@@ -6,14 +6,14 @@ use mathlib.Core.Path.{◌≡◌, refl, sym, ap, ◌∙◌}
 use mathlib.Core.Bool.{Bool, true, false, cond, not, ◌&&◌, ◌||◌, or_assoc, or-false}
 use mathlib.Core.List.{List, [], ◌∷◌, ◌++◌, append-nil}
 use lib.Dec.{eqb, leb}
-use lib.ListN.{length, get_or, drop, set, length-set, drop_of_length-le, get_or-eq_default}
+use lib.ListN.{length, get_or, drop, set, length-set, drop_of_length-le}
 use lib.Seq.{sets, sets-eq, set-get_or, get_or-drop, drop-set-lt, drop-drop, drop-cons}
 use borrow.Author.Tests.{eqb-true, ne_eqb, le-leb, lt-leb}
 use Rattle.common.specs.Each.{Each}
 use Rattle.octets.specs.Octets.{same_of}
 use Rattle.lexer.specs.Kind.{naming, opening}
 use Rattle.lexer.specs.Token.{Token, kind_of, name_at, escaped_at}
-use Rattle.grammar.specs.Parse.{ended, token_at, kind_at, is}
+use Rattle.grammar.specs.Parse.{token_at, kind_at, is}
 use Rattle.grammar.specs.Function.{Function, changes, tests, matches, among, or_else, op_of_name, function_of}
 use Rattle.grammar.specs.Judge.{takes_patterns}
 use Rattle.grammar.specs.Nesting.{open_after, row_after, deep_from, too_deep}

@@ -61,7 +61,13 @@ module _ (s ms starts : List ℕ) (opens i : ℕ) where
   right_unasked e z = sym (always (is_later ms i) (ap (λ (f : ℕ). pattern_test f (string_at s (get_or starts i 0))) (sym e ∙ z)))
 
   pub right_judged : {f p : ℕ} {b r : Bool} → f ≡ function_by (opens % 4) → b ≡ is_later ms i → b ≡ true → p ≡ get_or starts i 0 → r ≡ pattern_test f (string_at s p) → r ≡ right_at s ms starts opens i
-  right_judged ef eb t ep er = er ∙ rw (ef, ep, ← eb, t)
+  right_judged {p = p} ef eb t ep er =
+      let q = function_by (opens % 4) in
+      let there = string_at s (get_or starts i 0) in
+      er
+      ∙ ap (λ (x : ℕ). pattern_test x (string_at s p)) ef
+      ∙ ap (λ (x : ℕ). pattern_test q (string_at s x)) ep
+      ∙ ap (λ (x : Bool). cond x (pattern_test q there) true) (sym t ∙ eb)
 
   pub right_other : {b : Bool} → b ≡ is_later ms i → b ≡ false → true ≡ right_at s ms starts opens i
   right_other eb f = rw (← eb, f)

@@ -1,9 +1,6 @@
-use borrow.Author.Rules.{rules}
-use Prim.Native.Nat.{ℕ, ◌-◌}
-use lib.ListN.{length}
-use Rattle.operands.specs.Gather.{place_at, size_at}
-use Rattle.operands.proofs.Gathers.{Gathering, gathering_starts, gathering_on, gathering_ends, counting_ends}
-use Rattle.operands.proofs.gather_at.Reads as gather-at-reads
+use Prim.Native.Nat.{ℕ}
+use Rattle.operands.specs.Gather.{place_at}
+use Rattle.operands.proofs.Gathers.{gathering_starts, gathering_on, gathering_ends, counting_ends}
 use Rattle.operands.proofs.gather.Goals as goal
 
 pub loop-i-init : goal.loop-i-init
@@ -18,7 +15,7 @@ loop-i-preserved c =
     let place : ℕ → ℕ = place_at c.args.starts.now in
     let g = c.gather_at-n in
     let t = c.loop-i-test.true in
-    (gathering_on l.invariant.0 place t g.ensures.0 g.ensures.1.0, gathering_on l.invariant.1 place t g.ensures.0 g.ensures.1.1)
+    (gathering_on l.invariant.0 place t g.ensures.value g.ensures.places_after, gathering_on l.invariant.1 place t g.ensures.value g.ensures.sizes_after)
 
 pub shape_of-places : goal.shape_of-places
 shape_of-places c = c.loop-i.invariant.0.long
@@ -30,4 +27,4 @@ pub returns : goal.returns
 returns c =
     let l = c.loop-i in
     let t = c.loop-i-test.false in
-    (counting_ends l.invariant.0 t, (gathering_ends l.invariant.0 t, gathering_ends l.invariant.1 t))
+    record { value = counting_ends l.invariant.0 t; places_after = gathering_ends l.invariant.0 t; sizes_after = gathering_ends l.invariant.1 t }

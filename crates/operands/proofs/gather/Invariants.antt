@@ -1,9 +1,7 @@
-use borrow.Author.Rules.{rules}
-use Prim.Native.Nat.{ℕ, ◌-◌}
+use Prim.Native.Nat.{◌-◌}
 use lib.ListN.{length}
 use Rattle.operands.specs.Gather.{place_at, size_at}
-use Rattle.operands.proofs.Gathers.{Gathering, gathering_starts, gathering_on, gathering_ends, counting_ends}
-use Rattle.operands.proofs.gather_at.Reads as gather-at-reads
+use Rattle.operands.proofs.Gathers.{Gathering}
 use Rattle.operands.proofs.gather.Given as goal
 
 abbrev pub invariant-loop-i : goal.invariant-loop-i

@@ -1,11 +1,6 @@
-use borrow.Author.Rules.{rules}
-use Prim.Native.Nat.{◌-◌}
 use native.Mathlib.Omega.{arith}
-use lib.ListN.{length, length-set}
-use Rattle.operands.proofs.Marks.{Marking, marking_starts, marking_on, marking_past, marking_ends, asking_ends}
-use Rattle.operands.proofs.called.Reads as called-reads
-use Rattle.operands.proofs.literal.takes_patterns.Reads as takes-patterns-reads
-use Rattle.operands.proofs.mark_at.Reads as mark-at-reads
+use lib.ListN.{length-set}
+use Rattle.operands.proofs.Marks.{marking_starts, marking_on, marking_past, marking_ends, asking_ends}
 use Rattle.operands.proofs.mark.Goals as goal
 
 pub loop-i-init : goal.loop-i-init
@@ -26,4 +21,4 @@ shape_of-kinds c = c.loop-i.invariant.long
 
 pub returns : goal.returns
 returns c =
-    (asking_ends c.loop-i.invariant c.loop-i-test.false, marking_ends c.loop-i.invariant c.loop-i-test.false)
+    record { value = asking_ends c.loop-i.invariant c.loop-i-test.false; kinds_after = marking_ends c.loop-i.invariant c.loop-i-test.false }

@@ -1,7 +1,5 @@
 use mathlib.Core.Path.{◌∙◌}
 use Rattle.operands.proofs.Passes.{before_later}
-use borrow.Author.Rules.{rules}
-use Rattle.grammar.proofs.stream.kind.Reads as kind-reads
 use Rattle.operands.proofs.mark_before.Goals as goal
 
 pub returns-else-i-eq0 : goal.returns-else-i-eq0

@@ -1,7 +1,4 @@
 use borrow.Author.Tests.{eq-eqb, ne_eqb}
-use borrow.Author.Rules.{rules}
-use Rattle.operands.proofs.called.Reads as called-reads
-use Rattle.operands.proofs.digit_of.Reads as digit-of-reads
 use Rattle.operands.proofs.opens_after.Goals as goal
 
 pub returns-then-m-eq-OPEN : goal.returns-then-m-eq-OPEN

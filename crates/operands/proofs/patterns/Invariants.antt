@@ -1,11 +1,6 @@
-use borrow.Author.Tests.{not-true, not-false}
-use borrow.Author.Rules.{rules}
 use Prim.Native.Nat.{◌-◌}
 use lib.ListN.{length}
-use Rattle.operands.proofs.Passes.{Judging, judging_starts, judging_small, judging_wrong, judging_on, judging_ends}
-use Rattle.operands.proofs.mark_before.Reads as mark-before-reads
-use Rattle.operands.proofs.opens_after.Reads as opens-after-reads
-use Rattle.operands.proofs.right_at.Reads as right-at-reads
+use Rattle.operands.proofs.Passes.{Judging}
 use Rattle.operands.proofs.patterns.Given as goal
 
 abbrev pub invariant-loop-i : goal.invariant-loop-i

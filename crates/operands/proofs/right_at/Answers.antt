@@ -1,9 +1,4 @@
-use borrow.Author.Rules.{rules}
 use Rattle.operands.proofs.Passes.{right_unasked, right_judged, right_other}
-use Rattle.grammar.proofs.stream.start.Reads as start-reads
-use Rattle.operands.proofs.function_by.Reads as function-by-reads
-use Rattle.operands.proofs.is_later.Reads as is-later-reads
-use Rattle.operands.proofs.literal.literal_right.Reads as literal-right-reads
 use Rattle.operands.proofs.right_at.Goals as goal
 
 pub returns-then-function-eq0 : goal.returns-then-function-eq0

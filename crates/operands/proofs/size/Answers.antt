@@ -2,23 +2,18 @@ use mathlib.Core.Path.{sym, ◌∙◌}
 use native.Mathlib.Omega.{arith}
 use Rattle.grammar.proofs.Streams.{name_small, string_small}
 use Rattle.operands.proofs.Gathers.{no_bytes}
-use borrow.Author.Rules.{rules}
-use Rattle.lexer.proofs.name_length.Reads as name-length-reads
-use Rattle.lexer.proofs.string_length.Reads as string-length-reads
 use Rattle.operands.proofs.size.Goals as goal
 
 pub overflow_cast-result : goal.overflow_cast-result
 overflow_cast-result c =
-    let b = c.before.before.before.before in
-    omega (arith, c.name_length.ensures, name_small b.args.text.now b.args.at, b.requires)
+    omega (arith, c.name_length.ensures, name_small c.args.text.now c.args.at, c.requires)
 
 pub returns-then-k-eq-NAME : goal.returns-then-k-eq-NAME
 returns-then-k-eq-NAME c = c.name_length.ensures ∙ sym (rw c.if-k-eq-NAME.true)
 
 pub overflow_cast-result-then-k-eq-TEXT : goal.overflow_cast-result-then-k-eq-TEXT
 overflow_cast-result-then-k-eq-TEXT c =
-    let b = c.before.before.before.before.before in
-    omega (arith, c.string_length.ensures, string_small b.args.text.now b.args.at, b.requires)
+    omega (arith, c.string_length.ensures, string_small c.args.text.now c.args.at, c.requires)
 
 pub returns-then-k-eq-TEXT : goal.returns-then-k-eq-TEXT
 returns-then-k-eq-TEXT c = c.string_length.ensures ∙ sym (rw c.if-k-eq-TEXT.true)
