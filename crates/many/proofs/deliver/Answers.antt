@@ -4,20 +4,7 @@ use native.Mathlib.Omega.{arith}
 use lib.ListN.{length}
 use borrow.Author.Rules.{rules}
 use Rattle.many.proofs.Verdicts.{Delivering, delivering_first, delivering_on, place_left, delivered}
-use Rattle.many.proofs.deliver.Lts as lts
-use Rattle.many.proofs.deliver.Tie as tie
-use Rattle.many.proofs.deliver.Reads as reads
 use Rattle.many.proofs.deliver.Goals as goal
-
--- there is a place for the byte
-here : (c : lts.After-verdict tie.the-claims reads.Pre reads.Post goal.the-invariant-loop-at goal.the-decreases-loop-at) → c.loop-at.i < length c.loop-at.verdicts
-here c =
-    let s = c.before.before.before.before.before.before.before.before in
-    let a = s.args in
-    let l = c.loop-at in
-    let e = c.end_of-end in
-    let p = place_left a.tables.now a.notice.now a.verdicts.now l.verdicts l.i l.at l.invariant e.result (omega arith) e.ensures in
-    omega (arith, s.requires.3, l.invariant.room)
 
 pub loop-at-init : goal.loop-at-init
 loop-at-init c = let a = c.args in delivering_first a.tables.now a.notice.now a.verdicts.now
@@ -26,10 +13,20 @@ pub verdict-requires : goal.verdict-requires
 verdict-requires c = let p = c.requires in (p.0, p.1)
 
 pub bounds-verdicts-i : goal.bounds-verdicts-i
-bounds-verdicts-i c = omega (arith, here c.before)
+bounds-verdicts-i c =
+    let a = c.args in
+    let l = c.loop-at in
+    let e = c.end_of-end in
+    let p = place_left a.tables.now a.notice.now a.verdicts.now l.verdicts l.i l.at l.invariant e.result (omega arith) e.ensures in
+    omega (arith, c.requires.3, l.invariant.room)
 
 pub overflow_add-i : goal.overflow_add-i
-overflow_add-i c = omega (arith, here c.before)
+overflow_add-i c =
+    let a = c.args in
+    let l = c.loop-at in
+    let e = c.end_of-end in
+    let p = place_left a.tables.now a.notice.now a.verdicts.now l.verdicts l.i l.at l.invariant e.result (omega arith) e.ensures in
+    omega (arith, c.requires.3, l.invariant.room)
 
 pub loop-at-preserved : goal.loop-at-preserved
 loop-at-preserved c =

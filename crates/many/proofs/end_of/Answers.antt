@@ -5,13 +5,12 @@ use borrow.Author.Rules.{rules}
 use Rattle.many.proofs.end_of.Goals as goal
 
 pub returns-then-left-lt4 : goal.returns-then-left-lt4
-returns-then-left-lt4 c = let s = c.before.before.before in ends_short s.args.tables.now s.args.at s.requires (omega arith)
+returns-then-left-lt4 c = ends_short c.args.tables.now c.args.at c.requires (omega arith)
 
 pub returns-then-left-size : goal.returns-then-left-size
 returns-then-left-size c =
-    let s = c.before.before.before.before.before in ends_passes s.args.tables.now s.args.at s.requires (omega arith) (omega arith)
+    ends_passes c.args.tables.now c.args.at c.requires (omega arith) (omega arith)
 
 pub returns : goal.returns
 returns c =
-    let s = c.before.before.before.before.before in
-    rw c.read_u32-size.ensures (ends_lies s.args.tables.now s.args.at s.requires (omega arith) (omega arith))
+    rw c.read_u32-size.ensures (ends_lies c.args.tables.now c.args.at c.requires (omega arith) (omega arith))

@@ -12,11 +12,10 @@ pub judge-requires : goal.judge-requires
 judge-requires c =
     let a = c.args in
     let i = c.index-layout in
-    let well = sym i.ensures.0 ∙ c.enum_told-1.given.1 in
-    (well, subst (λ (t : List ℕ). Indexed a.notice.now t) (sym i.ensures.1) (stood_indexed a.notice.now well _ refl))
+    let well = sym i.ensures.value ∙ c.in-WellFormed.is in
+    (well, subst (λ (t : List ℕ). Indexed a.notice.now t) (sym i.ensures.starts_after) (stood_indexed a.notice.now well _ refl))
 
 pub returns-in-Fault : goal.returns-in-Fault
 returns-in-Fault c =
     let a = c.args in
-    let g = c.layout-1.given in
-    many_faulty a.tables.now a.notice.now a.verdicts.now c.refused.result g.0.0 (sym c.index-layout.ensures.0 ∙ g.1) c.refused.ensures
+    many_faulty a.tables.now a.notice.now a.verdicts.now c.refused.result c.in-Fault.place (sym c.index-layout.ensures.value ∙ c.in-Fault.is) c.refused.ensures

@@ -1,6 +1,5 @@
 -- `verdict` meets its contract: 3 for a table that is refused, else the byte of its run's verdict. Assumes nothing.
 use mathlib.Core.Path.{sym, ap, ◌∙◌}
-use borrow.Author.Tests.{not-true, not-false}
 use Rattle.interpreter.specs.declared.Ran.{Ran}
 use Rattle.interpreter.proofs.Answers.{neither_refused}
 use Rattle.many.proofs.Verdicts.{byte_refused, byte_ran}
@@ -10,17 +9,15 @@ use Rattle.many.proofs.verdict.Goals as goal
 pub returns-then-not-check : goal.returns-then-not-check
 returns-then-not-check c =
     let a = c.args in
-    byte_refused a.table.now a.notice.now (sym c.check.ensures ∙ not-true _ c.if-not-check.true)
+    byte_refused a.table.now a.notice.now (sym c.check.ensures ∙ c.if-not-check.true)
 
 pub run_whole-ran-requires : goal.run_whole-ran-requires
 run_whole-ran-requires c =
-    let s = c.before.before.before.before.before in
-    (sym c.check.ensures ∙ not-false _ c.if-not-check.false, s.requires.0, s.requires.1)
+    (sym c.check.ensures ∙ c.if-not-check.false, c.requires.0, c.requires.1)
 
 pub returns : goal.returns
 returns c =
-    let s = c.before.before.before.before.before.before.before in
-    let a = s.args in
+    let a = c.args in
     let r = c.run_whole-ran in
-    let checked = sym c.check.ensures ∙ not-false _ c.if-not-check.false in
-    c.number.ensures ∙ byte_ran a.table.now a.notice.now r.result (r.ensures ∙ neither_refused a.table.now a.notice.now checked s.requires.0) (ap (λ (x : Ran). x.number) r.ensures)
+    let checked = sym c.check.ensures ∙ c.if-not-check.false in
+    c.number.ensures ∙ byte_ran a.table.now a.notice.now r.result (r.ensures ∙ neither_refused a.table.now a.notice.now checked c.requires.0) (ap (λ (x : Ran). x.number) r.ensures)
