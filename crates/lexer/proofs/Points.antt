@@ -2,7 +2,7 @@
 use mathlib.Core.Path.{◌≡◌, refl, sym, ap, ◌∙◌}
 use mathlib.Core.Bool.{Bool, true, false, not, ◌&&◌, ◌||◌}
 use mathlib.Core.List.{List, [], ◌∷◌, ◌++◌, append-nil}
-use Prim.Native.Nat.{ℕ, suc, ◌+◌, ◌-◌, ◌^◌, ◌≤◌, ◌<◌}
+use Prim.Native.Nat.{ℕ, ◌+◌, ◌-◌, ◌^◌, ◌≤◌, ◌<◌}
 use native.Mathlib.Numerals.{add-one}
 use native.Mathlib.Omega.{arith}
 use lib.Dec.{eqb, leb}
@@ -10,11 +10,10 @@ use lib.IntN.{pos, nat_abs, ◌-ℤ◌}
 use lib.ListN.{length, get_or, drop, length-append}
 use lib.Seq.{drop-cons, drop-drop, drop-length, drop-append_seam}
 use borrow.Author.Tests.{le-leb, lt-ltb, ne_eqb}
-use Rattle.common.proofs.Choice.{false_true}
 use Rattle.lexer.specs.Byte.{is_digit_in}
 use Rattle.lexer.specs.Run.{run_of, is_empty}
 use Rattle.lexer.specs.Digits.{is_minus, digits_of, whole_from, whole_of, capped}
-use Rattle.lexer.specs.Real.{whole_digits, from_point, fraction_digits, exponent_part, exponent_digits, exponent_of, is_exponent, is_real, real_digits, no_zeros, real_fits}
+use Rattle.lexer.specs.Real.{whole_digits, from_point, fraction_digits, exponent_part, exponent_digits, exponent_of, is_exponent, is_real, no_zeros, real_fits}
 use Rattle.lexer.specs.Token.{scan_run, scan_number}
 use Rattle.lexer.specs.Answer.{scanned_of}
 use Rattle.lexer.specs.declared.Scanned.TheVariants.{Good}

@@ -10,7 +10,7 @@ use lib.Dec.{eqb, ltb}
 use lib.ListN.{length, get_or, take, drop, set, drop_of_length-le, length-drop, length-append, get_or-eq_default}
 use lib.Seq.{length-take-le, take-suc, drop-cons, append_snoc, drop-drop, get_or-drop, sets, set-set, set_comm, take_all, take-append_seam, drop-length}
 use borrow.Author.Tests.{eq-eqb, ne_eqb, ltb-true, eqb-true, eqb-false}
-use Rattle.common.proofs.Choice.{true_false, false_true}
+use Rattle.common.proofs.Choice.{false_true}
 use Rattle.octets.specs.Octets.{folded, same_of, begins_of}
 use Rattle.octets.proofs.Theorems.{and_parts, not_folded}
 use Rattle.lexer.specs.Byte.{is, is_delimiter, is_common}

@@ -1,6 +1,6 @@
 -- Digits, and the sign before them. Document 01, "Tokens", "Integers" and "Reals".
 -- A run is what stands up to whitespace, end, `(`, `)` or `,`. It is read as a whole: so "A number must be followed by" one of them is part of the form.
-use Rattle.std.specs.Prelude.{ℕ, ◌+◌, ◌*◌, min, Bool, cond, List, [], ◌∷◌, eqb, get_or}
+use Rattle.std.specs.Prelude.{ℕ, ◌+◌, ◌*◌, min, Bool, cond, List, [], ◌∷◌, get_or}
 use Rattle.lexer.specs.Byte.{is, is_digit_in, digit_of}
 
 -- "optional `-`"

@@ -7,11 +7,6 @@ use lib.Seq.{sets}
 use Rattle.lexer.specs.Run.{run_of, unescaped}
 use Rattle.lexer.specs.Token.{name_at}
 use Rattle.lexer.proofs.Runs.{empty, passes_all, stored_again}
-use borrow.Author.Rules.{rules}
-use Rattle.lexer.proofs.run.copy_common.Reads as copy-common-reads
-use Rattle.lexer.proofs.run.copy_plain.Reads as copy-plain-reads
-use Rattle.lexer.proofs.run.ended.Reads as ended-reads
-use Rattle.lexer.proofs.run.rest.Reads as rest-reads
 use Rattle.lexer.proofs.copy_name.Goals as goal
 
 pub returns-then-ended : goal.returns-then-ended

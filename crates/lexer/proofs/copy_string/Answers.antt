@@ -10,12 +10,6 @@ use Rattle.octets.proofs.Places.{neither}
 use Rattle.lexer.specs.Token.{string_at}
 use Rattle.lexer.specs.Answer.{Stand}
 use Rattle.lexer.proofs.Scans.{stand_length}
-use borrow.Author.Rules.{rules}
-use Rattle.common.proofs.copy_to.Reads as copy-to-reads
-use Rattle.lexer.proofs.plain_string.Reads as plain-string-reads
-use Rattle.lexer.proofs.run.byte_at.Reads as byte-at-reads
-use Rattle.lexer.proofs.run.copy_plain.Reads as copy-plain-reads
-use Rattle.lexer.proofs.run.rest.Reads as rest-reads
 use Rattle.lexer.proofs.copy_string.Goals as goal
 
 pub returns-then-n-part : goal.returns-then-n-part

@@ -6,11 +6,6 @@ use Rattle.lexer.specs.Byte.{within}
 use Rattle.lexer.proofs.Scans.{is_there}
 use mir.Syntax.{w64}
 use mir.ValLaws.{to_z-of_z}
-use borrow.Author.Rules.{rules}
-use Rattle.lexer.proofs.integer.integer_value.Reads as integer-value-reads
-use Rattle.lexer.proofs.integer.leading_value.Reads as leading-value-reads
-use Rattle.lexer.proofs.run.byte_at.Reads as byte-at-reads
-use Rattle.lexer.proofs.run.run.Reads as run-reads
 use Rattle.lexer.proofs.int_value.Goals as goal
 
 pub leading_value-requires : goal.leading_value-requires

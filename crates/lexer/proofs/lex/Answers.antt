@@ -1,11 +1,7 @@
-use Prim.Native.Nat.{◌≤◌, ◌<◌, ◌-◌, ◌+◌}
-use mathlib.Core.Path.{◌≡◌, refl, sym, ◌∙◌}
+use mathlib.Core.Path.{refl, sym, ◌∙◌}
 use native.Mathlib.Omega.{arith}
-use lib.ListN.{length, set, length-set}
-use Rattle.lexer.proofs.Streams.{Goes, goes_first, goes_space, goes_on, lexes_long, lexes_end, lexes_bad}
-use borrow.Author.Rules.{rules}
-use Rattle.lexer.proofs.byte.is_space.Reads as is-space-reads
-use Rattle.lexer.proofs.scan.Reads as scan-reads
+use lib.ListN.{length-set}
+use Rattle.lexer.proofs.Streams.{goes_first, goes_space, goes_on, lexes_long, lexes_end, lexes_bad}
 use Rattle.lexer.proofs.lex.Goals as goal
 
 pub returns-then-text-gt4096 : goal.returns-then-text-gt4096

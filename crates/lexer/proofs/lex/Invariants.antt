@@ -1,11 +1,7 @@
-use Prim.Native.Nat.{◌≤◌, ◌<◌, ◌-◌, ◌+◌}
-use mathlib.Core.Path.{◌≡◌, refl, sym, ◌∙◌}
-use native.Mathlib.Omega.{arith}
-use lib.ListN.{length, set, length-set}
-use Rattle.lexer.proofs.Streams.{Goes, goes_first, goes_space, goes_on, lexes_long, lexes_end, lexes_bad}
-use borrow.Author.Rules.{rules}
-use Rattle.lexer.proofs.byte.is_space.Reads as is-space-reads
-use Rattle.lexer.proofs.scan.Reads as scan-reads
+use Prim.Native.Nat.{◌≤◌, ◌-◌}
+use mathlib.Core.Path.{◌≡◌}
+use lib.ListN.{length}
+use Rattle.lexer.proofs.Streams.{Goes}
 use Rattle.lexer.proofs.lex.Given as goal
 
 abbrev pub invariant-loop-at : goal.invariant-loop-at

@@ -1,6 +1,3 @@
-use borrow.Author.Rules.{rules}
-use Rattle.lexer.proofs.run.has_escape.Reads as has-escape-reads
-use Rattle.lexer.proofs.run.run.Reads as run-reads
 use Rattle.lexer.proofs.name_escaped.Goals as goal
 
 pub returns : goal.returns

@@ -1,7 +1,4 @@
 use Rattle.lexer.proofs.Runs.{word_other}
-use borrow.Author.Rules.{rules}
-use Rattle.lexer.proofs.run.byte_at.Reads as byte-at-reads
-use Rattle.lexer.proofs.spells.Reads as spells-reads
 use Rattle.lexer.proofs.name_is.Goals as goal
 
 pub returns-then-word-byte_at : goal.returns-then-word-byte_at

@@ -4,11 +4,6 @@ use lib.ListN.{length, drop}
 use Rattle.lexer.specs.Run.{run_of, unescaped, is_empty}
 use mathlib.Core.Bool.{false}
 use Rattle.lexer.proofs.Runs.{rest_later, ended_name}
-use borrow.Author.Rules.{rules}
-use Rattle.lexer.proofs.run.common_end.Reads as common-end-reads
-use Rattle.lexer.proofs.run.ended.Reads as ended-reads
-use Rattle.lexer.proofs.run.plain_length.Reads as plain-length-reads
-use Rattle.lexer.proofs.run.rest.Reads as rest-reads
 use Rattle.lexer.proofs.name_length.Goals as goal
 
 pub returns-then-ended : goal.returns-then-ended

@@ -7,9 +7,6 @@ use borrow.Author.Tests.{ltb-true, leb-true}
 use Rattle.octets.proofs.Theorems.{and_parts}
 use Rattle.lexer.proofs.Wholes.{digits_fit}
 use Rattle.lexer.proofs.Points.{plain_real}
-use borrow.Author.Rules.{rules}
-use Rattle.lexer.proofs.digits.digits.Reads as digits-reads
-use Rattle.lexer.proofs.run.ended.Reads as ended-reads
 use Rattle.lexer.proofs.plain_real.Goals as goal
 
 pub overflow_add-point : goal.overflow_add-point

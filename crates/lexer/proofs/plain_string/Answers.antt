@@ -1,16 +1,11 @@
 use mathlib.Core.Bool.{true}
 use mathlib.Core.Path.{◌≡◌, refl, ◌∙◌, sym}
 use native.Mathlib.Omega.{arith}
-use Prim.Native.Nat.{ℕ, ◌<◌}
-use lib.ListN.{length, get_or}
-use borrow.Author.Tests.{not-false}
+use Prim.Native.Nat.{ℕ}
+use lib.ListN.{get_or}
 use mathlib.Core.List.{List}
 use Rattle.lexer.specs.Byte.{is_quote}
 use Rattle.lexer.proofs.Scans.{quote_some, string_stands, is_there}
-use borrow.Author.Rules.{rules}
-use Rattle.lexer.proofs.byte.is_quote.Reads as is-quote-reads
-use Rattle.lexer.proofs.run.byte_at.Reads as byte-at-reads
-use Rattle.lexer.proofs.run.unquoted_end.Reads as unquoted-end-reads
 use Rattle.lexer.proofs.plain_string.Goals as goal
 
 pub returns-then-not-is_quote : goal.returns-then-not-is_quote

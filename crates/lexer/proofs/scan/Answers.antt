@@ -9,14 +9,6 @@ use Rattle.lexer.specs.Byte.{starts_name, starts_number, is_quote}
 use Rattle.lexer.specs.Answer.{scanned_of}
 use Rattle.lexer.proofs.Runs.{byte_here}
 use Rattle.lexer.proofs.Scans.{is_name, is_number, is-string, is-symbol}
-use borrow.Author.Rules.{rules}
-use Rattle.lexer.proofs.byte.is_quote.Reads as is-quote-reads
-use Rattle.lexer.proofs.byte.starts_name.Reads as starts-name-reads
-use Rattle.lexer.proofs.starts_number.Reads as starts-number-reads
-use Rattle.lexer.proofs.scan_name.Reads as scan-name-reads
-use Rattle.lexer.proofs.scan_number.Reads as scan-number-reads
-use Rattle.lexer.proofs.scan_string.Reads as scan-string-reads
-use Rattle.lexer.proofs.symbol.scan_symbol.Reads as scan-symbol-reads
 use Rattle.lexer.proofs.scan.Lts as lts
 use Rattle.lexer.proofs.scan.Tie as tie
 use Rattle.lexer.proofs.scan.Reads as reads

@@ -1,11 +1,5 @@
 use mathlib.Core.Path.{◌∙◌, sym}
-use borrow.Author.Tests.{not-true, not-false}
 use Rattle.lexer.proofs.Scans.{integer_illegal, integer_over, long_legal, short_legal}
-use borrow.Author.Rules.{rules}
-use Rattle.lexer.proofs.integer.integer_digits.Reads as integer-digits-reads
-use Rattle.lexer.proofs.integer.integer_fits.Reads as integer-fits-reads
-use Rattle.lexer.proofs.integer.is_integer.Reads as is-integer-reads
-use Rattle.lexer.proofs.integer.is_long.Reads as is-long-reads
 use Rattle.lexer.proofs.scan_integer.Goals as goal
 
 pub returns-then-not-is_integer : goal.returns-then-not-is_integer

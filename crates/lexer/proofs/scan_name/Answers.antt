@@ -2,7 +2,6 @@ use mathlib.Core.List.{List}
 use Prim.Native.Nat.{ℕ, ◌≤◌, ◌-◌}
 use mathlib.Core.Bool.{true, false}
 use lib.ListN.{length, drop}
-use borrow.Author.Tests.{not-false}
 use Rattle.lexer.specs.Run.{GoesOn, run_of, unescaped, legal_name, is_empty}
 use mathlib.Core.Path.{◌≡◌, ◌∙◌, sym, ap}
 use Rattle.lexer.specs.Token.{scan_name}
@@ -10,11 +9,6 @@ use Rattle.lexer.specs.Answer.{scanned_of}
 use Rattle.lexer.specs.declared.Scanned.TheVariants.{Good}
 use Rattle.lexer.proofs.Runs.{rest_later, ended_name}
 use Rattle.lexer.proofs.Scans.{name_over, name_legal}
-use borrow.Author.Rules.{rules}
-use Rattle.lexer.proofs.run.common_end.Reads as common-end-reads
-use Rattle.lexer.proofs.run.ended.Reads as ended-reads
-use Rattle.lexer.proofs.run.rest.Reads as rest-reads
-use Rattle.lexer.proofs.scan_odd_name.Reads as scan-odd-name-reads
 use Rattle.lexer.proofs.scan_name.Goals as goal
 
 pub scan_odd_name-requires : goal.scan_odd_name-requires

@@ -9,13 +9,6 @@ use Rattle.octets.proofs.Theorems.{and_parts}
 use Rattle.lexer.specs.Byte.{within}
 use Rattle.lexer.proofs.Wholes.{digits_fit}
 use Rattle.lexer.proofs.Scans.{short_number, long_number}
-use borrow.Author.Rules.{rules}
-use Rattle.lexer.proofs.again.Reads as again-reads
-use Rattle.lexer.proofs.digits.digits.Reads as digits-reads
-use Rattle.lexer.proofs.plain_real.Reads as plain-real-reads
-use Rattle.lexer.proofs.run.byte_at.Reads as byte-at-reads
-use Rattle.lexer.proofs.run.ended.Reads as ended-reads
-use Rattle.lexer.proofs.scan_odd_number.Reads as scan-odd-number-reads
 use Rattle.lexer.proofs.scan_number.Goals as goal
 
 pub returns-then-leads-n : goal.returns-then-leads-n

@@ -1,8 +1,6 @@
 use mathlib.Core.Path.{◌∙◌, sym}
 use borrow.Author.Tests.{not-true, not-false}
 use Rattle.lexer.proofs.Scans.{name_illegal, name_over, name_legal}
-use borrow.Author.Rules.{rules}
-use Rattle.lexer.proofs.run.measure_name.Reads as measure-name-reads
 use Rattle.lexer.proofs.scan_odd_name.Goals as goal
 
 pub returns-then-not-m : goal.returns-then-not-m

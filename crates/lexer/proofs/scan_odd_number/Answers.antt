@@ -1,15 +1,7 @@
 use mathlib.Core.Path.{◌∙◌, sym, ap}
-use borrow.Author.Tests.{not-true, not-false}
 use Rattle.lexer.specs.Token.{scan_run}
 use Rattle.lexer.specs.Answer.{scanned_of}
 use Rattle.lexer.proofs.Scans.{real_over, real_legal, scan_integer_lem}
-use borrow.Author.Rules.{rules}
-use Rattle.lexer.proofs.real.fraction_digits.Reads as fraction-digits-reads
-use Rattle.lexer.proofs.real.is_real.Reads as is-real-reads
-use Rattle.lexer.proofs.real.real_fits.Reads as real-fits-reads
-use Rattle.lexer.proofs.real.whole_digits.Reads as whole-digits-reads
-use Rattle.lexer.proofs.run.run.Reads as run-reads
-use Rattle.lexer.proofs.scan_integer.Reads as scan-integer-reads
 use Rattle.lexer.proofs.scan_odd_number.Goals as goal
 
 pub returns-then-not-is_real : goal.returns-then-not-is_real

@@ -1,7 +1,4 @@
 use Rattle.lexer.proofs.Scans.{string_open, string_legal}
-use borrow.Author.Rules.{rules}
-use Rattle.lexer.proofs.run.body.Reads as body-Reads
-use Rattle.lexer.proofs.run.rest.Reads as rest-reads
 use Rattle.lexer.proofs.scan_odd_string.Goals as goal
 
 pub returns-then-after-eq0 : goal.returns-then-after-eq0

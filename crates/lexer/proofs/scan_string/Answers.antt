@@ -4,10 +4,6 @@ use lib.ListN.{get_or}
 use Rattle.lexer.specs.Token.{scan_string}
 use Rattle.lexer.specs.Answer.{scanned_of}
 use Rattle.lexer.proofs.Scans.{quote_some, string_unclosed, string_closed}
-use borrow.Author.Rules.{rules}
-use Rattle.lexer.proofs.run.rest.Reads as rest-reads
-use Rattle.lexer.proofs.run.unquoted_end.Reads as unquoted-end-reads
-use Rattle.lexer.proofs.scan_odd_string.Reads as scan-odd-string-reads
 use Rattle.lexer.proofs.scan_string.Goals as goal
 
 pub unquoted_end-end-requires : goal.unquoted_end-end-requires

@@ -1,10 +1,6 @@
 use mathlib.Core.Path.{sym, ◌∙◌}
 use lib.ListN.{drop}
 use Rattle.lexer.proofs.Runs.{word_begins, word_goes_on}
-use borrow.Author.Rules.{rules}
-use Rattle.lexer.proofs.run.ended.Reads as ended-reads
-use Rattle.lexer.proofs.run.rest.Reads as rest-reads
-use Rattle.octets.proofs.begins.Reads as begins-reads
 use Rattle.lexer.proofs.spells.Goals as goal
 
 pub returns-then-ended : goal.returns-then-ended

@@ -2,9 +2,6 @@ use mathlib.Core.Path.{sym}
 use mathlib.Core.Bool.{or-false}
 use borrow.Author.Tests.{ne_eqb}
 use Rattle.lexer.specs.Byte.{is_digit_in}
-use borrow.Author.Rules.{rules}
-use Rattle.lexer.proofs.byte.is_decimal.Reads as is-decimal-reads
-use Rattle.lexer.proofs.run.byte_at.Reads as byte-at-reads
 use Rattle.lexer.proofs.starts_number.Goals as goal
 
 pub returns-then-a-eq45 : goal.returns-then-a-eq45

@@ -1,11 +1,6 @@
 use Prim.Native.Nat.{◌+◌, ◌-◌}
 use Rattle.lexer.specs.Token.{string_at}
 use Rattle.lexer.proofs.Scans.{stand_length}
-use borrow.Author.Rules.{rules}
-use Rattle.lexer.proofs.plain_string.Reads as plain-string-reads
-use Rattle.lexer.proofs.run.byte_at.Reads as byte-at-reads
-use Rattle.lexer.proofs.run.plain_length.Reads as plain-length-reads
-use Rattle.lexer.proofs.run.rest.Reads as rest-reads
 use Rattle.lexer.proofs.string_length.Goals as goal
 
 pub returns-then-n-eq0 : goal.returns-then-n-eq0

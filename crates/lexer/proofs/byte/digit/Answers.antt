@@ -1,6 +1,5 @@
 use native.Mathlib.Omega.{arith}
 use Rattle.lexer.proofs.Bytes.{range, tens, smalls, capitals, no_digit}
-use borrow.Author.Rules.{rules}
 use Rattle.lexer.proofs.byte.digit.Goals as goal
 
 pub overflow_sub-result : goal.overflow_sub-result

@@ -1,11 +1,6 @@
 use Prim.Native.Nat.{◌≤◌, ◌-◌}
-use mathlib.Core.Path.{refl}
-use native.Mathlib.Omega.{arith}
 use lib.ListN.{length}
-use Rattle.lexer.proofs.Wholes.{digits_stop, digits_end, Same, read_more, read_end}
-use borrow.Author.Rules.{rules}
-use Rattle.lexer.proofs.byte.digit.Reads as digit-reads
-use Rattle.lexer.proofs.digits.with_digit.Reads as with-digit-reads
+use Rattle.lexer.proofs.Wholes.{Same}
 use Rattle.lexer.proofs.digits.digits.Given as goal
 
 abbrev pub invariant-loop-i : goal.invariant-loop-i

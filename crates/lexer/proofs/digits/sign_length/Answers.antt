@@ -1,7 +1,5 @@
 use mathlib.Core.Path.{sym, ◌∙◌}
 use native.Mathlib.Omega.{arith}
-use borrow.Author.Rules.{rules}
-use Rattle.lexer.proofs.digits.is_minus.Reads as is-minus-reads
 use Rattle.lexer.proofs.digits.sign_length.Goals as goal
 
 pub returns-then-is_minus : goal.returns-then-is_minus

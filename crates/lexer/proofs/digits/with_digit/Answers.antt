@@ -1,6 +1,5 @@
 use native.Mathlib.Omega.{arith}
 use Rattle.lexer.proofs.Wholes.{small, over, under}
-use borrow.Author.Rules.{rules}
 use Rattle.lexer.proofs.digits.with_digit.Goals as goal
 
 pub overflow_mul-result : goal.overflow_mul-result

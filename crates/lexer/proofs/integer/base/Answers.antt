@@ -1,10 +1,6 @@
 use mathlib.Core.Path.{sym, ◌∙◌}
 use native.Mathlib.Omega.{arith}
 use borrow.Author.Tests.{eq-eqb, ne_eqb}
-use borrow.Author.Rules.{rules}
-use Rattle.lexer.proofs.digits.sign_length.Reads as sign-length-reads
-use Rattle.lexer.proofs.integer.is_hex.Reads as is-hex-reads
-use Rattle.lexer.proofs.run.byte_at.Reads as byte-at-reads
 use Rattle.lexer.proofs.integer.base.Goals as goal
 
 pub returns-then-is_hex : goal.returns-then-is_hex

@@ -1,9 +1,5 @@
 use mathlib.Core.Path.{sym, ◌∙◌}
 use Rattle.lexer.proofs.Wholes.{decimal_prefix}
-use borrow.Author.Rules.{rules}
-use Rattle.lexer.proofs.digits.digits.Reads as digits-reads
-use Rattle.lexer.proofs.integer.base.Reads as base-reads
-use Rattle.lexer.proofs.integer.prefix_length.Reads as prefix-length-reads
 use Rattle.lexer.proofs.integer.integer_digits.Goals as goal
 
 pub returns-then-b-eq10 : goal.returns-then-b-eq10

@@ -3,9 +3,6 @@ use lib.Dec.{lit≤}
 use Rattle.lexer.specs.Digits.{is_minus, whole_of}
 use Rattle.lexer.specs.Integer.{base_of, integer_digits}
 use Rattle.lexer.proofs.Signs.{fits_capped}
-use borrow.Author.Rules.{rules}
-use Rattle.lexer.proofs.digits.is_minus.Reads as is-minus-reads
-use Rattle.lexer.proofs.integer.fits.Reads as fits-reads
 use Rattle.lexer.proofs.integer.integer_fits.Goals as goal
 
 pub returns-then-long : goal.returns-then-long

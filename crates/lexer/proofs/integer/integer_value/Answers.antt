@@ -4,12 +4,6 @@ use mir.ValLaws.{to_z-of_z}
 use Rattle.lexer.specs.Digits.{is_minus, whole_of}
 use Rattle.lexer.specs.Integer.{base_of, integer_digits}
 use Rattle.lexer.proofs.Signs.{held_capped}
-use borrow.Author.Rules.{rules}
-use Rattle.lexer.proofs.digits.digits.Reads as digits-reads
-use Rattle.lexer.proofs.digits.is_minus.Reads as is-minus-reads
-use Rattle.lexer.proofs.integer.base.Reads as base-reads
-use Rattle.lexer.proofs.integer.prefix_length.Reads as prefix-length-reads
-use Rattle.lexer.proofs.integer.signed.Reads as signed-Reads
 use Rattle.lexer.proofs.integer.integer_value.Goals as goal
 
 pub returns : goal.returns

@@ -3,9 +3,6 @@ use native.Mathlib.Omega.{arith}
 use lib.ListN.{length}
 use borrow.Author.Tests.{eq-eqb, ne_eqb}
 use Rattle.lexer.specs.Integer.{integer_digits}
-use borrow.Author.Rules.{rules}
-use Rattle.lexer.proofs.integer.prefix_length.Reads as prefix-length-reads
-use Rattle.lexer.proofs.run.rest.Reads as rest-reads
 use Rattle.lexer.proofs.integer.is_integer.Goals as goal
 
 pub returns-then-end-prefix_length : goal.returns-then-end-prefix_length

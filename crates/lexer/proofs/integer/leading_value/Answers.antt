@@ -7,9 +7,6 @@ use Rattle.lexer.specs.Digits.{digits_of, whole_of}
 use Rattle.lexer.specs.Integer.{held}
 use Rattle.lexer.proofs.Signs.{held_capped}
 use Rattle.lexer.proofs.Scans.{leading_integer}
-use borrow.Author.Rules.{rules}
-use Rattle.lexer.proofs.digits.digits.Reads as digits-reads
-use Rattle.lexer.proofs.integer.signed.Reads as signed-Reads
 use Rattle.lexer.proofs.integer.leading_value.Goals as goal
 
 pub returns : goal.returns

@@ -1,8 +1,5 @@
 use mathlib.Core.Path.{sym, ◌∙◌}
 use native.Mathlib.Omega.{arith}
-use borrow.Author.Rules.{rules}
-use Rattle.lexer.proofs.digits.sign_length.Reads as sign-length-reads
-use Rattle.lexer.proofs.integer.is_hex.Reads as is-hex-reads
 use Rattle.lexer.proofs.integer.prefix_length.Goals as goal
 
 pub returns-then-is_hex : goal.returns-then-is_hex

@@ -1,5 +1,4 @@
 use Rattle.lexer.proofs.Signs.{signed_zero, signed_below, signed_beneath, signed_kept, signed_above}
-use borrow.Author.Rules.{rules}
 use Rattle.lexer.proofs.integer.signed.Goals as goal
 
 pub returns-then-size-eq0 : goal.returns-then-size-eq0

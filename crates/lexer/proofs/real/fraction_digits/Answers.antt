@@ -3,7 +3,6 @@ use native.Mathlib.Omega.{arith}
 use lib.Dec.{lit<, lit≤}
 use Rattle.lexer.specs.Real.{whole_digits, fraction_digits}
 use Rattle.lexer.proofs.Decimals.{after_point, point_fits, whole_parts}
-use Rattle.lexer.proofs.digits.digits.Reads as digits-reads
 use Rattle.lexer.proofs.real.fraction_digits.Goals as goal
 
 pub overflow_add-whole : goal.overflow_add-whole

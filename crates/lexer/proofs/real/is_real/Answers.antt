@@ -1,9 +1,4 @@
 use Rattle.lexer.proofs.Decimals.{from_exponent, no_point, with_point}
-use borrow.Author.Rules.{rules}
-use Rattle.lexer.proofs.digits.sign_length.Reads as sign-length-reads
-use Rattle.lexer.proofs.real.is_exponent.Reads as is-exponent-reads
-use Rattle.lexer.proofs.run.byte_at.Reads as byte-at-reads
-use Rattle.lexer.proofs.run.rest.Reads as rest-reads
 use Rattle.lexer.proofs.real.is_real.Goals as goal
 
 pub returns-then-byte_at-ne46 : goal.returns-then-byte_at-ne46

@@ -5,11 +5,6 @@ use lib.ListN.{length, drop}
 use borrow.Author.Tests.{le-leb, lt-leb}
 use Rattle.lexer.specs.Real.{exponent_part, exponent_digits, real_digits}
 use Rattle.lexer.proofs.Decimals.{from_exponent, fifteen_capped, real_decimal}
-use borrow.Author.Rules.{rules}
-use Rattle.lexer.proofs.real.exponent_digits.Reads as exponent-digits-reads
-use Rattle.lexer.proofs.real.scale.Reads as scale-reads
-use Rattle.lexer.proofs.real.sign_end.Reads as sign-end-reads
-use Rattle.lexer.proofs.run.rest.Reads as rest-reads
 use Rattle.lexer.proofs.real.real_fits.Lts as lts
 use Rattle.lexer.proofs.real.real_fits.Tie as tie
 use Rattle.lexer.proofs.real.real_fits.Reads as reads

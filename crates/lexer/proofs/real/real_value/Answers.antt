@@ -1,15 +1,6 @@
 use mathlib.Core.Path.{◌∙◌, sym}
-use borrow.Author.Tests.{not-true, not-false}
 use Rattle.lexer.specs.Real.{real_digits}
 use Rattle.lexer.proofs.Decimals.{real_decimal, kept_small, fits_parts}
-use borrow.Author.Rules.{rules}
-use Rattle.lexer.proofs.digits.is_minus.Reads as is-minus-reads
-use Rattle.lexer.proofs.real.fraction_digits.Reads as fraction-digits-reads
-use Rattle.lexer.proofs.real.no_number.Reads as no-number-reads
-use Rattle.lexer.proofs.real.real_fits.Reads as real-fits-reads
-use Rattle.lexer.proofs.real.scale.Reads as scale-reads
-use Rattle.lexer.proofs.real.whole_digits.Reads as whole-digits-reads
-use Rattle.number.proofs.decimal.Reads as decimal-reads
 use Rattle.lexer.proofs.real.real_value.Goals as goal
 
 pub returns-then-not-real_fits : goal.returns-then-not-real_fits

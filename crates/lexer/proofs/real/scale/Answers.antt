@@ -5,10 +5,6 @@ use lib.ListN.{length, drop}
 use Rattle.lexer.specs.Digits.{whole_of}
 use Rattle.lexer.specs.Real.{exponent_part, exponent_digits, after_sign, fraction_digits, is_down}
 use Rattle.lexer.proofs.Decimals.{from_exponent, fraction_fits, scale_down, scale_below, scale_above, digits_decimal, three_small}
-use borrow.Author.Rules.{rules}
-use Rattle.lexer.proofs.real.exponent_digits.Reads as exponent-digits-reads
-use Rattle.lexer.proofs.real.is_down.Reads as is-down-reads
-use Rattle.lexer.proofs.run.rest.Reads as rest-reads
 use Rattle.lexer.proofs.real.scale.Lts as lts
 use Rattle.lexer.proofs.real.scale.Tie as tie
 use Rattle.lexer.proofs.real.scale.Reads as reads

@@ -1,7 +1,4 @@
 use native.Mathlib.Omega.{arith}
-use borrow.Author.Rules.{rules}
-use Rattle.lexer.proofs.real.is_down.Reads as is-down-reads
-use Rattle.lexer.proofs.run.byte_at.Reads as byte-at-reads
 use Rattle.lexer.proofs.real.sign_end.Goals as goal
 
 pub returns-then-byte_at-is_down : goal.returns-then-byte_at-is_down

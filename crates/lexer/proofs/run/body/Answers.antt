@@ -1,6 +1,3 @@
-use borrow.Author.Rules.{rules}
-use Rattle.lexer.proofs.run.byte_at.Reads as byte-at-reads
-use Rattle.lexer.proofs.run.run.Reads as run-reads
 use Rattle.lexer.proofs.run.body.Goals as goal
 
 pub returns : goal.returns

@@ -1,5 +1,4 @@
 use Rattle.lexer.proofs.Runs.{past_byte}
-use borrow.Author.Rules.{rules}
 use Rattle.lexer.proofs.run.byte_at.Goals as goal
 
 pub returns-else-at-s : goal.returns-else-at-s

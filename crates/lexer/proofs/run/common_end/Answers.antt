@@ -1,13 +1,9 @@
-use Prim.Native.Nat.{◌≤◌, ◌-◌, ◌+◌}
+use Prim.Native.Nat.{◌-◌}
 use mathlib.Core.Path.{◌≡◌, refl, sym, ◌∙◌}
 use native.Mathlib.Omega.{arith}
-use lib.ListN.{length, get_or, drop}
-use borrow.Author.Tests.{not-false}
-use Rattle.lexer.specs.Run.{GoesOn}
+use lib.ListN.{get_or, drop}
 use Rattle.lexer.proofs.Bytes.{low_common}
 use Rattle.lexer.proofs.Runs.{passes_first, goes_on_at}
-use borrow.Author.Rules.{rules}
-use Rattle.lexer.proofs.byte.is_common.Reads as is-common-reads
 use Rattle.lexer.proofs.run.common_end.Goals as goal
 
 pub loop-i-init : goal.loop-i-init

@@ -1,13 +1,6 @@
-use Prim.Native.Nat.{◌≤◌, ◌-◌, ◌+◌}
-use mathlib.Core.Path.{◌≡◌, refl, sym, ◌∙◌}
-use native.Mathlib.Omega.{arith}
-use lib.ListN.{length, get_or, drop}
-use borrow.Author.Tests.{not-false}
+use Prim.Native.Nat.{◌≤◌, ◌-◌}
+use lib.ListN.{length, drop}
 use Rattle.lexer.specs.Run.{GoesOn}
-use Rattle.lexer.proofs.Bytes.{low_common}
-use Rattle.lexer.proofs.Runs.{passes_first, goes_on_at}
-use borrow.Author.Rules.{rules}
-use Rattle.lexer.proofs.byte.is_common.Reads as is-common-reads
 use Rattle.lexer.proofs.run.common_end.Given as goal
 
 abbrev pub invariant-loop-i : goal.invariant-loop-i

@@ -1,16 +1,10 @@
-use Prim.Native.Nat.{ℕ, ◌≤◌, ◌-◌, ◌+◌}
-use mathlib.Core.Path.{◌≡◌, refl, sym, ap, ◌∙◌}
+use Prim.Native.Nat.{ℕ}
+use mathlib.Core.Path.{refl, sym, ap, ◌∙◌}
 use mathlib.Core.List.{List}
 use native.Mathlib.Omega.{arith}
-use lib.ListN.{length, get_or, take, set, length-set}
-use lib.Seq.{sets}
-use borrow.Author.Tests.{not-false}
-use Rattle.lexer.specs.Run.{GoesOn}
+use lib.ListN.{get_or, set, length-set}
 use Rattle.lexer.proofs.Bytes.{low_common}
 use Rattle.lexer.proofs.Runs.{passes_first, goes_on, stored_on}
-use borrow.Author.Rules.{rules}
-use Rattle.lexer.proofs.byte.is_common.Reads as is-common-reads
-use Rattle.lexer.proofs.run.least.Reads as least-reads
 use Rattle.lexer.proofs.run.copy_common.Goals as goal
 
 pub loop-i-init : goal.loop-i-init

@@ -1,15 +1,7 @@
-use Prim.Native.Nat.{◌≤◌, ◌-◌, ◌+◌}
-use mathlib.Core.Path.{◌≡◌, refl, sym, ap, ◌∙◌}
-use mathlib.Core.Bool.{false}
+use mathlib.Core.Path.{refl, sym, ap, ◌∙◌}
 use native.Mathlib.Omega.{arith}
-use lib.ListN.{length, drop, length-set}
-use lib.Seq.{sets}
-use Rattle.lexer.specs.Run.{run_from, run_of, unescaped}
+use lib.ListN.{length, length-set}
 use Rattle.lexer.proofs.Runs.{dropped, kept, copied, plain_stop, plain_end}
-use borrow.Author.Rules.{rules}
-use Rattle.lexer.proofs.run.ends.Reads as ends-reads
-use Rattle.lexer.proofs.run.put.Reads as put_reads
-use Rattle.lexer.proofs.run.takes.Reads as takes-reads
 use Rattle.lexer.proofs.run.copy_plain.Goals as goal
 
 pub loop-i-init : goal.loop-i-init

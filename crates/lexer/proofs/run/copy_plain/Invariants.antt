@@ -1,15 +1,9 @@
 use Prim.Native.Nat.{◌≤◌, ◌-◌, ◌+◌}
-use mathlib.Core.Path.{◌≡◌, refl, sym, ap, ◌∙◌}
+use mathlib.Core.Path.{◌≡◌}
 use mathlib.Core.Bool.{false}
-use native.Mathlib.Omega.{arith}
-use lib.ListN.{length, drop, length-set}
+use lib.ListN.{length, drop}
 use lib.Seq.{sets}
 use Rattle.lexer.specs.Run.{run_from, run_of, unescaped}
-use Rattle.lexer.proofs.Runs.{dropped, kept, copied, plain_stop, plain_end}
-use borrow.Author.Rules.{rules}
-use Rattle.lexer.proofs.run.ends.Reads as ends-reads
-use Rattle.lexer.proofs.run.put.Reads as put_reads
-use Rattle.lexer.proofs.run.takes.Reads as takes-reads
 use Rattle.lexer.proofs.run.copy_plain.Given as goal
 
 abbrev pub invariant-loop-i : goal.invariant-loop-i

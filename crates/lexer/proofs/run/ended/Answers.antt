@@ -1,8 +1,6 @@
 use mathlib.Core.Path.{◌∙◌}
 use native.Mathlib.Omega.{arith}
 use Rattle.lexer.proofs.Runs.{ends_here, ends_past}
-use borrow.Author.Rules.{rules}
-use Rattle.lexer.proofs.byte.is_delimiter.Reads as is-delimiter-reads
 use Rattle.lexer.proofs.run.ended.Goals as goal
 
 pub returns-then-at-s : goal.returns-then-at-s

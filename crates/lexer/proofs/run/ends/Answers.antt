@@ -1,7 +1,5 @@
 use mathlib.Core.Path.{◌∙◌}
 use Rattle.lexer.proofs.Runs.{ends_delimiter, ends_quote}
-use borrow.Author.Rules.{rules}
-use Rattle.lexer.proofs.byte.is_delimiter.Reads as is-delimiter-reads
 use Rattle.lexer.proofs.run.ends.Goals as goal
 
 pub returns-then-quote-eq0 : goal.returns-then-quote-eq0

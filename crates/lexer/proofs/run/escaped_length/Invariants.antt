@@ -1,13 +1,8 @@
 use Prim.Native.Nat.{◌≤◌, ◌-◌, ◌+◌}
-use mathlib.Core.Path.{◌≡◌, sym, ap, ◌∙◌}
+use mathlib.Core.Path.{◌≡◌}
 use mathlib.Core.Bool.{false}
-use native.Mathlib.Omega.{arith}
 use lib.ListN.{length, drop}
 use Rattle.lexer.specs.Run.{run_from, run_of, unescaped}
-use Rattle.lexer.proofs.Runs.{dropped, kept, plain_stop, plain_end}
-use borrow.Author.Rules.{rules}
-use Rattle.lexer.proofs.run.ends.Reads as ends-reads
-use Rattle.lexer.proofs.run.takes.Reads as takes-reads
 use Rattle.lexer.proofs.run.escaped_length.Given as goal
 
 abbrev pub invariant-loop-i : goal.invariant-loop-i

@@ -1,12 +1,7 @@
-use Prim.Native.Nat.{◌-◌}
 use mathlib.Core.Path.{sym, ◌∙◌}
 use mathlib.Core.Bool.{false}
 use native.Mathlib.Omega.{arith}
-use lib.ListN.{length}
-use Rattle.lexer.specs.Run.{Free}
 use Rattle.lexer.proofs.Runs.{plain_stop, plain_end, free_more}
-use borrow.Author.Rules.{rules}
-use Rattle.lexer.proofs.run.ends.Reads as ends-reads
 use Rattle.lexer.proofs.run.free_length.Goals as goal
 
 pub loop-i-init : goal.loop-i-init

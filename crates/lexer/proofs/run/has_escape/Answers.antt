@@ -1,10 +1,6 @@
-use Prim.Native.Nat.{◌≤◌, ◌-◌}
-use mathlib.Core.Path.{◌≡◌, refl, ◌∙◌}
+use mathlib.Core.Path.{refl, ◌∙◌}
 use native.Mathlib.Omega.{arith}
-use lib.ListN.{length, drop}
-use Rattle.lexer.specs.Run.{has_escape}
 use Rattle.lexer.proofs.Runs.{escape_here, escape_later, no_escape}
-use borrow.Author.Rules.{rules}
 use Rattle.lexer.proofs.run.has_escape.Goals as goal
 
 pub loop-i-init : goal.loop-i-init

@@ -1,10 +1,7 @@
 use Prim.Native.Nat.{◌≤◌, ◌-◌}
-use mathlib.Core.Path.{◌≡◌, refl, ◌∙◌}
-use native.Mathlib.Omega.{arith}
+use mathlib.Core.Path.{◌≡◌}
 use lib.ListN.{length, drop}
 use Rattle.lexer.specs.Run.{has_escape}
-use Rattle.lexer.proofs.Runs.{escape_here, escape_later, no_escape}
-use borrow.Author.Rules.{rules}
 use Rattle.lexer.proofs.run.has_escape.Given as goal
 
 abbrev pub invariant-loop-i : goal.invariant-loop-i

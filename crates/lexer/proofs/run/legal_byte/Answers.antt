@@ -1,5 +1,3 @@
-use borrow.Author.Rules.{rules}
-use Rattle.lexer.proofs.byte.is_plain.Reads as is-plain-reads
 use Rattle.lexer.proofs.run.legal_byte.Goals as goal
 
 pub returns-then-taken : goal.returns-then-taken

@@ -1,14 +1,8 @@
-use Prim.Native.Nat.{◌≤◌, ◌-◌, ◌+◌}
-use mathlib.Core.Path.{◌≡◌, sym, ap, ◌∙◌}
-use mathlib.Core.Bool.{true, false, ◌&&◌}
+use mathlib.Core.Path.{sym, ap, ◌∙◌}
+use mathlib.Core.Bool.{true, false}
 use native.Mathlib.Omega.{arith}
-use lib.ListN.{length, drop}
-use Rattle.lexer.specs.Run.{run_from, run_of, unescaped, legal_name}
+use lib.ListN.{length}
 use Rattle.lexer.proofs.Runs.{passes_length, run_stop, run_more, run_end, dropped, kept, plain_stop, plain_end, legal-so-far, legal_stop, legal_end}
-use borrow.Author.Rules.{rules}
-use Rattle.lexer.proofs.run.ends.Reads as ends-reads
-use Rattle.lexer.proofs.run.legal_byte.Reads as legal-byte-reads
-use Rattle.lexer.proofs.run.takes.Reads as takes-reads
 use Rattle.lexer.proofs.run.measure_name.Goals as goal
 
 pub loop-i-init : goal.loop-i-init

@@ -1,10 +1,6 @@
 use mathlib.Core.Path.{ap}
 use native.Mathlib.Omega.{arith}
 use lib.ListN.{length}
-use borrow.Author.Rules.{rules}
-use Rattle.lexer.proofs.run.byte_at.Reads as byte-at-reads
-use Rattle.lexer.proofs.run.escaped_length.Reads as escaped-length-reads
-use Rattle.lexer.proofs.run.free_length.Reads as free-length-reads
 use Rattle.lexer.proofs.run.plain_length.Goals as goal
 
 pub returns : goal.returns

@@ -1,6 +1,5 @@
 use mathlib.Core.Path.{sym}
 use lib.Seq.{set_out}
-use borrow.Author.Rules.{rules}
 use Rattle.lexer.proofs.run.put.Goals as goal
 
 pub returns-else-at-part : goal.returns-else-at-part

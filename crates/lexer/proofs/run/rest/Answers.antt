@@ -1,5 +1,4 @@
 use Rattle.lexer.proofs.Runs.{to_end, past_part}
-use borrow.Author.Rules.{rules}
 use Rattle.lexer.proofs.run.rest.Goals as goal
 
 pub returns-then-n-at : goal.returns-then-n-at

@@ -3,9 +3,6 @@ use mathlib.Core.Bool.{false}
 use native.Mathlib.Omega.{arith}
 use Rattle.lexer.specs.Run.{run_of}
 use Rattle.lexer.proofs.Runs.{run_first, first_part, first_fits}
-use borrow.Author.Rules.{rules}
-use Rattle.lexer.proofs.run.rest.Reads as rest-reads
-use Rattle.lexer.proofs.run.run_length.Reads as run-length-reads
 use Rattle.lexer.proofs.run.run.Goals as goal
 
 pub slice_bounds-result-end : goal.slice_bounds-result-end

@@ -1,12 +1,7 @@
 use Prim.Native.Nat.{◌≤◌, ◌-◌, ◌+◌}
 use mathlib.Core.Path.{◌≡◌}
-use native.Mathlib.Omega.{arith}
 use lib.ListN.{length, drop}
 use Rattle.lexer.specs.Run.{run_from, run_of}
-use Rattle.lexer.proofs.Runs.{run_stop, run_more, run_end}
-use borrow.Author.Rules.{rules}
-use Rattle.lexer.proofs.run.ends.Reads as ends-reads
-use Rattle.lexer.proofs.run.takes.Reads as takes-reads
 use Rattle.lexer.proofs.run.run_length.Given as goal
 
 abbrev pub invariant-loop-i : goal.invariant-loop-i

@@ -1,12 +1,6 @@
-use Prim.Native.Nat.{◌≤◌, ◌-◌, ◌+◌}
-use mathlib.Core.Path.{◌≡◌, sym, ◌∙◌}
-use native.Mathlib.Omega.{arith}
-use lib.Dec.{eqb}
-use lib.ListN.{length, get_or, drop}
-use Rattle.octets.proofs.Places.{neither}
+use Prim.Native.Nat.{◌≤◌, ◌-◌}
+use lib.ListN.{length, drop}
 use Rattle.lexer.specs.Run.{Passes}
-use Rattle.lexer.proofs.Runs.{ends_quote, passes_first, passes_on_at}
-use borrow.Author.Rules.{rules}
 use Rattle.lexer.proofs.run.unquoted_end.Given as goal
 
 abbrev pub invariant-loop-i : goal.invariant-loop-i

@@ -2,8 +2,6 @@ use mathlib.Core.Path.{sym, ◌∙◌}
 use Prim.Native.Nat.{◌+◌}
 use lib.ListN.{get_or}
 use borrow.Author.Tests.{eq-eqb, ne_eqb}
-use borrow.Author.Rules.{rules}
-use Rattle.lexer.proofs.run.byte_at.Reads as byte-at-reads
 use Rattle.lexer.proofs.symbol.either.Goals as goal
 
 pub returns-then-byte_at-second : goal.returns-then-byte_at-second

@@ -4,9 +4,6 @@ use native.Mathlib.Omega.{arith}
 use lib.ListN.{get_or}
 use borrow.Author.Tests.{ne_eqb}
 use Rattle.lexer.proofs.Symbols.{equalled}
-use borrow.Author.Rules.{rules}
-use Rattle.lexer.proofs.run.byte_at.Reads as byte-at-reads
-use Rattle.lexer.proofs.symbol.either.Reads as either-reads
 use Rattle.lexer.proofs.symbol.greater.Goals as goal
 
 pub returns-then-byte_at-ne62 : goal.returns-then-byte_at-ne62

@@ -3,9 +3,6 @@ use Prim.Native.Nat.{◌+◌}
 use native.Mathlib.Omega.{arith}
 use lib.ListN.{get_or}
 use Rattle.lexer.proofs.Symbols.{equalled}
-use borrow.Author.Rules.{rules}
-use Rattle.lexer.proofs.run.byte_at.Reads as byte-at-reads
-use Rattle.lexer.proofs.symbol.either.Reads as either-reads
 use Rattle.lexer.proofs.symbol.less.Goals as goal
 
 pub returns-then-byte_at-eq60 : goal.returns-then-byte_at-eq60

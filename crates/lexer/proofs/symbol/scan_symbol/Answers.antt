@@ -4,11 +4,6 @@ use native.Mathlib.Omega.{arith}
 use lib.ListN.{get_or}
 use borrow.Author.Tests.{ne_eqb}
 use Rattle.lexer.proofs.Symbols.{equalled, bytes_here, lone_here, twice_here, none_here}
-use borrow.Author.Rules.{rules}
-use Rattle.lexer.proofs.symbol.either.Reads as either-reads
-use Rattle.lexer.proofs.symbol.equal.Reads as equal-reads
-use Rattle.lexer.proofs.symbol.greater.Reads as greater-reads
-use Rattle.lexer.proofs.symbol.less.Reads as less-reads
 use Rattle.lexer.proofs.symbol.scan_symbol.Goals as goal
 
 pub returns-in-40 : goal.returns-in-40
