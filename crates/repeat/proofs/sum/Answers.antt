@@ -10,7 +10,7 @@ use borrow.Author.Rules.{rules}
 use Rattle.repeat.proofs.sum.Goals as goal
 
 pub overflow_add-total : goal.overflow_add-total
-overflow_add-total c = record { fits = omega (arith, c.weight-total.ensures.1) }
+overflow_add-total c = omega (arith, c.weight-total.ensures.1)
 
 pub overflow_add-i : goal.overflow_add-i
 overflow_add-i c = omega arith

@@ -5,29 +5,21 @@ use borrow.Author.Rules.{rules}
 use Rattle.repeat.proofs.weight.Goals as goal
 
 pub overflow_mul-result : goal.overflow_mul-result
-overflow_mul-result c = record { fits = omega arith }
+overflow_mul-result c = omega arith
 
 pub overflow_mul-result-2 : goal.overflow_mul-result-2
 overflow_mul-result-2 c =
-    let s : tie.Start = search in
-    let r : tie.After-run-whole = search in
-    record { fits = omega (arith, few s.args.table.now s.args.notice.now s.pre.0 r.run_whole.result r.run_whole.ensures) }
+    omega (arith, few c.args.table.now c.args.notice.now c.requires.0 c.run_whole-a.result c.run_whole-a.ensures)
 
 pub overflow_add-result : goal.overflow_add-result
 overflow_add-result c =
-    let s : tie.Start = search in
-    let r : tie.After-run-whole = search in
-    record { fits = omega (arith, few s.args.table.now s.args.notice.now s.pre.0 r.run_whole.result r.run_whole.ensures) }
+    omega (arith, few c.args.table.now c.args.notice.now c.requires.0 c.run_whole-a.result c.run_whole-a.ensures)
 
 pub overflow_add-result-2 : goal.overflow_add-result-2
 overflow_add-result-2 c =
-    let s : tie.Start = search in
-    let r : tie.After-run-whole = search in
-    record { fits = omega (arith, few s.args.table.now s.args.notice.now s.pre.0 r.run_whole.result r.run_whole.ensures, c.rank.ensures.1) }
+    omega (arith, few c.args.table.now c.args.notice.now c.requires.0 c.run_whole-a.result c.run_whole-a.ensures, c.rank.ensures.1)
 
 pub returns : goal.returns
 returns c =
-    let s : tie.Start = search in
-    let r : tie.After-run-whole = search in
-    let m = few s.args.table.now s.args.notice.now s.pre.0 r.run_whole.result r.run_whole.ensures in
-    (is_weight s.args.table.now s.args.notice.now s.pre.0 r.run_whole.result r.run_whole.ensures c.rank.result c.rank.ensures.0, omega (arith, m, c.rank.ensures.1))
+    let m = few c.args.table.now c.args.notice.now c.requires.0 c.run_whole-a.result c.run_whole-a.ensures in
+    (is_weight c.args.table.now c.args.notice.now c.requires.0 c.run_whole-a.result c.run_whole-a.ensures c.rank.result c.rank.ensures.0, omega (arith, m, c.rank.ensures.1))
