@@ -7,13 +7,13 @@ use Rattle.quorum.proofs.answer_by.Goals as goal
 
 pub returns-in-Keep : goal.returns-in-Keep
 returns-in-Keep c =
-    let a = c.args in c.answer.ensures ∙ ap (λ (t : Turn). answer_by t a.count a.needed a.undecided) (sym c.enum_told-1.given.1)
+    let a = c.args in c.answer.ensures ∙ ap (λ (t : Turn). answer_by t a.count a.needed a.undecided) (sym c.in-Keep.is)
 
 pub returns-in-Add : goal.returns-in-Add
 returns-in-Add c =
-    let a = c.args in c.answer-in-Add.ensures ∙ ap (λ (t : Turn). answer_by t a.count a.needed a.undecided) (sym c.enum_told-in-Add-1.given.1)
+    let a = c.args in c.answer-in-Add.ensures ∙ ap (λ (t : Turn). answer_by t a.count a.needed a.undecided) (sym c.in-Add.is)
 
 pub returns-in-Refuse : goal.returns-in-Refuse
 returns-in-Refuse c =
     let a = c.args in
-    c.answer-in-Refuse.ensures ∙ ap (λ (t : Turn). answer_by t a.count a.needed a.undecided) (sym c.turn-1.given.1)
+    c.answer-in-Refuse.ensures ∙ ap (λ (t : Turn). answer_by t a.count a.needed a.undecided) (sym c.in-Refuse.is)

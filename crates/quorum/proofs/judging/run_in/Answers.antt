@@ -29,10 +29,9 @@ slice_bounds-run_by-end c =
 
 pub run_by-requires : goal.run_by-requires
 run_by-requires c =
-    let s = c.before.before.before.before.before.before in
-    (rw c.size_of-size.ensures (holding s.args.buffer.now s.requires.0).table, s.requires.1)
+    (rw c.size_of-size.ensures (holding c.args.buffer.now c.requires.0).table, c.requires.1)
 
 pub returns : goal.returns
 returns c =
     let a = c.args in
-    (c.run_by.ensures.0 ∙ ap (λ (n : ℕ). running_of (take (n - 528) (drop 528 a.buffer.now)) a.notice.now) c.size_of-size.ensures, c.run_by.ensures.1)
+    record { value = c.run_by.ensures.value ∙ ap (λ (n : ℕ). running_of (take (n - 528) (drop 528 a.buffer.now)) a.notice.now) c.size_of-size.ensures; marks = c.run_by.ensures.marks }

@@ -7,19 +7,16 @@ use Rattle.quorum.proofs.judging.staff.Goals as goal
 
 pub slice_bounds-result-end-then-kind-len : goal.slice_bounds-result-end-then-kind-len
 slice_bounds-result-end-then-kind-len c =
-    let g = c.found-1.given in
-    let l = staff_lies c.args.notice.now g.0.0 g.0.1.0 g.0.1.1.0 (sym c.lookup_along-found.ensures ∙ g.1) in
+    let l = staff_lies c.args.notice.now c.in-At.kind c.in-At.start c.in-At.len (sym c.lookup_along-found.ensures ∙ c.in-At.is) in
     omega arith
 
 pub returns-then-kind-len : goal.returns-then-kind-len
 returns-then-kind-len c =
-    let g = c.found-1.given in
-    staff_found c.args.notice.now g.0.0 g.0.1.0 g.0.1.1.0 (sym c.lookup_along-found.ensures ∙ g.1) c.if-kind-len.true
+    staff_found c.args.notice.now c.in-At.kind c.in-At.start c.in-At.len (sym c.lookup_along-found.ensures ∙ c.in-At.is) c.if-kind-len.true
 
 pub returns-in-Nothing : goal.returns-in-Nothing
-returns-in-Nothing c = staff_none c.args.notice.now (sym c.lookup_along-found.ensures ∙ c.enum_told-1.given.1)
+returns-in-Nothing c = staff_none c.args.notice.now (sym c.lookup_along-found.ensures ∙ c.in-Nothing.is)
 
 pub returns-else-kind-len : goal.returns-else-kind-len
 returns-else-kind-len c =
-    let g = c.found-1.given in
-    staff_wrong c.args.notice.now g.0.0 g.0.1.0 g.0.1.1.0 (sym c.lookup_along-found.ensures ∙ g.1) c.if-kind-len.false
+    staff_wrong c.args.notice.now c.in-At.kind c.in-At.start c.in-At.len (sym c.lookup_along-found.ensures ∙ c.in-At.is) c.if-kind-len.false

@@ -17,7 +17,7 @@ shape_of-buffer c =
     let s = c.args.buffer.now in
     let l = length-set s 7 (get_or s 7 0 + 1) in
     let m = length-set (set s 7 (get_or s 7 0 + 1)) (8 + 65 * get_or s 7 0) (length c.args.v.now) in
-    omega (arith, l, m, c.copy_to.auto.0)
+    omega (arith, l, m, c.copy_to.auto.buffer)
 
 pub returns : goal.returns
 returns c =

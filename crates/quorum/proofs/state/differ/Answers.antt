@@ -1,5 +1,6 @@
 -- `state::differ` meets its contract: the values from i on are all different exactly if all are. Assumes nothing.
 use mathlib.Core.Path.{◌≡◌, ap, ◌∙◌}
+use mathlib.Core.Bool.{Bool}
 use mathlib.Core.List.{List}
 use Prim.Native.Nat.{ℕ, ◌+◌, ◌-◌, ◌≤◌}
 use native.Mathlib.Omega.{arith}
@@ -18,31 +19,26 @@ overflow_add-i c = omega (arith, c.loop-i.invariant.0, c.requires.few)
 
 pub value-requires : goal.value-requires
 value-requires c =
-    let s = c.before.before.before.before in
-    let z = size_at_lem s.args.buffer.now s.requires c.loop-i.i (omega arith) in
-    (s.requires.long, omega (arith, s.requires.few), z.1)
+    let z = size_at_lem c.args.buffer.now c.requires c.loop-i.i (omega arith) in
+    (c.requires.long, omega (arith, c.requires.few), z.1)
 
 pub has-requires : goal.has-requires
 has-requires c =
     (c.requires, omega arith)
 
 -- what `has` told: whether the value in place i is among those after it
-later : (c : tie.After-has invariant_loop decreases_loop) → let a = c.args in let i = c.loop-i.i in
-    c.has.result ≡ has (value_at a.buffer.now i) (values_from a.buffer.now (i + 1) (a.n - (i + 1)))
-later c =
-    let a = c.args in
-    let i = c.loop-i.i in
-    c.has.ensures ∙ ap (λ (x : List ℕ). has x (values_from a.buffer.now (i + 1) (a.n - (i + 1)))) c.value.ensures
+later : (s : List ℕ) (i n : ℕ) {x : List ℕ} {told : Bool} → x ≡ value_at s i → told ≡ has x (values_from s (i + 1) (n - (i + 1))) → told ≡ has (value_at s i) (values_from s (i + 1) (n - (i + 1)))
+later s i n v e = e ∙ ap (λ (x : List ℕ). has x (values_from s (i + 1) (n - (i + 1)))) v
 
 pub returns-then-has : goal.returns-then-has
 returns-then-has c =
     let a = c.args in
-    twice a.buffer.now a.n c.loop-i.i (omega arith) c.has.result (later c.before) c.if-has.true ∙ c.loop-i.invariant.1
+    twice a.buffer.now a.n c.loop-i.i (omega arith) c.has.result (later a.buffer.now c.loop-i.i a.n c.value.ensures c.has.ensures) c.if-has.true ∙ c.loop-i.invariant.1
 
 pub loop-i-preserved : goal.loop-i-preserved
 loop-i-preserved c =
     let a = c.args in
-    (omega arith, once a.buffer.now a.n c.loop-i.i (omega arith) c.has.result (later c.before) c.if-has.false ∙ c.loop-i.invariant.1)
+    (omega arith, once a.buffer.now a.n c.loop-i.i (omega arith) c.has.result (later a.buffer.now c.loop-i.i a.n c.value.ensures c.has.ensures) c.if-has.false ∙ c.loop-i.invariant.1)
 
 pub returns : goal.returns
 returns c = differ_end c.args.buffer.now c.args.n c.loop-i.i (omega arith) ∙ c.loop-i.invariant.1

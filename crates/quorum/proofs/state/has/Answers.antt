@@ -14,28 +14,22 @@ loop-i-init c = (omega arith, omega (arith, c.requires.1), refl)
 
 pub value-requires : goal.value-requires
 value-requires c =
-    let s = c.before.before.before.before.before in
-    let z = size_at_lem s.args.buffer.now s.requires.0 c.loop-i.i (omega arith) in
-    (s.requires.0.long, omega (arith, s.requires.0.few), z.1)
+    let z = size_at_lem c.args.buffer.now c.requires.0 c.loop-i.i (omega arith) in
+    (c.requires.0.long, omega (arith, c.requires.0.few), z.1)
 
 pub same-requires : goal.same-requires
 same-requires c =
     search rules
 
--- what `same` told of the value in place i
-same_is : (c : tie.After-same invariant_loop decreases_loop) → let a = c.args in
-    c.same.result ≡ same_of (value_at a.buffer.now c.loop-i.i) a.v.now
-same_is c = c.same.ensures ∙ ap₂ same_of (not_folded _ ∙ c.value.ensures) (not_folded _)
-
 pub returns-then-same : goal.returns-then-same
 returns-then-same c =
     let a = c.args in
-    has-found a.buffer.now a.n c.loop-i.i (omega arith) a.v.now c.same.result (same_is c.before) c.if-same.true ∙ c.loop-i.invariant.2
+    has-found a.buffer.now a.n c.loop-i.i (omega arith) a.v.now c.same.result (c.same.ensures ∙ ap₂ same_of (not_folded _ ∙ c.value.ensures) (not_folded _)) c.if-same.true ∙ c.loop-i.invariant.2
 
 pub loop-i-preserved : goal.loop-i-preserved
 loop-i-preserved c =
     let a = c.args in
-    (omega arith, omega arith, has-passed a.buffer.now a.n c.loop-i.i (omega arith) a.v.now c.same.result (same_is c.before) c.if-same.false ∙ c.loop-i.invariant.2)
+    (omega arith, omega arith, has-passed a.buffer.now a.n c.loop-i.i (omega arith) a.v.now c.same.result (c.same.ensures ∙ ap₂ same_of (not_folded _ ∙ c.value.ensures) (not_folded _)) c.if-same.false ∙ c.loop-i.invariant.2)
 
 pub returns : goal.returns
 returns c =

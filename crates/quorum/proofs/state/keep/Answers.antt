@@ -12,16 +12,16 @@ use Rattle.quorum.proofs.state.keep.Goals as goal
 
 pub bounds-buffer-7 : goal.bounds-buffer-7
 bounds-buffer-7 c =
-    let l = length-set c.write_u16.new.0 6 c.args.needed in omega (arith, l, c.requires, c.write_u16.auto.0, c.write_u32.auto.0)
+    let l = length-set c.write_u16.new.d 6 c.args.needed in omega (arith, l, c.requires, c.write_u16.auto.d, c.write_u32.auto.d)
 
 pub copy_to-requires : goal.copy_to-requires
-copy_to-requires c = simp length-set (omega (arith, c.requires, c.write_u16.auto.0, c.write_u32.auto.0))
+copy_to-requires c = simp length-set (omega (arith, c.requires, c.write_u16.auto.d, c.write_u32.auto.d))
 
 pub shape_of-buffer : goal.shape_of-buffer
 shape_of-buffer c =
-    let d = c.write_u16.new.0 in
+    let d = c.write_u16.new.d in
     let n = c.args.needed in
-    omega (arith, length-set d 6 n, length-set (set d 6 n) 7 0, c.copy_to.auto.0, c.write_u16.auto.0, c.write_u32.auto.0)
+    omega (arith, length-set d 6 n, length-set (set d 6 n) 7 0, c.copy_to.auto.buffer, c.write_u16.auto.d, c.write_u32.auto.d)
 
 pub returns : goal.returns
 returns c =
