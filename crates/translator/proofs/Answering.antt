@@ -1,5 +1,5 @@
 -- From the lexer's answer over the marks, the operands and the parser's answer to that of translation. Assumes nothing.
-use Prim.Native.Nat.{ℕ, zero, suc, ◌+◌, ◌-◌, ◌*◌, ◌≤◌, ◌<◌, min}
+use Prim.Native.Nat.{ℕ, zero, suc, ◌+◌, ◌-◌, ◌*◌, ◌≤◌, ◌<◌}
 use native.Mathlib.Decide.{dec_lt}
 use native.Mathlib.Omega.{arith}
 use mathlib.Core.Path.{◌≡◌, refl, sym, ap, ap₂, ◌∙◌, subst}
@@ -34,13 +34,13 @@ use Rattle.operands.proofs.Theorems.{parsed_leaves, operands_stand, parsed_patte
 use Rattle.postfix.specs.Marked.{Marked}
 use Rattle.postfix.proofs.Codes.{length_codes}
 use Rattle.postfix.specs.Packed.{counted_to}
-use Rattle.postfix.specs.Answer.{judged_of, answer_of as parsedOf, Leaves, Ready, Parses}
+use Rattle.postfix.specs.Answer.{judged_of, answer_of as parsedOf, Leaves, Ready}
 use Rattle.postfix.specs.declared.Judged.{Judged}
 use Rattle.postfix.specs.declared.Parsed.{Parsed}
 use Rattle.postfix.specs.declared.Parsed.TheVariants.{Whole, Broken}
 use Rattle.translator.specs.Expand.{expand, pooled, Sized, sum_from}
-use Rattle.translator.specs.Emit.{Roomy, Fronts, kinds_in, starts_in, Tokened, read_of, Reads, PlaceOf, Known, first_by, Coded, refusal_by}
-use Rattle.translator.specs.Translation.{refusal, answer_of, refusal_of, of_tree_lem, of_result, of_tokens, of_lexed, translation_in, is_edition, edition_by, translation_of, Answers}
+use Rattle.translator.specs.Emit.{Roomy, kinds_in, starts_in, Tokened, read_of, Reads, PlaceOf, Known, first_by, Coded}
+use Rattle.translator.specs.Translation.{refusal, answer_of, refusal_of, of_tree, of_result, of_tokens, of_lexed, translation_in, is_edition, edition_by, translation_of, Answers}
 use Rattle.translator.specs.Theorems.{Right}
 use Rattle.translator.specs.declared.Translated.{Translated}
 use Rattle.translator.specs.declared.read.Reading.{Reading}
@@ -49,7 +49,7 @@ use Rattle.translator.proofs.Derived.{AllRight, level_sound}
 use Rattle.translator.proofs.Sound.{Sound}
 use Rattle.translator.proofs.Bounded.{total_of, bounded}
 use Rattle.translator.proofs.Expanding.{Stand, leaf_count, leaf_total, entries_are, pool_is, sizes_are}
-use Rattle.translator.proofs.Lexed.{tokens_only, LexedText, lexed_text}
+use Rattle.translator.proofs.Lexed.{LexedText, lexed_text}
 use Rattle.translator.proofs.Filling.{whole_level, refusal_by_lem, tree_refused, answers_as}
 
 -- ---- fronts of arrays
@@ -332,7 +332,7 @@ module _ {s places sizes codes : List ℕ} {count : ℕ} {patterns : Bool} {j : 
   first_is : first_by j patterns ≡ found_number (found_of t)
   first_is = ap₂ first_by k.has (sym patterns_told) ∙ rw (over_32 (depth_of t))
 
-  tree_outcome : (e : Edition) (room : ℕ) → translation_in e s room ≡ of_tree_lem e t room
+  tree_outcome : (e : Edition) (room : ℕ) → translation_in e s room ≡ of_tree e t room
   unfolding of_result
   tree_outcome e room = outcome bytes k.tokened e room k.is_ok
 

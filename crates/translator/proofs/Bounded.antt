@@ -6,7 +6,7 @@ use mathlib.Core.Bool.{Bool, true, false, cond}
 use mathlib.Core.List.{List, [], ◌∷◌, ◌++◌}
 use lib.ListN.{length, length-append}
 use Rattle.lexer.specs.Token.{Token}
-use Rattle.grammar.specs.Tree.{Tree, leaf, group, unary, binary, call, Trees, none, ◌then◌}
+use Rattle.grammar.specs.Tree.{Tree, group, binary, call, Trees, ◌then◌}
 use Rattle.grammar.specs.Grammar.{Level, operator, tighter, tightest, Prefix, applied, plain, Operand, a_literal, a_name, a_group, a_call_none, a_call, Arguments, first, next}
 use Rattle.grammar.specs.Size.{skips, entries_of, entries_in, pool_bytes, pool_of, pool_in}
 

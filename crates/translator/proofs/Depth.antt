@@ -1,21 +1,19 @@
 -- The most slots that a sound tree's entries hold at once. Assumes nothing.
-use Prim.Native.Nat.{ℕ, zero, suc, ◌+◌, ◌-◌, ◌≤◌, ◌<◌, max}
+use Prim.Native.Nat.{ℕ, ◌+◌, ◌≤◌, max}
 use native.Mathlib.Omega.{arith}
 use mathlib.Core.Path.{◌≡◌, refl, sym, ap, ◌∙◌}
 use mathlib.Core.Bool.{Bool, true, false, cond}
 use mathlib.Core.List.{List, [], ◌∷◌, ◌++◌, append_assoc, append-nil}
 use lib.Dec.{eqb}
 use lib.ListN.{length, replicate, length-replicate}
-use Rattle.opcode.specs.Opcode.{Kind, logic, value, op_of, takes_of}
+use Rattle.opcode.specs.Opcode.{Kind, value}
 use Rattle.table.specs.declared.Entry.{Entry}
-use Rattle.lexer.specs.Token.{Token}
-use Rattle.grammar.specs.Tree.{Tree, leaf, group, unary, binary, call, Trees, none, ◌then◌}
+use Rattle.grammar.specs.Tree.{Tree, Trees}
 use Rattle.grammar.specs.Function.{function_of}
 use Rattle.grammar.specs.Size.{count_of, entries_of, pool_of, pool_in, depth_of, depth_in}
-use Rattle.grammar.specs.Judge.{is_logic, takes_logic, gives_logic}
-use Rattle.translator.specs.Compile.{entry, leaf_entry, skip_entries, call_entry, code_of, code_in}
+use Rattle.translator.specs.Compile.{entry, skip_entries, call_entry, code_of, code_in}
 use Rattle.translator.specs.Depth.{slots_after, most_slots}
-use Rattle.translator.proofs.Entries.{kind_by, Does, Acts, Skips, skip_false, skip_true, leaf_does}
+use Rattle.translator.proofs.Entries.{Does, skip_false, skip_true, leaf_does}
 use Rattle.translator.proofs.Sound.{Sound, SoundIn, a_leaf, a_group, a_unary, a_binary, a_call, no_more, one_more, depth_some}
 
 does_slots : {e : Entry} {ts : List Kind} {g : Kind} → Does e ts g → (h : ℕ) → slots_after e (length ts + h) ≡ h + 1

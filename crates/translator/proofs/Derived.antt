@@ -1,7 +1,7 @@
 -- A tree that the grammar derives from right tokens, and to which the refusals 4 and 5 do not apply, is sound. Assumes nothing.
-use Prim.Native.Nat.{ℕ, suc, ◌+◌, ◌≤◌, ◌<◌}
+use Prim.Native.Nat.{ℕ}
 use native.Mathlib.Omega.{arith}
-use mathlib.Core.Path.{◌≡◌, refl, sym, ap, ◌∙◌, subst}
+use mathlib.Core.Path.{◌≡◌, refl, sym, subst}
 use mathlib.Core.Bool.{Bool, true, false, not, ◌&&◌}
 use mathlib.Core.List.{List, [], ◌∷◌, ◌++◌}
 use lib.Dec.{leb}
@@ -9,8 +9,8 @@ use borrow.Author.Tests.{leb-true}
 use Rattle.common.proofs.Choice.{false_true}
 use Rattle.table.proofs.Tests.{both_true}
 use Rattle.lexer.specs.Token.{Token, kind_of}
-use Rattle.grammar.specs.Tree.{Tree, leaf, group, unary, binary, call, Trees, none, ◌then◌}
-use Rattle.grammar.specs.Grammar.{rank, is_prefix, is_literal, Level, operator, tighter, tightest, Prefix, applied, plain, Operand, a_literal, a_name, a_group, a_call_none, a_call, Arguments, first, next}
+use Rattle.grammar.specs.Tree.{Tree, Trees, none}
+use Rattle.grammar.specs.Grammar.{Level, operator, tighter, tightest, Prefix, applied, plain, Operand, a_literal, a_name, a_group, a_call_none, a_call, Arguments, first, next}
 use Rattle.grammar.specs.Function.{function_of}
 use Rattle.grammar.specs.Size.{count_of}
 use Rattle.grammar.specs.Judge.{takes_logic, call_right, first_of, later_texts, is_logic, agrees, forms_right, forms_in, kinds_right, kinds_in}

@@ -3,16 +3,16 @@ use Prim.Native.Nat.{ℕ, zero, suc, ◌+◌, ◌-◌, ◌^◌, ◌≤◌, ◌<�
 use native.Mathlib.Nat.{not-suc-le-zero}
 use native.Mathlib.Decide.{dec_lt}
 use native.Mathlib.Omega.{arith}
-use mathlib.Core.Path.{◌≡◌, refl, sym, ap, ◌∙◌, subst}
+use mathlib.Core.Path.{◌≡◌, refl, subst}
 use mathlib.Core.Bool.{Bool, true, false, cond, not, ◌&&◌, ◌||◌}
 use mathlib.Core.List.{List, [], ◌∷◌, ◌++◌}
 use mathlib.Core.Option.{some}
 use lib.IntN.{ℤ, pos, negsuc}
 use lib.Dec.{T, eqb, leb, ltb, lit<}
-use lib.Ieee.{binary64, to_bits, fits}
+use lib.Ieee.{binary64, fits}
 use lib.ListN.{length, replicate, take, drop, length-append}
 use lib.Seq.{drop_at, take_at}
-use borrow.Author.Tests.{eq-eqb, ne_eqb, eqb-true, leb-true, leb-false, le-leb, lt-ltb, le-ltb, lt-leb}
+use borrow.Author.Tests.{ne_eqb, eqb-true, leb-true, le-leb, lt-ltb, lt-leb}
 use mir.Syntax.{w32, w64}
 use mir.Val.{SFits, of_z}
 use mir.ValLaws.{of_z_fits}
@@ -24,7 +24,7 @@ use Rattle.opcode.specs.Number.{begins_with_op, equals_op, regex_op}
 use Rattle.opcode.specs.Opcode.{Kind, logic, value, ops, op_of, unary_takes, unary_gives, binary_takes, binary_gives, takes_of, gives_of}
 use Rattle.opcode.specs.declared.Op.{Op}
 use Rattle.table.specs.declared.Entry.{Entry}
-use Rattle.table.specs.Check.{same_kind, after, is_skip, entry_right, in_range}
+use Rattle.table.specs.Check.{same_kind, after, is_skip, entry_right}
 use Rattle.table.specs.Theorems.{Fits}
 use Rattle.table.proofs.Tests.{both_true, are_true}
 use Rattle.table.proofs.Numbers.{kind_eq}

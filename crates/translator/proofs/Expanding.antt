@@ -1,10 +1,10 @@
 -- The codes of a sound tree, taken apart one after the other, are its entries and its pool, and the sizes are those of its operands. Assumes nothing.
-use Prim.Native.Nat.{ℕ, zero, suc, ◌+◌, ◌-◌, ◌*◌, ◌%◌, ◌/◌, ◌≤◌, ◌<◌}
+use Prim.Native.Nat.{ℕ, suc, ◌+◌, ◌*◌, ◌≤◌, ◌<◌}
 use native.Mathlib.Nat.{mod-eq_of_lt}
 use native.Mathlib.Omega.{arith}
 use native.Mathlib.Decide.{ℕ_discrete}
 use mathlib.Core.Path.{◌≡◌, refl, sym, ap, ap₂, ◌∙◌, subst}
-use mathlib.Core.Bool.{Bool, true, false, cond, ◌&&◌, ◌||◌}
+use mathlib.Core.Bool.{Bool, true, false, cond, ◌&&◌}
 use mathlib.Core.List.{List, [], ◌∷◌, ◌++◌, append_assoc, append-nil}
 use lib.Dec.{eqb, leb}
 use lib.ListN.{length, get_or, length-append}
@@ -15,12 +15,12 @@ use Rattle.table.proofs.Tests.{both_true}
 use Rattle.lexer.specs.Token.{Token, name, int32, int64, real, text, symbol, kind_of}
 use Rattle.grammar.specs.Tree.{Tree, leaf, group, unary, binary, call, Trees, none, ◌then◌}
 use Rattle.grammar.specs.Function.{function_of}
-use Rattle.grammar.specs.Size.{count_of, skips, entries_of, entries_in, pool_bytes, pool_of, pool_in}
+use Rattle.grammar.specs.Size.{count_of, entries_of, entries_in, pool_bytes, pool_of, pool_in}
 use Rattle.grammar.specs.Marks.{is_operand}
 use Rattle.grammar.specs.Code.{code, skip_codes, call_code, codes_of, codes_in, leaves_of, leaves_in}
 use Rattle.grammar.specs.Stream.{token_of}
 use Rattle.translator.specs.Compile.{entry, leaf_entry, skip_entries, call_entry, code_of, code_in, leaf_bytes, bytes_of, bytes_in}
-use Rattle.translator.specs.Expand.{op_in, a_in, pushes, operands_by, brought_by, entry_by, expand, pooled, Sized}
+use Rattle.translator.specs.Expand.{op_in, a_in, operands_by, brought_by, entry_by, expand, pooled, Sized}
 use Rattle.translator.proofs.Entries.{TokenRight}
 use Rattle.translator.proofs.Sound.{Sound, SoundIn, a_leaf, a_group, a_unary, a_binary, a_call, no_more, one_more, leaf_size}
 use Rattle.translator.proofs.Bounded.{total_of, total_append}

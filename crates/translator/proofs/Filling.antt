@@ -1,13 +1,13 @@
 -- The header, the entries and the pool, one after the other, are the table; and what is judged decides the answer. Assumes nothing.
-use Prim.Native.Nat.{ℕ, zero, suc, ◌+◌, ◌-◌, ◌*◌, ◌≤◌, ◌<◌}
+use Prim.Native.Nat.{ℕ, ◌+◌, ◌*◌, ◌≤◌, ◌<◌}
 use native.Mathlib.Omega.{arith}
-use mathlib.Core.Path.{◌≡◌, refl, sym, ap, ap₂, ◌∙◌, subst}
+use mathlib.Core.Path.{◌≡◌, refl, sym, ap, ap₂, ◌∙◌}
 use mathlib.Core.Bool.{Bool, true, false, cond, not, ◌&&◌}
-use mathlib.Core.List.{List, [], ◌∷◌, ◌++◌, append_assoc}
+use mathlib.Core.List.{List, ◌++◌, append_assoc}
 use lib.Dec.{eqb, ltb}
 use lib.ListN.{length, length-append}
 use lib.Seq.{sets}
-use borrow.Author.Tests.{eqb-true, lt-ltb, le-ltb, ltb-true, ltb-false, eq-eqb, ne_eqb}
+use borrow.Author.Tests.{eqb-true, lt-ltb, le-ltb, ltb-false, ne_eqb}
 use Rattle.common.specs.Choice.{pick}
 use Rattle.common.proofs.Stores.{sets_append}
 use Rattle.word.specs.Word.{word_bytes}
@@ -19,14 +19,14 @@ use Rattle.table.proofs.Encoding.{length_body, length_encode}
 use Rattle.lexer.specs.Token.{Token}
 use Rattle.grammar.specs.Tree.{Tree}
 use Rattle.grammar.specs.Parse.{Result, ok, bad, level_of, parse_all}
-use Rattle.grammar.specs.Size.{entries_of, pool_of, depth_of}
+use Rattle.grammar.specs.Size.{entries_of, pool_of}
 use Rattle.grammar.specs.Function.{or_else}
 use Rattle.grammar.specs.Judge.{forms_right, patterns_right, kinds_right, is_logic}
 use Rattle.grammar.specs.Answer.{Found, found_of}
 use Rattle.translator.specs.Compile.{code_of, bytes_of, compile}
 use Rattle.translator.specs.Expand.{expand, pooled}
 use Rattle.translator.specs.Emit.{entry_start, Coded, table_answer, header_bytes, refusal_by}
-use Rattle.translator.specs.Translation.{Outcome, refusal_of, of_tree_lem, refusal, answer_of, Answers, translation_in}
+use Rattle.translator.specs.Translation.{Outcome, refusal_of, of_tree, refusal, answer_of, Answers, translation_in}
 use Rattle.translator.specs.declared.Translated.{Translated}
 use Rattle.translator.proofs.Sound.{size, pool_size}
 
@@ -139,12 +139,12 @@ refusal_by_lem edition t room = rw (table_size edition t)
 -- ---- the answer of a tree
 
 module _ (edition : Edition) (t : Tree) (room : ℕ) where
-  pub tree_refused : {n : ℕ} {was : List ℕ} {r : Translated} → refusal_of edition t room ≡ n → (n ≡ 0 → ⊥) → r ≡ answer_of (refusal n 0) → Answers (of_tree_lem edition t room) was was r
-  unfolding of_tree_lem
+  pub tree_refused : {n : ℕ} {was : List ℕ} {r : Translated} → refusal_of edition t room ≡ n → (n ≡ 0 → ⊥) → r ≡ answer_of (refusal n 0) → Answers (of_tree edition t room) was was r
+  unfolding of_tree
   tree_refused {n} e z q = rw (e, ne_eqb n 0 z) (record { answer = q; bytes = refl })
 
-  pub tree_table : {was now : List ℕ} {r : Translated} → refusal_of edition t room ≡ 0 → r ≡ table_answer (entries_of t) (pool_of t) → now ≡ sets was 0 (encode (compile edition t)) → Answers (of_tree_lem edition t room) was now r
-  unfolding of_tree_lem
+  pub tree_table : {was now : List ℕ} {r : Translated} → refusal_of edition t room ≡ 0 → r ≡ table_answer (entries_of t) (pool_of t) → now ≡ sets was 0 (encode (compile edition t)) → Answers (of_tree edition t room) was now r
+  unfolding of_tree
   tree_table e q b = rw e (record { answer = q ∙ ap (λ (x : ℕ). record { number = 0; place = 0; length = x }) (sym (table_size edition t)); bytes = b })
 
 pub answers_as : {o p : Outcome} {was now : List ℕ} {r : Translated} → o ≡ p → Answers p was now r → Answers o was now r

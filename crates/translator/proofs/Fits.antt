@@ -10,7 +10,7 @@ use lib.Dec.{eqb, ltb}
 use lib.ListN.{length}
 use Rattle.common.specs.Choice.{pick}
 use Rattle.opcode.specs.declared.Edition.{Edition}
-use Rattle.lexer.specs.Token.{Token, Placed, kind_of, Lexed, tokens, refused, tokens_of}
+use Rattle.lexer.specs.Token.{kind_of, Lexed, tokens, refused, tokens_of}
 use Rattle.grammar.specs.Tree.{Tree}
 use Rattle.grammar.specs.Parse.{Result, ok, bad, parse_all}
 use Rattle.grammar.specs.Nesting.{too_deep}
@@ -18,7 +18,7 @@ use Rattle.grammar.specs.Function.{or_else}
 use Rattle.grammar.specs.Answer.{found_of, found_number}
 use Rattle.table.specs.Table.{encode}
 use Rattle.translator.specs.Compile.{compile}
-use Rattle.translator.specs.Translation.{Outcome, refusal, refusal_of, of_tree_lem, of_result, of_tokens, of_lexed, translation_in, is_edition, edition_by, translation_of}
+use Rattle.translator.specs.Translation.{Outcome, refusal, refusal_of, of_tree, of_result, of_tokens, of_lexed, translation_in, is_edition, edition_by, translation_of}
 use Rattle.translator.specs.Theorems.{FitsRoom, RefusedEmpty}
 
 -- a tree's answer by its number
@@ -42,8 +42,8 @@ fits_either true o p room h k = h
 fits_either false o p room h k = k
 
 module _ (edition : Edition) where
-  fits_tree : (t : Tree) (room : ℕ) → length (of_tree_lem edition t room).table ≤ room
-  unfolding of_tree_lem refusal_of
+  fits_tree : (t : Tree) (room : ℕ) → length (of_tree edition t room).table ≤ room
+  unfolding of_tree refusal_of
   fits_tree t room =
       let table = encode (compile edition t) in
       fits_number (found_number (found_of t)) (ltb room (length table)) table room (λ h. ltb-false room (length table) h)
@@ -80,7 +80,7 @@ empty_either false o p h k = k
 
 module _ (edition : Edition) where
   empty_result : (long : ℕ) (starts : List ℕ) (room : ℕ) (r : Result) → Empty (of_result edition long starts room r)
-  unfolding of_result of_tree_lem
+  unfolding of_result of_tree
   empty_result long starts room (ok t n) = empty_by (eqb (refusal_of edition t room) 0) (refusal_of edition t room) (encode (compile edition t))
   empty_result long starts room (bad p) = inr refl
 

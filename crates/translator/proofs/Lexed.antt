@@ -1,15 +1,15 @@
 -- What the lexer's theorems say of a text's tokens: each is right, they are no more than the bytes, and so is what they bring to the pool. Assumes nothing.
-use Prim.Native.Nat.{ℕ, zero, suc, ◌+◌, ◌-◌, ◌^◌, ◌≤◌, ◌<◌}
+use Prim.Native.Nat.{ℕ, zero, suc, ◌+◌, ◌≤◌, ◌<◌}
 use native.Mathlib.Omega.{arith}
 use mathlib.Core.Path.{◌≡◌, refl, sym, ap, ap₂, ◌∙◌, subst}
 use mathlib.Core.Bool.{Bool, true, false, cond, not, ◌&&◌}
 use mathlib.Core.List.{List, [], ◌∷◌, ◌++◌, map}
-use lib.Dec.{T, eqb, leb, ltb}
+use lib.Dec.{T, eqb, leb}
 use lib.IntN.{ℤ, nat_abs}
 use lib.Ieee.{Float, binary64, fits}
 use lib.Ieee.Fits.{cond-fits, nan-fits, neg-fits, mul-fits, div-fits}
 use lib.ListN.{length, get_or, drop, length-append}
-use borrow.Author.Tests.{leb-true, le-leb, ltb-true, ne_eqb, eqb-true}
+use borrow.Author.Tests.{leb-true, le-leb, ltb-true, ne_eqb}
 use mir.Syntax.{w32, w64}
 use mir.Val.{SFits}
 use Rattle.common.specs.Choice.{pick}
@@ -19,20 +19,20 @@ use Rattle.number.specs.Real.{scaled_of, signed_real, decimal_of, in_limits}
 use Rattle.number.specs.Integer.{fits_in, is_negative}
 use Rattle.notice.specs.Field.{printable, name_right}
 use Rattle.table.proofs.Tests.{both_true, are_true}
-use Rattle.lexer.specs.Byte.{within, starts_name, starts_number, is_quote, is_plain, is_delimiter}
-use Rattle.lexer.specs.Run.{takes, ends, run_from, run_of, unescaped, has_escape, legal_byte, legal_name, name_fits, body_of, is_closed}
+use Rattle.lexer.specs.Byte.{within, starts_name, starts_number, is_quote, is_plain}
+use Rattle.lexer.specs.Run.{takes, ends, run_from, run_of, unescaped, has_escape, legal_name, name_fits, body_of, is_closed}
 use Rattle.lexer.specs.Integer.{is_long, is_integer, integer_fits, integer_of}
 use Rattle.lexer.specs.Digits.{is_minus, whole_of}
 use Rattle.lexer.specs.Real.{real_digits, scale_of, is_real, real_fits, real_of}
 use Rattle.lexer.specs.Symbol.{symbol_of, symbol_length}
-use Rattle.lexer.specs.Token.{Token, name, int32, int64, real, text, symbol, kind_of, Placed, Scan, good, bad, judged, scan_name, integer_token, scan_run, scan_number, scan_string, scan_bytes, scan_symbol, scan_of, tokens, tokens_of, found}
+use Rattle.lexer.specs.Token.{Token, name, int32, int64, real, text, symbol, kind_of, Placed, Scan, good, bad, judged, scan_name, integer_token, scan_number, scan_string, scan_symbol, scan_of, tokens, tokens_of}
 use Rattle.lexer.specs.Theorems.{Laid, Nothing, ValueAt}
 use Rattle.lexer.proofs.Theorems.{whole, values}
 use Rattle.grammar.specs.Parse.{kind_at}
 use Rattle.grammar.specs.Size.{pool_bytes}
 use Rattle.grammar.specs.Marks.{calling}
 use Rattle.grammar.specs.Stream.{token_of, tokens_in}
-use Rattle.grammar.proofs.Streams.{run_small, unescaped_small}
+use Rattle.grammar.proofs.Streams.{unescaped_small}
 use Rattle.translator.proofs.Entries.{TokenRight}
 use Rattle.translator.proofs.Derived.{AllRight}
 use Rattle.translator.proofs.Bounded.{total_of}

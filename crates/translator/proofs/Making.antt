@@ -1,5 +1,5 @@
 -- Single entries: how they are made of codes, and written into their stretch, with what they bring to the pool. Assumes nothing.
-use Prim.Native.Nat.{ℕ, ◌+◌, ◌*◌, ◌≤◌, ◌<◌}
+use Prim.Native.Nat.{ℕ, ◌+◌, ◌≤◌}
 use native.Mathlib.Omega.{arith}
 use mathlib.Core.Path.{◌≡◌, refl, sym, ap, ap₂, ◌∙◌}
 use mathlib.Core.Bool.{Bool, true, false, cond, not}
@@ -15,7 +15,7 @@ use Rattle.common.proofs.Choice.{false_true}
 use Rattle.word.specs.Word.{word_bytes}
 use Rattle.table.specs.declared.Entry.{Entry}
 use Rattle.table.specs.Table.{entry_bytes}
-use Rattle.lexer.specs.Token.{Token, int32, int64, real, symbol, name_at, string_at, integer_at, real_at}
+use Rattle.lexer.specs.Token.{int32, int64, real, symbol, name_at, string_at, integer_at, real_at}
 use Rattle.grammar.specs.Marks.{is_operand}
 use Rattle.grammar.specs.Stream.{token_of}
 use Rattle.translator.specs.Compile.{entry, leaf_entry, leaf_bytes}

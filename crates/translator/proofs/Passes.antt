@@ -1,20 +1,17 @@
 -- What is compiled from an accepted text passes the check of tables. Assumes nothing.
-use Prim.Native.Nat.{ℕ, zero, suc, ◌+◌, ◌*◌, ◌^◌, ◌≤◌, ◌<◌}
-use native.Mathlib.Nat.{not-suc-le-zero, le_of_suc-le-suc}
+use Prim.Native.Nat.{ℕ, zero, suc, ◌≤◌}
 use native.Mathlib.Omega.{arith}
-use mathlib.Core.Path.{◌≡◌, refl, sym, ap, ◌∙◌}
-use mathlib.Core.Bool.{Bool, true, false, ◌&&◌}
-use mathlib.Core.List.{List, [], ◌∷◌, ◌++◌, append-nil}
-use mathlib.Core.Option.{some}
+use mathlib.Core.Path.{◌≡◌, ◌∙◌}
+use mathlib.Core.Bool.{true, ◌&&◌}
+use mathlib.Core.List.{List, [], ◌∷◌, ◌++◌}
 use lib.Dec.{leb}
-use lib.ListN.{length, get_or}
+use lib.ListN.{length}
 use Rattle.word.specs.Word.{Bytes}
 use Rattle.notice.specs.Field.{printable}
 use Rattle.notice.proofs.Keys.{printable_bytes}
-use Rattle.opcode.specs.Opcode.{logic}
 use Rattle.opcode.specs.declared.Edition.{Edition}
-use Rattle.table.specs.Table.{blank, encode, decode}
-use Rattle.table.specs.Check.{entries_right, end_right, skips_right, program_right, check_of}
+use Rattle.table.specs.Table.{encode, decode}
+use Rattle.table.specs.Check.{check_of}
 use Rattle.table.specs.Theorems.{Limits}
 use Rattle.table.proofs.Tests.{both_true, are_true}
 use Rattle.table.proofs.Numbers.{eq_shape}

@@ -1,12 +1,12 @@
 -- Each number and place of translation, exactly. Assumes nothing.
-use Prim.Native.Nat.{ℕ, ◌≤◌, ◌<◌}
+use Prim.Native.Nat.{ℕ}
 use native.Mathlib.Omega.{arith}
-use mathlib.Core.Path.{◌≡◌, refl, sym, ap, ◌∙◌}
+use mathlib.Core.Path.{◌≡◌, refl, sym, ◌∙◌}
 use mathlib.Core.Bool.{Bool, true, false, cond, not, ◌&&◌}
-use mathlib.Core.List.{List, [], ◌∷◌, map}
-use mathlib.Core.Logic.{inl, inr, ◌↔◌}
+use mathlib.Core.List.{List, [], map}
+use mathlib.Core.Logic.{inl, inr}
 use lib.Dec.{ltb}
-use lib.ListN.{length, get_or}
+use lib.ListN.{length}
 use borrow.Author.Tests.{ltb-true, ltb-false}
 use Rattle.word.specs.Word.{Bytes}
 use Rattle.opcode.specs.declared.Edition.{Edition}
@@ -21,8 +21,8 @@ use Rattle.grammar.specs.Answer.{found_of}
 use Rattle.grammar.proofs.Theorems.{names_place}
 use Rattle.translator.specs.Compile.{code_of, compile}
 use Rattle.translator.specs.Depth.{most_slots}
-use Rattle.translator.specs.Translation.{Outcome, refusal, refusal_of, of_tree_lem, of_result, of_tokens, of_lexed, translation_in, edition_number, translation_of}
-use Rattle.translator.specs.Theorems.{Expression, Right, Accepted, Given, long, formless, outside, deep, broken, form, pattern, kind, many, high, short, none, GivenExactly}
+use Rattle.translator.specs.Translation.{Outcome, refusal_of, of_tree, of_result, of_tokens, of_lexed, translation_in, edition_number, translation_of}
+use Rattle.translator.specs.Theorems.{Expression, Right, Given, long, formless, outside, deep, broken, form, pattern, kind, many, high, short, none, GivenExactly}
 use Rattle.translator.proofs.Stages.{Stage, before, at_tree, in_edition, stage}
 use Rattle.translator.proofs.Fits.{outcome_by}
 use Rattle.translator.proofs.Filling.{table_size, by_4, by_18, by_5, by_7, by_8, by_9, refusal_by_lem}
@@ -38,8 +38,8 @@ module _ (edition : Edition) (s : List ℕ) (room : ℕ) (bytes : Bytes s) where
 
   -- ---- what is answered is given
 
-  tree_given : (t : Tree) → Expression s t → Given edition s room (of_tree_lem edition t room).number (of_tree_lem edition t room).place
-  unfolding of_tree_lem refusal_of
+  tree_given : (t : Tree) → Expression s t → Given edition s room (of_tree edition t room).number (of_tree edition t room).place
+  unfolding of_tree refusal_of
   tree_given t x =
       go (forms_right t) (patterns_right t) (kinds_right t) (is_logic t) (ltb 512 (entries_of t)) (ltb 32 (depth_of t)) (ltb room (length (encode (compile edition t)))) refl refl refl refl refl refl refl
     where

@@ -1,13 +1,13 @@
 -- The code of a tree whose forms and kinds are right: it leaves one slot, its skips land right, and each entry is right by itself. Assumes nothing.
-use Prim.Native.Nat.{ℕ, zero, suc, ◌+◌, ◌-◌, ◌^◌, ◌≤◌, ◌<◌, max}
+use Prim.Native.Nat.{ℕ, zero, suc, ◌+◌, ◌≤◌, ◌<◌}
 use native.Mathlib.Nat.{not-suc-le-zero, le_of_suc-le-suc}
 use native.Mathlib.Numerals.{add-one}
 use native.Mathlib.Omega.{arith}
 use mathlib.Core.Path.{◌≡◌, refl, sym, ap, ◌∙◌, subst}
-use mathlib.Core.Bool.{Bool, true, false, cond, not, ◌&&◌, ◌||◌}
+use mathlib.Core.Bool.{Bool, true, false, cond, not, ◌||◌}
 use mathlib.Core.List.{List, [], ◌∷◌, ◌++◌, append_assoc, append-nil}
 use mathlib.Core.Option.{Option, some}
-use lib.Dec.{eqb, leb}
+use lib.Dec.{eqb}
 use lib.ListN.{length, replicate, get_or, length-append, length-replicate}
 use borrow.Author.Tests.{eqb-true, le-leb}
 use Rattle.common.specs.Each.{Each}
@@ -16,19 +16,19 @@ use Rattle.common.proofs.Each.{each_append, each_at}
 use Rattle.opcode.specs.Opcode.{Kind, logic, value}
 use Rattle.table.specs.declared.Entry.{Entry}
 use Rattle.table.specs.Table.{blank}
-use Rattle.table.specs.Check.{after, shape_from, shape_at, is_skip, entry_right, landing, lands_right, skip_right, skips_right, same_shape}
+use Rattle.table.specs.Check.{after, shape_from, is_skip, entry_right, lands_right, skips_right}
 use Rattle.table.specs.Theorems.{Fits}
-use Rattle.table.proofs.Tests.{both_true, are_true}
+use Rattle.table.proofs.Tests.{are_true}
 use Rattle.table.proofs.Numbers.{eq_shape}
 use Rattle.table.proofs.Shapes.{from_front}
-use Rattle.table.proofs.Passes.{all_land, all_right}
+use Rattle.table.proofs.Passes.{all_land}
 use Rattle.lexer.specs.Token.{Token, name, int32, int64, real, text, symbol, kind_of}
 use Rattle.grammar.specs.Tree.{Tree, leaf, group, unary, binary, call, Trees, none, ◌then◌}
 use Rattle.grammar.specs.Function.{function_of}
 use Rattle.grammar.specs.Size.{count_of, skips, entries_of, entries_in, pool_bytes, pool_of, pool_in, depth_of, depth_in}
 use Rattle.grammar.specs.Judge.{gives_logic, takes_logic, is_logic}
 use Rattle.translator.specs.Compile.{entry, leaf_entry, skip_entries, call_entry, code_of, code_in, leaf_bytes, bytes_of, bytes_in}
-use Rattle.translator.proofs.Entries.{kind_by, Does, does_flow, Acts, Skips, skip_false, skip_true, TokenRight, leaf_does, Pushes, leaf_pushes}
+use Rattle.translator.proofs.Entries.{kind_by, does_flow, Acts, Skips, skip_false, skip_true, TokenRight, leaf_does, leaf_pushes}
 
 -- ---- sizes
 

@@ -1,27 +1,27 @@
 -- Where translation comes to its answer: before there is a tree, or by the tree. Assumes nothing.
-use Prim.Native.Nat.{ℕ, ◌+◌, ◌≤◌, ◌<◌}
+use Prim.Native.Nat.{ℕ, ◌<◌}
 use native.Mathlib.Omega.{arith}
 use mathlib.Core.Path.{◌≡◌, refl, sym, ap, ◌∙◌, subst}
 use mathlib.Core.Bool.{Bool, true, false}
 use mathlib.Core.List.{List, map}
-use mathlib.Core.Logic.{◌⊎◌, inl, inr}
-use lib.ListN.{length, get_or}
+use mathlib.Core.Logic.{inl, inr}
+use lib.ListN.{length}
 use Rattle.common.specs.Choice.{pick}
 use Rattle.opcode.specs.declared.Edition.{Edition}
-use Rattle.lexer.specs.Token.{Token, Placed, kind_of, Lexed, tokens, refused, tokens_of}
+use Rattle.lexer.specs.Token.{Placed, kind_of, Lexed, tokens, refused, tokens_of}
 use Rattle.lexer.specs.Theorems.{Laid, BadToken, HasNumber}
 use Rattle.lexer.proofs.Theorems.{whole, numbered}
 use Rattle.grammar.specs.Tree.{Tree}
 use Rattle.grammar.specs.Parse.{Result, ok, bad as unfit, parse_all}
 use Rattle.grammar.specs.Nesting.{too_deep}
 use Rattle.grammar.proofs.Theorems.{parses, names_place}
-use Rattle.translator.specs.Translation.{Outcome, refusal, of_tree_lem, of_result, of_tokens, of_lexed, translation_in, edition_number, translation_of}
+use Rattle.translator.specs.Translation.{Outcome, refusal, of_tree, of_result, of_tokens, of_lexed, translation_in, edition_number, translation_of}
 use Rattle.translator.specs.Theorems.{Expression, Given, long, formless, outside, deep, broken}
 use Rattle.translator.proofs.Filling.{whole_level}
 
 pub data Stage (edition : Edition) (s : List ℕ) (room : ℕ) : Outcome → Type 0 where
   before : (k place : ℕ) → Given edition s room k place → 0 < k → Stage edition s room (refusal k place)
-  at_tree : (t : Tree) → Expression s t → Stage edition s room (of_tree_lem edition t room)
+  at_tree : (t : Tree) → Expression s t → Stage edition s room (of_tree edition t room)
 
 -- an edition by its number
 pub in_edition : (edition : Edition) (s : List ℕ) (room : ℕ) → translation_of (edition_number edition) s room ≡ translation_in edition s room

@@ -1,10 +1,9 @@
 -- The theorems on translation that specs/Theorems.antt states. Assumes nothing.
-use Prim.Native.Nat.{ℕ, ◌≤◌, ◌<◌}
+use Prim.Native.Nat.{ℕ, ◌≤◌}
 use native.Mathlib.Omega.{arith}
 use mathlib.Core.Path.{◌≡◌, refl, sym, ap, ◌∙◌}
-use mathlib.Core.Bool.{Bool, true, false, ◌||◌}
+use mathlib.Core.Bool.{Bool, true, false}
 use mathlib.Core.List.{List, map}
-use mathlib.Core.Logic.{◌↔◌}
 use lib.Dec.{eqb}
 use lib.ListN.{length}
 use borrow.Author.Tests.{eqb-true, ne_eqb}
@@ -19,8 +18,8 @@ use Rattle.grammar.specs.Size.{pool_of}
 use Rattle.grammar.specs.Judge.{forms_right, kinds_right}
 use Rattle.grammar.specs.Answer.{found_of}
 use Rattle.grammar.proofs.Theorems.{parses}
-use Rattle.translator.specs.Compile.{code_of, compile}
-use Rattle.translator.specs.Translation.{Outcome, refusal, refusal_of, of_tree_lem, of_result, of_tokens, of_lexed, translation_in, edition_number, is_edition, translation_of}
+use Rattle.translator.specs.Compile.{compile}
+use Rattle.translator.specs.Translation.{Outcome, refusal, refusal_of, of_tree, of_result, of_tokens, of_lexed, translation_in, edition_number, translation_of}
 use Rattle.translator.specs.Theorems.{Expression, Accepted, WritesTable, AcceptsExactly, Decodes, PassesCheck, TableSizes, OtherEdition}
 use Rattle.translator.proofs.Sound as sound
 use Rattle.translator.proofs.Derived.{level_sound}
@@ -33,7 +32,7 @@ use Rattle.translator.proofs.Stages.{Stage, before, at_tree, in_edition, stage}
 
 -- ---- the answer
 
-pub of_tree_lem : (edition : Edition) (s : List ℕ) (t : Tree) (room : ℕ) → Expression s t → translation_of (edition_number edition) s room ≡ of_tree_lem edition t room
+pub of_tree_lem : (edition : Edition) (s : List ℕ) (t : Tree) (room : ℕ) → Expression s t → translation_of (edition_number edition) s room ≡ of_tree edition t room
 unfolding translation_in of_lexed of_tokens of_result
 of_tree_lem edition s t room x = rw (in_edition edition s room, x.lexed, x.shallow, (parses (map (λ p. p.token) x.placed) t).1 x.derived)
 
@@ -43,12 +42,12 @@ no_refusal edition s t room a h =
     ∙ sym (by_0 (found_of t) room (rw a.right.forms) (rw a.right.patterns) (rw (a.right.kinds, a.right.logic)) a.few a.low (omega (arith, table_size edition t)))
 
 pub writes_table : WritesTable
-unfolding of_tree_lem
+unfolding of_tree
 writes_table edition s t room a h = of_tree_lem edition s t room a.expression ∙ rw (no_refusal edition s t room a h)
 
 -- a tree's number and place
-pub tree_is : (edition : Edition) (t : Tree) (room : ℕ) → ((of_tree_lem edition t room).number ≡ refusal_of edition t room) × ((of_tree_lem edition t room).place ≡ 0)
-unfolding of_tree_lem
+pub tree_is : (edition : Edition) (t : Tree) (room : ℕ) → ((of_tree edition t room).number ≡ refusal_of edition t room) × ((of_tree edition t room).place ≡ 0)
+unfolding of_tree
 tree_is edition t room = go (eqb (refusal_of edition t room) 0) refl
   where
     go : (b : Bool) → eqb (refusal_of edition t room) 0 ≡ b

@@ -1,5 +1,5 @@
 -- The passes over sizes and codes: the sum, the entries and the pool. Assumes nothing.
-use Prim.Native.Nat.{ℕ, zero, suc, ◌+◌, ◌-◌, ◌*◌, ◌≤◌, ◌<◌}
+use Prim.Native.Nat.{ℕ, suc, ◌+◌, ◌-◌, ◌*◌, ◌≤◌, ◌<◌}
 use native.Mathlib.Omega.{arith}
 use native.Mathlib.Numerals.{add-one}
 use mathlib.Core.Path.{◌≡◌, refl, sym, ap, ap₂, ◌∙◌, subst}
@@ -9,7 +9,6 @@ use lib.ListN.{length, get_or, drop, length-append, length-drop, drop_of_length-
 use lib.Seq.{sets, drop-cons, length-sets}
 use Rattle.common.proofs.Stores.{sets_append}
 use Rattle.postfix.proofs.Codes.{sets_swap}
-use Rattle.table.specs.declared.Entry.{Entry}
 use Rattle.table.specs.Table.{entry_bytes, entries_bytes}
 use Rattle.translator.specs.Emit.{entry_start}
 use Rattle.translator.specs.Expand.{pushes, operands_by, brought_by, entry_by, expand, pooled, SizedBy, Sized, sum_from}

@@ -1,6 +1,6 @@
 -- The table of a tree. Document 01, "Table": "Translation is postfix. `L && R` becomes L, skip if false, R, op 41; `L || R` uses skip if true; a is R's entries plus 1.
 -- .. Operand names (not functions') and strings enter the pool unescaped, in text order, each time anew."
-use Rattle.std.specs.Prelude.{ℕ, ◌+◌, ◌-◌, Bool, true, false, cond, List, [], ◌∷◌, ◌++◌, eqb, leb, length}
+use Rattle.std.specs.Prelude.{ℕ, ◌+◌, ◌-◌, cond, List, [], ◌∷◌, ◌++◌, eqb, leb, length}
 use Rattle.std.specs.Float.{binary64}
 use Rattle.std.specs.Float.Ieee.{to_bits}
 use Rattle.std.specs.Int.{w64}

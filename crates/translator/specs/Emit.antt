@@ -5,7 +5,7 @@ use Rattle.common.specs.Choice.{pick}
 use Rattle.word.specs.Word.{word_bytes}
 use Rattle.opcode.specs.declared.Edition.{Edition}
 use Rattle.table.specs.Table.{table_kind}
-use Rattle.lexer.specs.Token.{Token, Placed, kind_of, tokens, tokens_of}
+use Rattle.lexer.specs.Token.{Placed, kind_of, tokens, tokens_of}
 use Rattle.grammar.specs.Tree.{Tree}
 use Rattle.grammar.specs.Parse.{ok, parse_all}
 use Rattle.grammar.specs.Nesting.{too_deep}

@@ -1,6 +1,5 @@
 -- Entries and pool of postfix codes, one after the other: what one pass over the codes writes. That it is `compile` of specs/Compile.antt is proved in proofs/Expanding.antt.
 use Rattle.std.specs.Prelude.{ℕ, zero, suc, ◌+◌, ◌/◌, ◌%◌, ◌≡◌, Bool, true, cond, List, [], ◌∷◌, ◌++◌, length, get_or}
-use Rattle.lexer.specs.Token.{Token}
 use Rattle.grammar.specs.Marks.{is_operand}
 use Rattle.grammar.specs.Stream.{token_of}
 use Rattle.table.specs.declared.Entry.{Entry}

@@ -1,9 +1,9 @@
 -- Translation: number, place and table for every text and every buffer. Document 01, "Refusals by number".
-use Rattle.std.specs.Prelude.{ℕ, ◌≤◌, ◌≡◌, Bool, cond, ◌||◌, List, [], map, eqb, ltb, length, get_or}
+use Rattle.std.specs.Prelude.{ℕ, ◌≡◌, Bool, cond, ◌||◌, List, [], map, eqb, ltb, length, get_or}
 use Rattle.std.proofs.lemmas.List.Edits.{sets}
 use Rattle.common.specs.Choice.{pick}
 use Rattle.opcode.specs.declared.Edition.{Edition}
-use Rattle.lexer.specs.Token.{Token, Placed, kind_of, Lexed, tokens, refused, tokens_of}
+use Rattle.lexer.specs.Token.{Token, kind_of, Lexed, tokens, refused, tokens_of}
 use Rattle.lexer.specs.Answer as lexing
 use Rattle.lexer.specs.declared.Lexing.TheVariants.{Refused}
 use Rattle.grammar.specs.Tree.{Tree}

@@ -1,9 +1,8 @@
 use native.Mathlib.Omega.{arith}
-use mathlib.Core.Path.{◌≡◌, refl, sym, ap, ◌∙◌, subst}
+use mathlib.Core.Path.{ap, ◌∙◌}
 use lib.ListN.{length}
 use lib.Seq.{length-sets}
 use Rattle.translator.proofs.Filling.{coded_9, coded_pool, coded_table}
-use borrow.Author.Rules.{rules}
 use Rattle.translator.proofs.coded.Goals as goal
 
 pub overflow_mul-length : goal.overflow_mul-length
@@ -24,8 +23,8 @@ accepted-requires c =
     (omega (arith, c.requires.count, c.requires.few), omega (arith, c.requires.pool_is, c.requires.small), coded_pool c.requires c.args.edition (length c.args.buffer.now), c.if-buffer-length.false, c.requires.sized)
 
 pub shape_of-buffer : goal.shape_of-buffer
-shape_of-buffer c = ap length c.accepted.ensures.1 ∙ simp length-sets
+shape_of-buffer c = ap length c.accepted.ensures.buffer_after ∙ simp length-sets
 
 pub returns : goal.returns
 returns c =
-    coded_table c.requires c.args.edition (length c.args.buffer.now) c.if-buffer-length.false c.accepted.ensures.0 c.accepted.ensures.1
+    coded_table c.requires c.args.edition (length c.args.buffer.now) c.if-buffer-length.false c.accepted.ensures.value c.accepted.ensures.buffer_after

@@ -1,8 +1,7 @@
 use native.Mathlib.Omega.{arith}
-use mathlib.Core.Path.{◌≡◌, refl, sym, ap, ◌∙◌, subst}
+use mathlib.Core.Path.{sym, ◌∙◌}
 use lib.ListN.{length}
 use Rattle.translator.proofs.Answering.{first_refused, count_few, entries_few, coded, front_as}
-use borrow.Author.Rules.{rules}
 use Rattle.translator.proofs.expression.Goals as goal
 
 pub returns-then-number-ne0 : goal.returns-then-number-ne0

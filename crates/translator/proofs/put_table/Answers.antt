@@ -1,6 +1,5 @@
-use Prim.Native.Nat.{ℕ, ◌+◌, ◌-◌, ◌*◌, ◌≤◌, ◌<◌}
 use native.Mathlib.Omega.{arith}
-use mathlib.Core.Path.{◌≡◌, refl, sym, ap, ◌∙◌, subst}
+use mathlib.Core.Path.{ap, ◌∙◌}
 use lib.ListN.{length}
 use lib.Seq.{length-sets}
 use Rattle.table.specs.Table.{entries_bytes}
@@ -9,7 +8,6 @@ use Rattle.translator.specs.Emit.{header_bytes}
 use Rattle.translator.proofs.Stores.{kept_by}
 use Rattle.translator.proofs.Writing.{length_written}
 use Rattle.translator.proofs.Filling.{table_written}
-use borrow.Author.Rules.{rules}
 use Rattle.translator.proofs.put_table.Goals as goal
 
 pub put_header-requires : goal.put_header-requires

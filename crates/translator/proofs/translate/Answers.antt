@@ -1,9 +1,5 @@
 use lib.ListN.{length}
 use Rattle.translator.proofs.Answering.{answers_other, answers_edition}
-use borrow.Author.Rules.{rules}
-use Rattle.translator.proofs.named.Reads as named-reads
-use Rattle.translator.proofs.refused.Reads as refused-reads
-use Rattle.translator.proofs.translate_edition.Reads as translate-edition-reads
 use Rattle.translator.proofs.translate.Goals as goal
 
 pub returns-then-edition : goal.returns-then-edition

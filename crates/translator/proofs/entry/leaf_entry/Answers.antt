@@ -1,12 +1,6 @@
 use mathlib.Core.Path.{ap, ◌∙◌}
 use lib.Ieee.{binary64, to_bits}
 use Rattle.translator.proofs.Making.{name_made, string_made, real_made, int_made}
-use borrow.Author.Rules.{rules}
-use Rattle.lexer.proofs.real_value.Reads as real-value-reads
-use Rattle.number.proofs.bits_of_real.Reads as bits-of-real-reads
-use Rattle.translator.proofs.entry.literal_entry.Reads as literal-entry-reads
-use Rattle.translator.proofs.entry.part_entry.Reads as part-entry-reads
-use Rattle.translator.proofs.operand.int_bits.Reads as int-bits-reads
 use Rattle.translator.proofs.entry.leaf_entry.Goals as goal
 
 pub returns-then-op-eq-NAME : goal.returns-then-op-eq-NAME

@@ -1,10 +1,7 @@
 use Prim.Native.Nat.{◌≤◌, ◌+◌, ◌*◌}
-use mathlib.Core.Path.{◌∙◌}
 use native.Mathlib.Omega.{arith}
 use borrow.Rule.Slice.PartMut.{Post-is}
 use Rattle.translator.proofs.Making.{part_back}
-use borrow.Author.Rules.{rules}
-use Rattle.translator.proofs.entry.put_entry.Reads as put-entry-reads
 use Rattle.translator.proofs.entry.put.Goals as goal
 
 pub returns : goal.returns

@@ -1,16 +1,10 @@
-use Prim.Native.Nat.{ℕ, ◌+◌, ◌-◌, ◌*◌, ◌≤◌, ◌<◌}
+use Prim.Native.Nat.{ℕ, ◌+◌, ◌-◌}
 use native.Mathlib.Omega.{arith}
-use mathlib.Core.Path.{◌≡◌, refl, sym, ap, ◌∙◌, subst}
+use mathlib.Core.Path.{◌≡◌, ap, ◌∙◌}
 use lib.ListN.{take, drop}
 use lib.Seq.{sets}
 use Rattle.word.specs.Word.{word_bytes}
 use Rattle.translator.proofs.Stores.{in_words, words_over, kept_by}
-use borrow.Author.Rules.{rules}
-use Rattle.common.proofs.copy_to.Reads as copy-to-reads
-use Rattle.word.proofs.read_u32.Reads as read-u32-reads
-use Rattle.word.proofs.read_u64.Reads as read-u64-reads
-use Rattle.word.proofs.write_u32.Reads as write-u32-reads
-use Rattle.word.proofs.write_u64.Reads as write-u64-reads
 use Rattle.translator.proofs.operand.copy.Goals as goal
 
 pub returns-then-n : goal.returns-then-n
@@ -36,7 +30,7 @@ overflow_sub-last c = omega (arith, (in_words c.args.n c.if-n.false).0)
 
 pub write_u32-requires-then-n-lt8 : goal.write_u32-requires-then-n-lt8
 write_u32-requires-then-n-lt8 c =
-    omega (arith, (in_words c.args.n c.if-n.false).0, c.requires.1, kept_by c.args.out.now c.write_u32.new.0 c.args.at (word_bytes 4 c.read_u32-low.result) c.write_u32.ensures)
+    omega (arith, (in_words c.args.n c.if-n.false).0, c.requires.1, kept_by c.args.out.now c.write_u32.new.d c.args.at (word_bytes 4 c.read_u32-low.result) c.write_u32.ensures)
 
 pub returns-then-n-lt8 : goal.returns-then-n-lt8
 returns-then-n-lt8 c =
@@ -44,7 +38,7 @@ returns-then-n-lt8 c =
 
 pub write_u64-requires-2 : goal.write_u64-requires-2
 write_u64-requires-2 c =
-    omega (arith, c.if-n-lt8.false, c.requires.1, kept_by c.args.out.now c.write_u64.new.0 c.args.at (word_bytes 8 c.read_u64-low.result) c.write_u64.ensures)
+    omega (arith, c.if-n-lt8.false, c.requires.1, kept_by c.args.out.now c.write_u64.new.d c.args.at (word_bytes 8 c.read_u64-low.result) c.write_u64.ensures)
 
 pub returns : goal.returns
 returns c =

@@ -1,10 +1,7 @@
-use Prim.Native.Nat.{ℕ, ◌+◌, ◌-◌, ◌*◌, ◌≤◌, ◌<◌}
+use Prim.Native.Nat.{ℕ, ◌+◌, ◌*◌}
 use native.Mathlib.Omega.{arith}
-use mathlib.Core.Path.{◌≡◌, refl, sym, ap, ◌∙◌, subst}
-use lib.ListN.{length}
-use Rattle.translator.proofs.Plain.{Few, few_start, few_end, few_stop, digit-range, low, few-more}
-use borrow.Author.Rules.{rules}
-use Rattle.translator.proofs.operand.wide.Reads as wide-reads
+use mathlib.Core.Path.{ap}
+use Rattle.translator.proofs.Plain.{few_start, few_end, few_stop, digit-range, low, few-more}
 use Rattle.translator.proofs.operand.few_digits.Goals as goal
 
 pub loop-i-init : goal.loop-i-init

@@ -2,10 +2,6 @@ use mathlib.Core.Path.{ap, ◌∙◌}
 use mir.Syntax.{w64}
 use mir.Val.{of_z}
 use mir.ValLaws.{to_z-of_z}
-use borrow.Author.Rules.{rules}
-use Rattle.lexer.proofs.int_value.Reads as int-value-reads
-use Rattle.translator.proofs.operand.few_digits.Reads as few-digits-reads
-use Rattle.word.proofs.bits_of_i64.Reads as bits-of-i64-reads
 use Rattle.translator.proofs.operand.int_bits.Goals as goal
 
 pub returns-then-v-gt0 : goal.returns-then-v-gt0

@@ -1,11 +1,8 @@
-use Prim.Native.Nat.{ℕ, ◌+◌, ◌-◌, ◌*◌, ◌≤◌, ◌<◌}
+use Prim.Native.Nat.{◌+◌}
 use native.Mathlib.Omega.{arith}
-use mathlib.Core.Path.{◌≡◌, refl, sym, ap, ◌∙◌, subst}
 use lib.ListN.{length}
 use Rattle.common.proofs.Choice.{false_true}
 use Rattle.translator.proofs.Plain.{more_after, name_stands}
-use borrow.Author.Rules.{rules}
-use Rattle.translator.proofs.operand.ends_name.Reads as ends-name-reads
 use Rattle.translator.proofs.operand.is_plain_name.Goals as goal
 
 pub returns-then-n-text : goal.returns-then-n-text

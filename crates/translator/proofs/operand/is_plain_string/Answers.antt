@@ -1,9 +1,6 @@
-use Prim.Native.Nat.{ℕ, ◌+◌, ◌-◌, ◌*◌, ◌≤◌, ◌<◌}
-use native.Mathlib.Omega.{arith}
-use mathlib.Core.Path.{◌≡◌, refl, sym, ap, ◌∙◌, subst}
+use mathlib.Core.Path.{refl}
 use Rattle.common.proofs.Choice.{false_true}
 use Rattle.translator.proofs.Plain.{string_stands}
-use borrow.Author.Rules.{rules}
 use Rattle.translator.proofs.operand.is_plain_string.Goals as goal
 
 pub returns-then-text-last : goal.returns-then-text-last

@@ -1,12 +1,7 @@
-use Prim.Native.Nat.{ℕ, ◌+◌, ◌-◌, ◌*◌, ◌≤◌, ◌<◌}
-use native.Mathlib.Omega.{arith}
-use mathlib.Core.Path.{◌≡◌, refl, sym, ap, ◌∙◌, subst}
+use mathlib.Core.Path.{sym, ap, ◌∙◌}
 use lib.ListN.{length}
 use lib.Seq.{sets}
 use Rattle.translator.proofs.Making.{brought_text, brought_name, brought_none}
-use borrow.Author.Rules.{rules}
-use Rattle.translator.proofs.operand.put_name.Reads as put-name-reads
-use Rattle.translator.proofs.operand.put_string.Reads as put-string-reads
 use Rattle.translator.proofs.operand.put_bytes.Goals as goal
 
 pub put_name-requires : goal.put_name-requires

@@ -1,13 +1,8 @@
-use Prim.Native.Nat.{ℕ, ◌+◌, ◌-◌, ◌*◌, ◌≤◌, ◌<◌}
 use native.Mathlib.Omega.{arith}
-use mathlib.Core.Path.{◌≡◌, refl, sym, ap, ◌∙◌, subst}
+use mathlib.Core.Path.{ap, ◌∙◌}
 use lib.Seq.{sets}
 use Rattle.lexer.specs.Token.{name_at}
 use Rattle.translator.proofs.Stores.{rest_put}
-use borrow.Author.Rules.{rules}
-use Rattle.lexer.proofs.copy_name.Reads as copy-name-reads
-use Rattle.translator.proofs.operand.copy.Reads as copy-reads
-use Rattle.translator.proofs.operand.is_plain_name.Reads as is-plain-name-reads
 use Rattle.translator.proofs.operand.put_name.Goals as goal
 
 pub copy-requires : goal.copy-requires
@@ -19,4 +14,4 @@ returns-then-is_plain_name c =
 
 pub returns : goal.returns
 returns c =
-    rest_put c.args.out.now _ (name_at c.args.text.now c.args.place) c.args.at (omega (arith, c.requires.3)) c.copy_name.ensures.1
+    rest_put c.args.out.now _ (name_at c.args.text.now c.args.place) c.args.at (omega (arith, c.requires.3)) c.copy_name.ensures.part_after

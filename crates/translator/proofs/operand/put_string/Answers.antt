@@ -1,13 +1,8 @@
-use Prim.Native.Nat.{ℕ, ◌+◌, ◌-◌, ◌*◌, ◌≤◌, ◌<◌}
 use native.Mathlib.Omega.{arith}
-use mathlib.Core.Path.{◌≡◌, refl, sym, ap, ◌∙◌, subst}
+use mathlib.Core.Path.{ap, ◌∙◌}
 use lib.Seq.{sets}
 use Rattle.lexer.specs.Token.{string_at}
 use Rattle.translator.proofs.Stores.{rest_put}
-use borrow.Author.Rules.{rules}
-use Rattle.lexer.proofs.copy_string.Reads as copy-string-reads
-use Rattle.translator.proofs.operand.copy.Reads as copy-reads
-use Rattle.translator.proofs.operand.is_plain_string.Reads as is-plain-string-reads
 use Rattle.translator.proofs.operand.put_string.Goals as goal
 
 pub copy-requires : goal.copy-requires
@@ -19,4 +14,4 @@ returns-then-is_plain_string c =
 
 pub returns : goal.returns
 returns c =
-    rest_put c.args.out.now _ (string_at c.args.text.now c.args.place) c.args.at (omega (arith, c.requires.3)) c.copy_string.ensures.1
+    rest_put c.args.out.now _ (string_at c.args.text.now c.args.place) c.args.at (omega (arith, c.requires.3)) c.copy_string.ensures.part_after

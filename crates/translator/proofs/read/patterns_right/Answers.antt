@@ -1,7 +1,5 @@
-use mathlib.Core.Path.{◌≡◌, refl, sym, ap, ◌∙◌, subst}
+use mathlib.Core.Path.{sym, ◌∙◌}
 use Rattle.operands.proofs.Theorems.{none_asked}
-use borrow.Author.Rules.{rules}
-use Rattle.operands.proofs.patterns.Reads as patterns-reads
 use Rattle.translator.proofs.read.patterns_right.Goals as goal
 
 pub returns-else-asked : goal.returns-else-asked

@@ -1,8 +1,6 @@
 use native.Mathlib.Omega.{arith}
-use mathlib.Core.Path.{◌≡◌, refl, sym, ap, ◌∙◌, subst}
+use mathlib.Core.Path.{sym, ◌∙◌}
 use Rattle.translator.proofs.Writing.{operands_one, operands_none}
-use borrow.Author.Rules.{rules}
-use Rattle.translator.proofs.entry.pushes.Reads as pushes-reads
 use Rattle.translator.proofs.write.operands.Goals as goal
 
 pub returns-then-pushes : goal.returns-then-pushes

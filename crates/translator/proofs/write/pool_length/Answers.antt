@@ -1,9 +1,7 @@
-use Prim.Native.Nat.{ℕ, ◌+◌, ◌-◌, ◌*◌, ◌≤◌, ◌<◌}
+use Prim.Native.Nat.{ℕ, ◌+◌}
 use native.Mathlib.Omega.{arith}
-use mathlib.Core.Path.{◌≡◌, refl, sym, ap, ◌∙◌, subst}
-use borrow.Author.Rules.{rules}
-use Rattle.translator.proofs.Writing.{Summing, sum_start, sum_on, sum_end}
-use Rattle.grammar.proofs.stream.start.Reads as start-reads
+use mathlib.Core.Path.{ap}
+use Rattle.translator.proofs.Writing.{sum_start, sum_on, sum_end}
 use Rattle.translator.proofs.write.pool_length.Goals as goal
 
 pub loop-i-init : goal.loop-i-init

@@ -1,9 +1,5 @@
-use Prim.Native.Nat.{ℕ, ◌+◌, ◌-◌, ◌*◌, ◌≤◌, ◌<◌}
-use native.Mathlib.Omega.{arith}
-use mathlib.Core.Path.{◌≡◌, refl, sym, ap, ◌∙◌, subst}
-use borrow.Author.Rules.{rules}
-use Rattle.translator.proofs.Writing.{Summing, sum_start, sum_on, sum_end}
-use Rattle.grammar.proofs.stream.start.Reads as start-reads
+use Prim.Native.Nat.{◌-◌}
+use Rattle.translator.proofs.Writing.{Summing}
 use Rattle.translator.proofs.write.pool_length.Given as goal
 
 abbrev pub invariant-loop-i : goal.invariant-loop-i

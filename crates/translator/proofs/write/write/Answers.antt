@@ -1,11 +1,7 @@
-use Prim.Native.Nat.{ℕ, ◌+◌, ◌-◌, ◌*◌, ◌≤◌, ◌<◌}
+use Prim.Native.Nat.{ℕ, ◌+◌}
 use native.Mathlib.Omega.{arith}
-use mathlib.Core.Path.{◌≡◌, refl, sym, ap, ◌∙◌, subst}
-use lib.ListN.{length}
-use borrow.Author.Rules.{rules}
-use Rattle.translator.proofs.Writing.{Writing, write_start, write_end, write-fits, write-on}
-use Rattle.translator.proofs.entry.put_code.Reads as put-code-reads
-use Rattle.translator.proofs.write.operands.Reads as operands-reads
+use mathlib.Core.Path.{ap}
+use Rattle.translator.proofs.Writing.{write_start, write_end, write-fits, write-on}
 use Rattle.translator.proofs.write.write.Goals as goal
 
 pub overflow_mul-from : goal.overflow_mul-from
@@ -31,7 +27,7 @@ overflow_add-leaf c = omega (arith, c.loop-i.invariant.few, c.operands-leaf.ensu
 
 pub overflow_add-pool : goal.overflow_add-pool
 overflow_add-pool c =
-    omega (arith, c.put_code-n.ensures.0, (write-fits _ _ _ _ _ c.loop-i.invariant c.loop-i-test.true c.requires.1 c.requires.0 c.requires.2).3, c.loop-i.invariant.ends, c.requires.2)
+    omega (arith, c.put_code-n.ensures.value, (write-fits _ _ _ _ _ c.loop-i.invariant c.loop-i-test.true c.requires.1 c.requires.0 c.requires.2).3, c.loop-i.invariant.ends, c.requires.2)
 
 pub overflow_add-i : goal.overflow_add-i
 overflow_add-i c = omega (arith, c.loop-i-test.true, c.requires.0)
@@ -41,7 +37,7 @@ loop-i-smaller c = omega (arith, c.loop-i-test.true)
 
 pub loop-i-preserved : goal.loop-i-preserved
 loop-i-preserved c =
-    write-on _ _ _ _ _ c.loop-i.invariant c.loop-i-test.true (ap (λ (m : ℕ). c.loop-i.leaf + m) c.operands-leaf.ensures.0) (omega (arith, c.operands-leaf.ensures.0, c.operands-leaf.ensures.1)) (ap (λ (m : ℕ). c.loop-i.pool + m) c.put_code-n.ensures.0) c.put_code-n.ensures.1
+    write-on _ _ _ _ _ c.loop-i.invariant c.loop-i-test.true (ap (λ (m : ℕ). c.loop-i.leaf + m) c.operands-leaf.ensures.0) (omega (arith, c.operands-leaf.ensures.0, c.operands-leaf.ensures.1)) (ap (λ (m : ℕ). c.loop-i.pool + m) c.put_code-n.ensures.value) c.put_code-n.ensures.out_after
 
 pub shape_of-out : goal.shape_of-out
 shape_of-out c = c.loop-i.invariant.long

@@ -1,11 +1,6 @@
-use Prim.Native.Nat.{ℕ, ◌+◌, ◌-◌, ◌*◌, ◌≤◌, ◌<◌}
-use native.Mathlib.Omega.{arith}
-use mathlib.Core.Path.{◌≡◌, refl, sym, ap, ◌∙◌, subst}
+use Prim.Native.Nat.{◌-◌}
 use lib.ListN.{length}
-use borrow.Author.Rules.{rules}
-use Rattle.translator.proofs.Writing.{Writing, write_start, write_end, write-fits, write-on}
-use Rattle.translator.proofs.entry.put_code.Reads as put-code-reads
-use Rattle.translator.proofs.write.operands.Reads as operands-reads
+use Rattle.translator.proofs.Writing.{Writing}
 use Rattle.translator.proofs.write.write.Given as goal
 
 abbrev pub invariant-loop-i : goal.invariant-loop-i
