@@ -1,6 +1,6 @@
 -- What rounding to the nearest sees of an integer. Assumes nothing.
 -- `whole_sum`, `add_at`, `whole_scaled`, `scale_at`, `negated` are those of std's proofs/num/Nearest.antt, which keeps them private; `scale_at` is over the sign here.
-use Rattle.std.proofs.Common.{◌≡◌, ℕ, zero, suc, ◌+◌, ◌-◌, ◌*◌, ◌/◌, ◌%◌, ◌^◌, ◌<◌, ◌≤◌, Bool, true, false, cond, not, T, eqb, ltb, ◌⊎◌, ℤ, pos, negsuc, sym, refl, ap, ◌∙◌, subst, inl, inr, le_trans, le_of_eq, le_refl, lt_of_lt_of_le, lt_of_le_of_lt, le_of_lt, lt_irrefl, mul-le-mul_right, mod-lt, zero-lt-suc, mul_assoc, suc-mul, mul_comm, add-mul, le_antisymm, lt_of_mul-lt-mul_right, eq-or-lt_of_le, mul-pos, one-mul, lt_of_not-le, zero-mul, mul-one, mul_right_comm, div-one, arith, lit≤, eqb→eq, leb→le, pow_pos, pow_mono, pow-add, shl_lt}
+use Rattle.std.proofs.Common.{◌≡◌, ℕ, zero, suc, ◌+◌, ◌-◌, ◌*◌, ◌/◌, ◌%◌, ◌^◌, ◌<◌, ◌≤◌, Bool, true, false, cond, not, T, eqb, ltb, ◌⊎◌, pos, negsuc, sym, refl, ap, ◌∙◌, subst, inl, inr, le_trans, le_of_eq, lt_of_lt_of_le, lt_of_le_of_lt, le_of_lt, lt_irrefl, mul-le-mul_right, zero-lt-suc, mul_assoc, suc-mul, mul_comm, add-mul, le_antisymm, lt_of_mul-lt-mul_right, mul-pos, one-mul, lt_of_not-le, zero-mul, mul-one, mul_right_comm, div-one, arith, lit≤, eqb→eq, leb→le, pow_pos, pow_mono, pow-add, shl_lt}
 use Prim.Native.Nat.{compare, Ordering}
 use native.Mathlib.Nat.{div-div-eq-div-mul}
 use lib.Dec.{is_le, compare_is_eq, nleb→lt, eqb_refl}
@@ -9,7 +9,7 @@ use lib.Pow.{high, low, mod-pow-add}
 use lib.Ieee.{Float, nan, inf, fin, Format, binary64, prec, emax, up, down, size, odd, units, round, neg, add, sum, mul, of_int, in_float, of_bits}
 use lib.Ieee as I
 use lib.Ieee.Fits.{down_pos, round_is, core}
-use lib.Ieee.Digits.{size-lt, size-le, size_reaches}
+use lib.Ieee.Digits.{size-lt, size-le}
 use lib.Ieee.Exact.{HasValue, round_exact}
 use lib.Ieee.Nearest.{closest}
 use lib.Ieee.Scale.{round_same}

@@ -1,7 +1,7 @@
 -- Sums, differences and products of int64 by sign and magnitude, as reals. Assumes nothing.
-use Rattle.std.proofs.Common.{◌≡◌, ℕ, zero, suc, ◌+◌, ◌*◌, ◌^◌, ◌<◌, ◌≤◌, Bool, true, false, not, ◌&&◌, eqb, ℤ, pos, negsuc, ◌+ℤ◌, ◌-ℤ◌, ◌*ℤ◌, neg_ℤ, nat_abs, sym, refl, ap, ◌∙◌, mul-pos, mul-zero, zero-mul, arith, lit<, w64, SFits, to_z, of_z, ltb-true, le-ltb, eq-eqb, ne_eqb}
+use Rattle.std.proofs.Common.{◌≡◌, ℕ, zero, suc, ◌+◌, ◌*◌, ◌^◌, ◌<◌, ◌≤◌, Bool, true, false, not, ◌&&◌, eqb, ℤ, pos, negsuc, ◌+ℤ◌, ◌*ℤ◌, neg_ℤ, nat_abs, sym, refl, ap, ◌∙◌, mul-pos, mul-zero, zero-mul, arith, lit<, w64, SFits, ltb-true, le-ltb, ne_eqb}
 use lib.Signed.{mag, lt_z, quot_z}
-use lib.Ieee.{Float, fin, binary64, neg, of_int, of_bits, unlike}
+use lib.Ieee.{Float, binary64, neg, of_int, of_bits, unlike}
 use mir.ValLaws.{to_z-of_z}
 use Rattle.nearest.specs.Nearest.{nearest_real, is_negative, signed_of}
 use Rattle.common.proofs.Choice.{true_false, false_true}

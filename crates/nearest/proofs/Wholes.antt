@@ -1,5 +1,5 @@
 -- Integers that f64 holds with no gap: those up to 2 ^ 53 either way. Assumes nothing.
-use Rattle.std.proofs.Common.{◌≡◌, ℕ, suc, ◌^◌, ◌<◌, ◌≤◌, Bool, true, false, ◌&&◌, T, ltb, ℤ, pos, negsuc, nat_abs, sym, refl, ◌∙◌, arith, le→leb, w64, SFits, ltb-false, ltb-true}
+use Rattle.std.proofs.Common.{◌≡◌, suc, ◌^◌, ◌<◌, ◌≤◌, Bool, true, false, ◌&&◌, T, ltb, ℤ, pos, negsuc, nat_abs, sym, refl, ◌∙◌, arith, le→leb, w64, SFits, ltb-false, ltb-true}
 use lib.Signed.{lt_z}
 use lib.Ieee.{binary64, in_float}
 use mir.ValLaws.{to_z-of_z}

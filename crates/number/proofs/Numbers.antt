@@ -1,5 +1,5 @@
 -- Numbers by their kinds: what each operator's tests lead to. Assumes nothing.
-use Rattle.std.proofs.Common.{◌≡◌, ℕ, suc, ◌-◌, ◌%◌, ◌^◌, ◌<◌, ◌≤◌, Bool, true, false, not, ◌&&◌, ◌||◌, eqb, ℤ, pos, negsuc, nat_abs, sym, refl, ap, ◌∙◌, ap₂, mod-lt, arith, w32, w64, SFits, to_z, of_z, ltb-true, le-ltb, lt-ltb, eq-eqb, ne_eqb, eqb-true}
+use Rattle.std.proofs.Common.{◌≡◌, ℕ, suc, ◌-◌, ◌%◌, ◌^◌, ◌<◌, ◌≤◌, Bool, true, false, not, ◌&&◌, ◌||◌, eqb, ℤ, pos, negsuc, nat_abs, sym, refl, ap, ◌∙◌, ap₂, mod-lt, arith, w32, w64, SFits, to_z, of_z, ltb-true, le-ltb, lt-ltb, ne_eqb}
 use lib.Signed.{mag, nat_abs-le}
 use lib.Ieee.{Float, binary64, eq, of_int, of_bits}
 use mir.Syntax.{Width}

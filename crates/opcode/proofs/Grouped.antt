@@ -11,8 +11,6 @@ use lib.ListN.{length, get_or-eq_default}
 use Rattle.common.proofs.Choice.{false_true}
 use Rattle.opcode.specs.Opcode.{ops, op_of}
 use Rattle.opcode.specs.Groups.{group_of, change_in, combine_in, is_not_equal, equality_by, order_in, test_in, many_in}
-use Rattle.opcode.specs.declared.Shift.{Shift}
-use Rattle.opcode.specs.declared.Bitwise.{Bitwise}
 use Rattle.opcode.specs.declared.Arithmetic.{Arithmetic}
 use Rattle.opcode.specs.declared.Order.{Order}
 use Rattle.opcode.specs.declared.Load.{Load}

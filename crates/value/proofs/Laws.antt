@@ -1,10 +1,9 @@
 -- The laws of the groups, as specs/Laws.antt states them. Assumes nothing. What a new function owes, once:
 -- one operand: its clause of `strict_unary` (Theorems); two: that bottom on either side makes it bottom, in `bottom_combine` or `bottom_compare` (Theorems); a connective: its clause of `connective_rises`;
 -- several operands: its clause of `several_rise`, and nothing if it is a `Fit`, since `fit_rises` holds of every test of bytes.
-use Prim.Native.Nat.{ℕ}
 use mathlib.Core.Path.{◌≡◌, refl, sym, ap, ◌∙◌}
 use mathlib.Core.Logic.{◌⊎◌, inl, inr}
-use mathlib.Core.Bool.{Bool, true, false, ◌&&◌}
+use mathlib.Core.Bool.{false, ◌&&◌}
 use mathlib.Core.List.{List, [], ◌∷◌, map}
 use mathlib.Core.Option.{Option, some, none}
 use Rattle.truth.specs.declared.Truth.{Truth}
@@ -20,7 +19,7 @@ use Rattle.notice.specs.Field.{Field}
 use Rattle.notice.specs.Layout.{fields_of}
 use Rattle.notice.specs.Lookup.{field_named}
 use Rattle.notice.proofs.More.{found_still}
-use Rattle.value.specs.Value.{Value, bottom, Item, logic, value, is_text, change_of, test_of, combine_of, compare_of, equal_values, all_texts, any_fit, any_equal, many_of, truth_in, value_in, named_value, value_named}
+use Rattle.value.specs.Value.{Value, bottom, Item, logic, value, is_text, change_of, test_of, combine_of, compare_of, equal_values, all_texts, any_fit, any_equal, many_of, truth_in, value_in, named_value}
 use Rattle.value.specs.Order.{TruthBelow, ValueBelow, ItemBelow, EachBelow}
 use Rattle.value.specs.Laws.{LookupRises, OneRises, ConnectiveRises, TwoRises, ManyRises, NoneTells}
 use Rattle.value.proofs.Order.{strict_one, strict_two, by_sides}

@@ -12,7 +12,7 @@ use lib.IntN.{ℤ, pos, negsuc}
 use lib.ListN.{take, drop}
 use lib.Ieee.{is_nan}
 use mir.Syntax.{w32, w64}
-use mir.Val.{bits, hbits, SFits, to_z, of_z}
+use mir.Val.{SFits, to_z, of_z}
 use mir.ValLaws.{to_z-of_z, to_z_pos, to_z-neg}
 use Rattle.truth.specs.declared.Truth.{Truth}
 use Rattle.truth.specs.declared.Truth.TheVariants.{False, Bottom, True}
@@ -25,7 +25,6 @@ use Rattle.utf8.specs.declared.Counted.TheVariants.{Characters, IllFormed}
 use Rattle.utf8.specs.Utf8.{HasCharacters, WellFormed, Counts}
 use Rattle.utf8.specs.Scan.{count_of}
 use Rattle.utf8.proofs.Theorems.{one_answer, right, counted_is}
-use Rattle.opcode.specs.Opcode.{Kind}
 use Rattle.opcode.specs.declared.Edition.{Edition}
 use Rattle.opcode.specs.declared.Load.{Load}
 use Rattle.opcode.specs.declared.Arithmetic.{Arithmetic}
@@ -49,7 +48,7 @@ use Rattle.notice.specs.Field.{Field}
 use Rattle.notice.specs.Layout.{fields_of}
 use Rattle.notice.specs.Lookup.{lookup_of, field_named, FoundIs}
 use Rattle.notice.proofs.Theorems.{lookup}
-use Rattle.value.specs.Value.{Value, bottom, opaque, Item, logic, value, is_bottom, kind_of, unary_of, binary_of, connect_of, type_test, nan_of, test_of, number_of, value_of, type_of, is_text, text_in, size_by, equal_values, combine_numbers, combine_of, compare_of, fit_of, all_texts, any_fits, any_fit, any_equal, fit_values, truth_in, value_in, strict_or, tally_of, start_of, field_value, found_value, named_value, value_named, in_pool, int32, int64, real, text}
+use Rattle.value.specs.Value.{Value, bottom, opaque, Item, logic, value, is_bottom, connect_of, type_test, nan_of, test_of, number_of, value_of, type_of, is_text, text_in, size_by, equal_values, combine_numbers, combine_of, compare_of, fit_of, all_texts, any_fits, any_fit, any_equal, fit_values, truth_in, value_in, strict_or, tally_of, found_value, named_value, value_named, in_pool, int32, int64, real, text}
 use Rattle.value.specs.Theorems.{UnaryKind, BinaryKind, ManyKind, LoadKind, ShiftsAlone, StrictUnary, StrictBinary, StrictMany, SizeCharacters, SizeBottom, SizeFolded, LaterNoText, EqualsTrue, FalseAnd, TrueOr, EqualOtherwise, Tally, Settled, KnownNot, KnownTest, KnownConnect, ValueNamed, LoadInt32, LoadInt64, LoadReal64, LoadText, LoadName}
 
 pub unary_kind : UnaryKind

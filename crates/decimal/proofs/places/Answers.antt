@@ -1,11 +1,5 @@
-use mathlib.Core.Path.{◌≡◌}
-use Prim.Native.Nat.{◌+◌, ◌≤◌, suc}
 use native.Mathlib.Omega.{arith}
-use borrow.Author.Rules.{rules}
-use lib.ListN.{length}
-use Rattle.decimal.specs.Decimal.{decimal_of}
 use Rattle.decimal.proofs.Laws.{length_small, length_more, twenty}
-use borrow.Author.Rules.{rules}
 use Rattle.decimal.proofs.places.Goals as goal
 
 pub loop-rest-init : goal.loop-rest-init

@@ -4,7 +4,6 @@ use lib.Ieee.{eq}
 use mir.Syntax.{w64}
 use mir.ValLaws.{to_z-of_z}
 use Rattle.mixed.specs.Mixed.{exactly}
-use borrow.Author.Rules.{rules}
 use Rattle.mixed.proofs.equal.Goals as goal
 
 pub returns : goal.returns

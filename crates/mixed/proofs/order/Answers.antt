@@ -4,7 +4,6 @@ use mir.Syntax.{w64}
 use mir.ValLaws.{to_z-of_z}
 use Rattle.mixed.specs.Mixed.{exactly, order_real}
 use Rattle.mixed.proofs.Compare.{same_order}
-use borrow.Author.Rules.{rules}
 use Rattle.mixed.proofs.order.Goals as goal
 
 pub returns : goal.returns

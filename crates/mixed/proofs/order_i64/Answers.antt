@@ -1,5 +1,4 @@
 use Rattle.mixed.proofs.Compare.{ordered}
-use borrow.Author.Rules.{rules}
 use Rattle.mixed.proofs.order_i64.Goals as goal
 
 pub returns-in-Less : goal.returns-in-Less

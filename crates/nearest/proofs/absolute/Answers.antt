@@ -1,4 +1,4 @@
-use Rattle.std.proofs.Common.{arith, w64, rules}
+use Rattle.std.proofs.Common.{arith, w64}
 use lib.Signed.{nat_abs-le}
 use Rattle.word.proofs.Signs.{cast_flip, cast_keep, abs_flip}
 use Rattle.nearest.proofs.absolute.Goals as goal

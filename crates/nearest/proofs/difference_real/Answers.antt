@@ -1,4 +1,4 @@
-use Rattle.std.proofs.Common.{◌-ℤ◌, neg_ℤ, refl, ◌∙◌, rules}
+use Rattle.std.proofs.Common.{◌-ℤ◌, neg_ℤ, refl, ◌∙◌}
 use Rattle.nearest.proofs.Ints.{neg}
 use Rattle.nearest.proofs.Signed.{far_down, far_up, near_up, near_down, near_is, below, not_below_lem, opposite}
 use Rattle.nearest.proofs.difference_real.Goals as goal

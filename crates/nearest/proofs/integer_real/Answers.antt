@@ -1,4 +1,4 @@
-use Rattle.std.proofs.Common.{◌∙◌, rules}
+use Rattle.std.proofs.Common.{◌∙◌}
 use Rattle.nearest.proofs.Wholes.{cast_holds, real_is}
 use Rattle.nearest.proofs.integer_real.Goals as goal
 

@@ -1,4 +1,3 @@
-use Rattle.std.proofs.Common.{rules}
 use Rattle.nearest.proofs.Digits.{ad, ac, bc, bd, fits, mid, cross, hi, high, product}
 use Rattle.nearest.proofs.multiply.Goals as goal
 

@@ -1,4 +1,4 @@
-use Rattle.std.proofs.Common.{ℕ, pos, ap, ◌∙◌, rules}
+use Rattle.std.proofs.Common.{ℕ, pos, ap, ◌∙◌}
 use Rattle.nearest.specs.Nearest.{nearest_real}
 use Rattle.nearest.proofs.nearest_product.Goals as goal
 

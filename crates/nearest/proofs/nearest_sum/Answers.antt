@@ -1,4 +1,4 @@
-use Rattle.std.proofs.Common.{◌≡◌, ℕ, ◌+◌, ◌-◌, ◌*◌, pos, ap, ◌∙◌, arith, rules}
+use Rattle.std.proofs.Common.{◌≡◌, ℕ, ◌+◌, ◌-◌, ◌*◌, pos, ap, ◌∙◌, arith}
 use Rattle.nearest.specs.Nearest.{nearest_real}
 use Rattle.nearest.proofs.nearest_sum.Goals as goal
 

@@ -1,4 +1,4 @@
-use Rattle.std.proofs.Common.{◌+◌, ◌*◌, ◌/◌, ◌%◌, arith, rules}
+use Rattle.std.proofs.Common.{◌+◌, ◌*◌, ◌/◌, ◌%◌, arith}
 use Rattle.nearest.proofs.Rounding.{cast_in, few, many}
 use Rattle.nearest.proofs.nearest_wide.Goals as goal
 

@@ -1,5 +1,4 @@
 use Rattle.nearest.proofs.Signed.{product_down, product_up}
-use Rattle.std.proofs.Common.{rules}
 use Rattle.nearest.proofs.product_real.Goals as goal
 
 pub returns-then-is_negative-m : goal.returns-then-is_negative-m

@@ -1,4 +1,4 @@
-use Rattle.std.proofs.Common.{◌+ℤ◌, refl, rules}
+use Rattle.std.proofs.Common.{◌+ℤ◌, refl}
 use Rattle.nearest.proofs.Signed.{far_down, far_up, near_up, near_down, near_is, below, not_below_lem}
 use Rattle.nearest.proofs.sum_real.Goals as goal
 

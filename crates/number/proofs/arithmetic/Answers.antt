@@ -1,4 +1,4 @@
-use Rattle.std.proofs.Common.{ℤ, sym, ◌∙◌, ap₂, w32, w64, rules}
+use Rattle.std.proofs.Common.{ℤ, sym, ◌∙◌, ap₂, w32, w64}
 use Rattle.number.specs.Number.{arithmetic_of}
 use Rattle.number.specs.declared.Number.TheVariants.{Int32, Int64}
 use Rattle.number.proofs.Numbers.{joined, int32_each, on_values, result_read, as_int64, by_zero, two_reals}

@@ -1,4 +1,4 @@
-use Rattle.std.proofs.Common.{ap, ◌∙◌, w32, w64, rules}
+use Rattle.std.proofs.Common.{ap, ◌∙◌, w32, w64}
 use Rattle.number.specs.Bits.{on_bits}
 use Rattle.number.specs.declared.Number.TheVariants.{Int32, Int64}
 use Rattle.number.proofs.Numbers.{joined, on_values, result_read, left_int32, right_int32, bits_int32, bits_int64, no_bits}

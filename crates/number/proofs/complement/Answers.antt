@@ -1,4 +1,4 @@
-use Rattle.std.proofs.Common.{sym, ap, rules}
+use Rattle.std.proofs.Common.{sym, ap}
 use Rattle.number.specs.Number.{complement_of}
 use Rattle.number.proofs.complement.Goals as goal
 

@@ -1,4 +1,4 @@
-use Rattle.std.proofs.Common.{refl, ◌∙◌, rules}
+use Rattle.std.proofs.Common.{refl, ◌∙◌}
 use lib.Ieee.{eq}
 use Rattle.number.specs.declared.Number.TheVariants.{Int32}
 use Rattle.number.proofs.Integers.{wide_fits}

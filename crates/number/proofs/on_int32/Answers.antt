@@ -1,4 +1,4 @@
-use Rattle.std.proofs.Common.{true, refl, ap, ◌∙◌, w32, w64, rules}
+use Rattle.std.proofs.Common.{true, refl, ap, ◌∙◌, w32, w64}
 use Rattle.number.specs.Integer.{exact_of}
 use Rattle.number.specs.Number.{typed}
 use Rattle.number.specs.declared.Number.TheVariants.{Int32}

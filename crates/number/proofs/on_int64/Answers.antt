@@ -1,4 +1,4 @@
-use Rattle.std.proofs.Common.{false, refl, ap, ◌∙◌, w64, rules}
+use Rattle.std.proofs.Common.{false, refl, ap, ◌∙◌, w64}
 use Rattle.number.specs.Integer.{exact_of}
 use Rattle.number.specs.Number.{typed}
 use Rattle.number.specs.declared.Number.TheVariants.{Int64}

@@ -1,4 +1,4 @@
-use Rattle.std.proofs.Common.{◌∙◌, rules}
+use Rattle.std.proofs.Common.{◌∙◌}
 use Rattle.number.proofs.Numbers.{joined, reals_are, no_reals}
 use Rattle.number.proofs.on_reals.Goals as goal
 

@@ -1,5 +1,4 @@
 use Rattle.number.proofs.Numbers.{no_count, count-in, count-out}
-use Rattle.std.proofs.Common.{rules}
 use Rattle.number.proofs.places.Goals as goal
 
 pub returns-then-is_integer-is_negative : goal.returns-then-is_integer-is_negative

@@ -1,5 +1,4 @@
 use Rattle.number.proofs.Numbers.{first_count, second_count}
-use Rattle.std.proofs.Common.{rules}
 use Rattle.number.proofs.places_in.Goals as goal
 
 pub returns-in-First : goal.returns-in-First

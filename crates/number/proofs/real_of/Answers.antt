@@ -1,4 +1,4 @@
-use Rattle.std.proofs.Common.{sym, ap, ◌∙◌, rules}
+use Rattle.std.proofs.Common.{sym, ap, ◌∙◌}
 use Rattle.number.specs.Number.{real_of}
 use Rattle.number.proofs.Numbers.{zero_real_lem}
 use Rattle.number.proofs.real_of.Goals as goal

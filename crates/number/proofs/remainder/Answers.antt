@@ -1,4 +1,4 @@
-use Rattle.std.proofs.Common.{◌-◌, mod-lt, arith, rules}
+use Rattle.std.proofs.Common.{◌-◌, mod-lt, arith}
 use Rattle.number.proofs.Numbers.{remainder_below, below_zero, remainder_negative, remainder_positive}
 use Rattle.number.proofs.remainder.Goals as goal
 

@@ -1,4 +1,3 @@
-use Rattle.std.proofs.Common.{rules}
 use Rattle.number.proofs.zero_divisor.Goals as goal
 
 pub returns : goal.returns

@@ -1,7 +1,4 @@
 use Rattle.record.proofs.Laws.{found_end, found_short, found_low, found_high, found_cut, found_whole}
-use borrow.Author.Rules.{rules}
-use Rattle.word.proofs.read_u16.Reads as read-u16-reads
-use Rattle.word.proofs.read_u32.Reads as read-u32-reads
 use Rattle.record.proofs.next_record.Goals as goal
 
 pub returns-then-n-eq0 : goal.returns-then-n-eq0

@@ -2,8 +2,6 @@ use native.Mathlib.Omega.{arith}
 use mathlib.Core.List.{[], ◌∷◌}
 use Rattle.record.specs.Line.{line_end}
 use Rattle.decimal.proofs.Laws.{joined}
-use borrow.Author.Rules.{rules}
-use Rattle.decimal.proofs.put_byte.Reads as put-byte-reads
 use Rattle.record.proofs.put_error_line.Goals as goal
 
 pub returns : goal.returns

@@ -2,10 +2,6 @@ use native.Mathlib.Omega.{arith}
 use mathlib.Core.List.{[], ◌∷◌, ◌++◌}
 use Rattle.record.specs.Line.{spaced, verdict_of, line_end}
 use Rattle.decimal.proofs.Laws.{joined}
-use borrow.Author.Rules.{rules}
-use Rattle.decimal.proofs.put_byte.Reads as put-byte-reads
-use Rattle.record.proofs.put_number.Reads as put-number-reads
-use Rattle.record.proofs.put_verdict.Reads as put-verdict-reads
 use Rattle.record.proofs.put_notice_line.Goals as goal
 
 pub returns : goal.returns

@@ -2,9 +2,6 @@ use native.Mathlib.Omega.{arith}
 use mathlib.Core.List.{[], ◌∷◌}
 use Rattle.decimal.specs.Decimal.{decimal_of}
 use Rattle.decimal.proofs.Laws.{joined, twenty}
-use borrow.Author.Rules.{rules}
-use Rattle.decimal.proofs.put_byte.Reads as put-byte-reads
-use Rattle.decimal.proofs.put_decimal.Reads as put-decimal-reads
 use Rattle.record.proofs.put_number.Goals as goal
 
 pub put_decimal-requires : goal.put_decimal-requires

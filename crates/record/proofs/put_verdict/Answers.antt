@@ -3,8 +3,6 @@ use native.Mathlib.Omega.{arith}
 use Rattle.truth.specs.declared.Truth.TheVariants.{False, Bottom, True}
 use Rattle.record.specs.Line.{verdict_of}
 use Rattle.record.proofs.Laws.{spelled}
-use borrow.Author.Rules.{rules}
-use Rattle.decimal.proofs.put_bytes.Reads as put-bytes-reads
 use Rattle.record.proofs.put_verdict.Goals as goal
 
 pub returns-in-True : goal.returns-in-True

@@ -1,7 +1,5 @@
 use mathlib.Core.Path.{sym, ◌∙◌}
 use Rattle.truth.proofs.Order.{and_lesser}
-use borrow.Author.Rules.{rules}
-use Rattle.truth.proofs.lesser.Reads as lesser-reads
 use Rattle.truth.proofs.and.Goals as goal
 
 pub returns : goal.returns

@@ -1,5 +1,4 @@
 use Rattle.truth.proofs.Order.{past_bottom}
-use borrow.Author.Rules.{rules}
 use Rattle.truth.proofs.at_rank.Goals as goal
 
 pub returns-in_default : goal.returns-in_default

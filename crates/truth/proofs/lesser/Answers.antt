@@ -1,8 +1,6 @@
 use native.Mathlib.Omega.{arith}
 use Rattle.truth.specs.Truth.{rank as rank_of}
 use Rattle.truth.proofs.Order.{first_chosen, second_chosen}
-use borrow.Author.Rules.{rules}
-use Rattle.truth.proofs.rank.Reads as rank-reads
 use Rattle.truth.proofs.lesser.Goals as goal
 
 pub returns-then-rank : goal.returns-then-rank

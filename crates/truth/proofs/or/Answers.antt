@@ -1,7 +1,5 @@
 use mathlib.Core.Path.{sym, ◌∙◌}
 use Rattle.truth.proofs.Order.{or_greater}
-use borrow.Author.Rules.{rules}
-use Rattle.truth.proofs.greater.Reads as greater-reads
 use Rattle.truth.proofs.or.Goals as goal
 
 pub returns : goal.returns

@@ -1,7 +1,5 @@
 use Rattle.truth.specs.Truth.{xor_of}
 use Rattle.truth.proofs.Tables.{stored}
-use borrow.Author.Rules.{rules}
-use Rattle.truth.proofs.rank.Reads as rank-reads
 use Rattle.truth.proofs.xor.Goals as goal
 
 pub returns : goal.returns

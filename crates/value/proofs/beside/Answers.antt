@@ -1,4 +1,3 @@
-use borrow.Author.Rules.{rules}
 use Rattle.value.proofs.beside.Goals as goal
 
 pub returns-in-Fit : goal.returns-in-Fit

@@ -1,6 +1,5 @@
 use mathlib.Core.Path.{ap, ◌∙◌}
 use Rattle.value.specs.Value.{value, change_of}
-use borrow.Author.Rules.{rules}
 use Rattle.value.proofs.change.Goals as goal
 
 pub returns : goal.returns

@@ -2,7 +2,6 @@ use mathlib.Core.Path.{ap, ap₂, ◌∙◌}
 use Rattle.value.specs.Value.{value, value_in, combine_of}
 use Rattle.value.specs.Held.{item_in}
 use Rattle.value.proofs.Theorems.{combine_bottom}
-use borrow.Author.Rules.{rules}
 use Rattle.value.proofs.combine.Goals as goal
 
 pub returns-in-Bottom : goal.returns-in-Bottom

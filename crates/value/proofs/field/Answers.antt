@@ -1,6 +1,5 @@
 use mathlib.Core.Path.{ap, ◌∙◌}
 use Rattle.value.specs.Value.{value}
-use borrow.Author.Rules.{rules}
 use Rattle.value.proofs.field.Goals as goal
 
 pub returns : goal.returns

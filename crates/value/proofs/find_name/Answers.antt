@@ -3,7 +3,6 @@ use Prim.Native.Nat.{ℕ, ◌+◌, ◌-◌, ◌%◌}
 use native.Mathlib.Omega.{arith}
 use lib.ListN.{take, drop}
 use Rattle.notice.specs.Lookup.{lookup_of}
-use borrow.Author.Rules.{rules}
 use Rattle.value.proofs.find_name.Goals as goal
 
 pub returns : goal.returns

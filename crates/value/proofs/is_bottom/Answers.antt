@@ -1,7 +1,6 @@
 use mathlib.Core.Path.{ap}
 use Prim.Native.Nat.{ℕ}
 use lib.Dec.{eqb}
-use borrow.Author.Rules.{rules}
 use Rattle.value.proofs.is_bottom.Goals as goal
 
 pub returns-in-False : goal.returns-in-False

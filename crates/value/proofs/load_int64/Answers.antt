@@ -3,7 +3,6 @@ use lib.IntN.{ℤ}
 use mir.Syntax.{w64}
 use mir.ValLaws.{to_z-of_z}
 use Rattle.value.specs.Value.{int64, value}
-use borrow.Author.Rules.{rules}
 use Rattle.value.proofs.load_int64.Goals as goal
 
 pub returns : goal.returns

@@ -1,7 +1,6 @@
 use mathlib.Core.Path.{ap, ◌∙◌}
 use lib.Ieee.{Float}
 use Rattle.value.specs.Value.{real, value}
-use borrow.Author.Rules.{rules}
 use Rattle.value.proofs.load_real64.Goals as goal
 
 pub returns : goal.returns

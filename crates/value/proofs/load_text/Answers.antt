@@ -1,7 +1,6 @@
 use mathlib.Core.Path.{ap, ◌∙◌}
 use Rattle.octets.proofs.Theorems.{not_folded}
 use Rattle.value.specs.Value.{text, value}
-use borrow.Author.Rules.{rules}
 use Rattle.value.proofs.load_text.Goals as goal
 
 pub returns : goal.returns

@@ -1,6 +1,5 @@
 use mathlib.Core.Path.{ap, ap₂, ◌∙◌}
 use Rattle.value.specs.Value.{join_of, beside_of}
-use borrow.Author.Rules.{rules}
 use Rattle.value.proofs.more.Goals as goal
 
 pub returns : goal.returns

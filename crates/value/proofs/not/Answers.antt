@@ -1,7 +1,6 @@
 use mathlib.Core.Path.{ap, ◌∙◌}
 use Rattle.truth.specs.Truth.{not_of}
 use Rattle.value.specs.Value.{logic}
-use borrow.Author.Rules.{rules}
 use Rattle.value.proofs.not.Goals as goal
 
 pub returns : goal.returns

@@ -3,7 +3,6 @@ use Rattle.opcode.specs.declared.Compare.{Compare}
 use Rattle.value.specs.Value.{logic, value_in, compare_of}
 use Rattle.value.specs.Held.{item_in}
 use Rattle.value.proofs.Theorems.{compare_bottom}
-use borrow.Author.Rules.{rules}
 use Rattle.value.proofs.ordered.Goals as goal
 
 pub returns-in-Bottom : goal.returns-in-Bottom

@@ -3,7 +3,6 @@ use mathlib.Core.Bool.{or-true}
 use lib.Dec.{eqb}
 use Rattle.value.specs.Value.{type_of}
 use Rattle.value.specs.Held.{typed_of}
-use borrow.Author.Rules.{rules}
 use Rattle.value.proofs.paired_with.Goals as goal
 
 pub returns-in-Logic : goal.returns-in-Logic

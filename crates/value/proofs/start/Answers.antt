@@ -2,7 +2,6 @@ use mathlib.Core.Path.{ap, ◌∙◌}
 use mathlib.Core.Bool.{cond}
 use Rattle.truth.specs.declared.Truth.TheVariants.{False, Bottom}
 use Rattle.value.specs.Value.{Value, is_text}
-use borrow.Author.Rules.{rules}
 use Rattle.value.proofs.start.Goals as goal
 
 pub returns-in-Fit : goal.returns-in-Fit

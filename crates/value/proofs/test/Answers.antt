@@ -2,7 +2,6 @@ use mathlib.Core.Path.{sym, ap, ◌∙◌}
 use Rattle.value.specs.Value.{logic}
 use Rattle.value.proofs.Theorems.{strict_unary}
 use Rattle.opcode.specs.declared.Unary.{Unary}
-use borrow.Author.Rules.{rules}
 use Rattle.value.proofs.test.Goals as goal
 
 pub returns-in-Logic : goal.returns-in-Logic

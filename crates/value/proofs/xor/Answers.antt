@@ -1,7 +1,6 @@
 use mathlib.Core.Path.{ap, ap₂, ◌∙◌}
 use Rattle.truth.specs.Truth.{xor_of}
 use Rattle.value.specs.Value.{logic}
-use borrow.Author.Rules.{rules}
 use Rattle.value.proofs.xor.Goals as goal
 
 pub returns : goal.returns

@@ -1,4 +1,4 @@
-use Rattle.std.proofs.Common.{sym, ap, w32, rules}
+use Rattle.std.proofs.Common.{sym, ap, w32}
 use Rattle.number.specs.Bits.{on_bits}
 use Rattle.opcode.specs.declared.Bitwise.{Bitwise}
 use Rattle.number.proofs.bits.bitwise_i32.Goals as goal

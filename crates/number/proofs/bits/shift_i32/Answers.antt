@@ -1,4 +1,4 @@
-use Rattle.std.proofs.Common.{w32, rules}
+use Rattle.std.proofs.Common.{w32}
 use Rattle.number.proofs.Shifts.{left_is, right_is, right_zero_is}
 use Rattle.number.proofs.bits.shift_i32.Goals as goal
 

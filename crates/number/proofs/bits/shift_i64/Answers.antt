@@ -1,4 +1,4 @@
-use Rattle.std.proofs.Common.{w64, rules}
+use Rattle.std.proofs.Common.{w64}
 use Rattle.number.proofs.Shifts.{left_is, right_is, right_zero_is}
 use Rattle.number.proofs.bits.shift_i64.Goals as goal
 

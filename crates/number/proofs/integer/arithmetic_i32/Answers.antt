@@ -1,4 +1,4 @@
-use Rattle.std.proofs.Common.{◌+ℤ◌, ◌-ℤ◌, ◌*ℤ◌, ap, ◌∙◌, w32, w64, rules}
+use Rattle.std.proofs.Common.{◌+ℤ◌, ◌-ℤ◌, ◌*ℤ◌, ap, ◌∙◌, w32, w64}
 use mir.ValLaws.{to_z-of_z}
 use lib.Signed.{quot_z, rem_z}
 use Rattle.number.specs.Number.{divides}

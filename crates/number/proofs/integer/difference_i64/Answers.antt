@@ -1,5 +1,4 @@
 use Rattle.number.proofs.Sums.{sub_high, sub_low}
-use Rattle.std.proofs.Common.{rules}
 use Rattle.number.proofs.integer.difference_i64.Goals as goal
 
 pub overflow_add-b : goal.overflow_add-b

@@ -1,5 +1,4 @@
 use Rattle.number.proofs.Products.{none_is, past_is, holds_in, held_is}
-use Rattle.std.proofs.Common.{rules}
 use Rattle.number.proofs.integer.product.Goals as goal
 
 pub returns-then-n-eq0 : goal.returns-then-n-eq0

@@ -1,4 +1,4 @@
-use Rattle.std.proofs.Common.{◌∙◌, rules}
+use Rattle.std.proofs.Common.{◌∙◌}
 use Rattle.number.proofs.Products.{signs_out, over_out}
 use Rattle.number.proofs.integer.product_i64.Goals as goal
 

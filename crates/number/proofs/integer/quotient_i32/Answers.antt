@@ -1,4 +1,4 @@
-use Rattle.std.proofs.Common.{w32, rules}
+use Rattle.std.proofs.Common.{w32}
 use Rattle.number.proofs.Quotients.{asked, quotient_out, quotient_wide, quotient_wide_fits}
 use Rattle.number.proofs.integer.quotient_i32.Goals as goal
 

@@ -1,4 +1,4 @@
-use Rattle.std.proofs.Common.{w64, rules}
+use Rattle.std.proofs.Common.{w64}
 use Rattle.number.proofs.Quotients.{asked, quotient_typed, quotient_real}
 use Rattle.number.proofs.integer.quotient_i64.Goals as goal
 

@@ -1,4 +1,4 @@
-use Rattle.std.proofs.Common.{w32, rules}
+use Rattle.std.proofs.Common.{w32}
 use Rattle.number.proofs.Quotients.{asked, remainder_is, remainder_out}
 use Rattle.number.proofs.integer.remainder_i32.Goals as goal
 

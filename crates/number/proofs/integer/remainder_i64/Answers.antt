@@ -1,4 +1,4 @@
-use Rattle.std.proofs.Common.{w64, rules}
+use Rattle.std.proofs.Common.{w64}
 use Rattle.number.proofs.Quotients.{asked, remainder_is, remainder_out}
 use Rattle.number.proofs.integer.remainder_i64.Goals as goal
 

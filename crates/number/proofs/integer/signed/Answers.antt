@@ -1,5 +1,4 @@
 use Rattle.number.proofs.Products.{signed_zero, signed_below, signed_beneath, signed_kept, signed_above}
-use Rattle.std.proofs.Common.{rules}
 use Rattle.number.proofs.integer.signed.Goals as goal
 
 pub returns-then-m-eq0 : goal.returns-then-m-eq0

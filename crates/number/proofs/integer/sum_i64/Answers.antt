@@ -1,5 +1,4 @@
 use Rattle.number.proofs.Sums.{add_low, add_high}
-use Rattle.std.proofs.Common.{rules}
 use Rattle.number.proofs.integer.sum_i64.Goals as goal
 
 pub overflow_sub-b : goal.overflow_sub-b

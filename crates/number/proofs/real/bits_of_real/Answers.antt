@@ -1,5 +1,4 @@
 use Rattle.number.proofs.Nans.{nan_bits_lem, not_nan}
-use Rattle.std.proofs.Common.{rules}
 use Rattle.number.proofs.real.bits_of_real.Goals as goal
 
 pub returns-then-x : goal.returns-then-x

@@ -1,4 +1,4 @@
-use Rattle.std.proofs.Common.{◌≡◌, Bool, true, false, ◌∙◌, rules}
+use Rattle.std.proofs.Common.{true, false, ◌∙◌}
 use Rattle.number.proofs.Literals.{many_digits, far_exponent, in_limits_lem}
 use Rattle.number.proofs.real.decimal.Goals as goal
 

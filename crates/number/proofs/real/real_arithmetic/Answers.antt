@@ -1,4 +1,3 @@
-use Rattle.std.proofs.Common.{rules}
 use Rattle.number.proofs.real.real_arithmetic.Goals as goal
 
 pub returns-in-Mul : goal.returns-in-Mul

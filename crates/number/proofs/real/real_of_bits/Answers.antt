@@ -1,4 +1,4 @@
-use Rattle.std.proofs.Common.{sym, ◌∙◌, rules}
+use Rattle.std.proofs.Common.{sym, ◌∙◌}
 use Rattle.number.proofs.Nans.{nan_pattern, no_nan_pattern}
 use Rattle.number.proofs.real.real_of_bits.Goals as goal
 

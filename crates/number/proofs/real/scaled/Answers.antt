@@ -1,4 +1,4 @@
-use Rattle.std.proofs.Common.{◌^◌, arith, le→leb, rules}
+use Rattle.std.proofs.Common.{◌^◌, arith, le→leb}
 use lib.Ieee.{in_float}
 use Rattle.number.proofs.real.scaled.Goals as goal
 

@@ -6,7 +6,6 @@ use lib.IntN.{pos}
 use Prim.Native.Nat.{ℕ}
 use mathlib.Core.List.{List}
 use lib.ListN.{length}
-use borrow.Author.Rules.{rules}
 use Rattle.value.proofs.texts.bytes_in.Goals as goal
 
 pub overflow_cast-result : goal.overflow_cast-result

@@ -1,4 +1,3 @@
-use borrow.Author.Rules.{rules}
 use Rattle.value.proofs.texts.fits.Goals as goal
 
 pub returns-in-BeginsWith : goal.returns-in-BeginsWith

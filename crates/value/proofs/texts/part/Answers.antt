@@ -1,5 +1,4 @@
 use Rattle.value.proofs.Parts.{past, rest, whole}
-use borrow.Author.Rules.{rules}
 use Rattle.value.proofs.texts.part.Goals as goal
 
 pub returns-then-n-start : goal.returns-then-n-start

@@ -1,4 +1,3 @@
-use borrow.Author.Rules.{rules}
 use Rattle.value.proofs.texts.same_text.Goals as goal
 
 pub returns : goal.returns

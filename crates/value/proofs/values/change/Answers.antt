@@ -1,7 +1,6 @@
 use mathlib.Core.Path.{ap, ◌∙◌}
 use Rattle.number.specs.Number.{complement_of}
 use Rattle.value.specs.Value.{value_of}
-use borrow.Author.Rules.{rules}
 use Rattle.value.proofs.values.change.Goals as goal
 
 pub returns-in-FoldCase : goal.returns-in-FoldCase

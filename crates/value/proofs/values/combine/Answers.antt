@@ -1,6 +1,5 @@
 use mathlib.Core.Path.{ap, ap₂, ◌∙◌}
 use Rattle.value.specs.Value.{value_of, combine_numbers}
-use borrow.Author.Rules.{rules}
 use Rattle.value.proofs.values.combine.Goals as goal
 
 pub returns : goal.returns

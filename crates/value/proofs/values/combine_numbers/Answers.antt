@@ -1,4 +1,3 @@
-use borrow.Author.Rules.{rules}
 use Rattle.value.proofs.values.combine_numbers.Goals as goal
 
 pub returns-in-Shift : goal.returns-in-Shift

@@ -5,7 +5,6 @@ use Rattle.number.specs.declared.Number.{Number}
 use Rattle.number.specs.Number.{equal_of}
 use Rattle.value.specs.Held.{typed_of}
 use Rattle.value.proofs.Theorems.{int32_equal}
-use borrow.Author.Rules.{rules}
 use Rattle.value.proofs.values.equal.Goals as goal
 
 pub returns-then-type_of : goal.returns-then-type_of

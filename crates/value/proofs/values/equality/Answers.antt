@@ -1,7 +1,6 @@
 -- `value::values::equality` meets its contract: `negated` tells `!=` from `==`. Assumes nothing.
 use mathlib.Core.Path.{ap, ◌∙◌}
 use Rattle.truth.specs.Truth.{not_of}
-use borrow.Author.Rules.{rules}
 use Rattle.value.proofs.values.equality.Goals as goal
 
 pub returns-then-negated : goal.returns-then-negated

@@ -1,6 +1,5 @@
 use mathlib.Core.Path.{ap₂, ◌∙◌}
 use Rattle.number.specs.Number.{equal_of}
-use borrow.Author.Rules.{rules}
 use Rattle.value.proofs.values.equals.Goals as goal
 
 pub returns-then-is_text : goal.returns-then-is_text

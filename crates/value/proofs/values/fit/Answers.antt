@@ -1,4 +1,3 @@
-use borrow.Author.Rules.{rules}
 use Rattle.value.proofs.values.fit.Goals as goal
 
 pub returns-then-is_text : goal.returns-then-is_text

@@ -1,8 +1,7 @@
-use mathlib.Core.Path.{◌≡◌, refl, sym, ap, ◌∙◌}
+use mathlib.Core.Path.{sym, ap}
 use Rattle.value.specs.Value.{text}
 use Rattle.value.specs.Held.{part_of}
 use Rattle.value.proofs.Parts.{refold}
-use borrow.Author.Rules.{rules}
 use Rattle.value.proofs.values.fold_case.Goals as goal
 
 pub returns-in-Bottom : goal.returns-in-Bottom

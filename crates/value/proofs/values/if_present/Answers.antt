@@ -1,5 +1,4 @@
 use borrow.Author.Tests.{eq-eqb, ne_eqb}
-use borrow.Author.Rules.{rules}
 use Rattle.value.proofs.values.if_present.Goals as goal
 
 pub returns-then-type_of-eq0 : goal.returns-then-type_of-eq0

@@ -1,6 +1,5 @@
-use mathlib.Core.Path.{◌≡◌, refl, sym, ap, ◌∙◌}
+use mathlib.Core.Path.{ap, ◌∙◌}
 use Rattle.truth.specs.Truth.{of_bool}
-use borrow.Author.Rules.{rules}
 use Rattle.value.proofs.values.nan.Goals as goal
 
 pub returns-in-Bottom : goal.returns-in-Bottom

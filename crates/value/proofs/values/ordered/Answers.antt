@@ -1,6 +1,5 @@
 use mathlib.Core.Path.{ap₂, ◌∙◌}
 use Rattle.number.specs.Number.{order_of}
-use borrow.Author.Rules.{rules}
 use Rattle.value.proofs.values.ordered.Goals as goal
 
 pub returns : goal.returns

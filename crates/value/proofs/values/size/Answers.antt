@@ -2,7 +2,6 @@ use mathlib.Core.Path.{ap, ◌∙◌}
 use mir.Syntax.{w32}
 use mir.ValLaws.{to_z-of_z}
 use Rattle.value.specs.Value.{int32}
-use borrow.Author.Rules.{rules}
 use Rattle.value.proofs.values.size.Goals as goal
 
 pub returns-in-Text : goal.returns-in-Text

@@ -1,4 +1,3 @@
-use borrow.Author.Rules.{rules}
 use Rattle.value.proofs.values.test.Goals as goal
 
 pub returns-in-Int32 : goal.returns-in-Int32

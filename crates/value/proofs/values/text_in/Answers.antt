@@ -1,5 +1,3 @@
-use mathlib.Core.Path.{◌≡◌, refl, sym, ap, ◌∙◌}
-use borrow.Author.Rules.{rules}
 use Rattle.value.proofs.values.text_in.Goals as goal
 
 pub returns-in-Bottom : goal.returns-in-Bottom

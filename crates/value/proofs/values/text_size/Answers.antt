@@ -7,7 +7,6 @@ use Rattle.utf8.proofs.Theorems.{few}
 use Rattle.value.specs.Value.{int32}
 use Rattle.value.specs.Held.{part_of}
 use Rattle.value.proofs.Parts.{below_half, sized}
-use borrow.Author.Rules.{rules}
 use Rattle.value.proofs.values.text_size.Goals as goal
 
 pub overflow_cast-result : goal.overflow_cast-result

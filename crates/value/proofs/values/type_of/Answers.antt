@@ -1,4 +1,3 @@
-use borrow.Author.Rules.{rules}
 use Rattle.value.proofs.values.type_of.Goals as goal
 
 pub returns-in-Bottom : goal.returns-in-Bottom

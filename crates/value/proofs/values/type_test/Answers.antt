@@ -4,7 +4,6 @@ use lib.Dec.{eqb}
 use Rattle.truth.specs.Truth.{of_bool}
 use Rattle.value.specs.Value.{if_present}
 use Rattle.value.specs.Held.{typed_of}
-use borrow.Author.Rules.{rules}
 use Rattle.value.proofs.values.type_test.Goals as goal
 
 pub returns : goal.returns
