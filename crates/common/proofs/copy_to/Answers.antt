@@ -1,11 +1,10 @@
 -- `copy_to` meets its contract: what is left to store after i bytes makes the same of the buffer. Assumes nothing.
 use mathlib.Core.Path.{◌≡◌, refl, sym, ap, ◌∙◌}
-use Prim.Native.Nat.{◌+◌, ◌-◌, ◌≤◌}
+use Prim.Native.Nat.{◌+◌}
 use native.Mathlib.Omega.{arith}
-use lib.ListN.{length, drop, length-set, drop_of_length-le}
+use lib.ListN.{length-set, drop_of_length-le}
 use lib.Seq.{sets}
 use Rattle.common.proofs.Stores.{copied_one}
-use borrow.Author.Rules.{rules}
 use Rattle.common.proofs.copy_to.Goals as goal
 
 pub loop-i-init : goal.loop-i-init

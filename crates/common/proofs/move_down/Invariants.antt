@@ -1,11 +1,8 @@
 -- `move_down` meets its contract: what is left to move after i bytes makes the same of the buffer, and the bytes still to be read are as they were. Assumes nothing.
-use mathlib.Core.Path.{◌≡◌, refl, sym, ap, ◌∙◌}
+use mathlib.Core.Path.{◌≡◌}
 use Prim.Native.Nat.{ℕ, ◌+◌, ◌-◌, ◌≤◌}
-use native.Mathlib.Omega.{arith}
-use borrow.Author.Rules.{rules}
-use lib.ListN.{length, get_or, take, drop, length-set, length-drop, drop_of_length-le}
-use lib.Seq.{sets, get_or-set_other, length-take-le}
-use Rattle.common.proofs.Stores.{lowered_one}
+use lib.ListN.{length, get_or, take, drop}
+use lib.Seq.{sets}
 use Rattle.common.proofs.move_down.Given as goal
 
 abbrev pub invariant-loop-i : goal.invariant-loop-i

@@ -1,12 +1,10 @@
 -- `move_up` meets its contract: the bytes from i on have moved. Assumes nothing.
 use mathlib.Core.Path.{◌≡◌, refl, ap, ◌∙◌}
-use Prim.Native.Nat.{ℕ, ◌+◌, ◌-◌, ◌≤◌}
+use Prim.Native.Nat.{ℕ, ◌+◌, ◌-◌}
 use native.Mathlib.Omega.{arith}
 use mathlib.Core.List.{List}
-use lib.ListN.{length, get_or, set, take, drop, length-set}
-use lib.Seq.{sets}
+use lib.ListN.{get_or, set, length-set}
 use Rattle.common.proofs.Stores.{moved_one}
-use borrow.Author.Rules.{rules}
 use Rattle.common.proofs.move_up.Goals as goal
 
 pub loop-i-init : goal.loop-i-init

@@ -1,11 +1,7 @@
-use Prim.Native.Nat.{◌≤◌, ◌<◌, ◌-◌}
-use mathlib.Core.Path.{◌≡◌, refl, sym, ◌∙◌}
+use mathlib.Core.Path.{refl, ◌∙◌}
 use native.Mathlib.Omega.{arith}
-use lib.ListN.{length}
-use Rattle.octets.specs.Octets.{fold, folded, before_of}
-use Rattle.octets.proofs.Laws.{before_from, less, more, level, longer, ended}
-use borrow.Author.Rules.{rules}
-use Rattle.octets.proofs.fold.Reads as fold-reads
+use Rattle.octets.specs.Octets.{fold}
+use Rattle.octets.proofs.Laws.{less, more, level, longer, ended}
 use Rattle.octets.proofs.before.Goals as goal
 
 pub loop-i-init : goal.loop-i-init

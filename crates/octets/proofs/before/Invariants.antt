@@ -1,11 +1,8 @@
-use Prim.Native.Nat.{◌≤◌, ◌<◌, ◌-◌}
-use mathlib.Core.Path.{◌≡◌, refl, sym, ◌∙◌}
-use native.Mathlib.Omega.{arith}
+use Prim.Native.Nat.{◌≤◌, ◌-◌}
+use mathlib.Core.Path.{◌≡◌}
 use lib.ListN.{length}
 use Rattle.octets.specs.Octets.{fold, folded, before_of}
-use Rattle.octets.proofs.Laws.{before_from, less, more, level, longer, ended}
-use borrow.Author.Rules.{rules}
-use Rattle.octets.proofs.fold.Reads as fold-reads
+use Rattle.octets.proofs.Laws.{before_from}
 use Rattle.octets.proofs.before.Given as goal
 
 abbrev pub invariant-loop-i : goal.invariant-loop-i

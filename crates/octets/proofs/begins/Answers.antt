@@ -4,8 +4,6 @@ use native.Mathlib.Omega.{arith}
 use lib.ListN.{length}
 use Rattle.octets.specs.Octets.{fold}
 use Rattle.octets.proofs.Laws.{starts, no_start}
-use borrow.Author.Rules.{rules}
-use Rattle.octets.proofs.same.Reads as same_Reads
 use Rattle.octets.proofs.begins.Goals as goal
 
 pub returns-then-s-n : goal.returns-then-s-n

@@ -2,9 +2,6 @@ use native.Mathlib.Omega.{arith}
 use Rattle.octets.specs.Octets.{fold}
 use Rattle.octets.proofs.Laws.{rest}
 use Rattle.octets.proofs.Places.{empty_held, no_place}
-use borrow.Author.Rules.{rules}
-use Rattle.octets.proofs.searching.marked.Reads as marked-reads
-use Rattle.octets.proofs.searching.plain.Reads as plain-reads
 use Rattle.octets.proofs.contains.Goals as goal
 
 pub returns-then-p-eq0 : goal.returns-then-p-eq0

@@ -4,7 +4,6 @@ use lib.ListN.{length}
 use Rattle.octets.specs.Octets.{before_of}
 use Rattle.octets.proofs.Theorems.{not_folded}
 use Rattle.octets.proofs.Leads.{neither_below}
-use borrow.Author.Rules.{rules}
 use Rattle.octets.proofs.earlier.Goals as goal
 
 pub returns-then-s-t : goal.returns-then-s-t

@@ -1,11 +1,9 @@
-use mathlib.Core.Path.{◌≡◌, ◌∙◌}
+use mathlib.Core.Path.{◌∙◌}
 use Prim.Native.Nat.{◌-◌}
 use native.Mathlib.Omega.{arith}
 use lib.ListN.{length}
 use Rattle.octets.specs.Octets.{fold}
 use Rattle.octets.proofs.Laws.{finishes, no_finish, rest}
-use borrow.Author.Rules.{rules}
-use Rattle.octets.proofs.same.Reads as same_Reads
 use Rattle.octets.proofs.ends.Goals as goal
 
 pub returns-then-s-n : goal.returns-then-s-n

@@ -1,5 +1,4 @@
 use borrow.Author.Tests.{le-leb, lt-leb}
-use borrow.Author.Rules.{rules}
 use Rattle.octets.proofs.fold.Goals as goal
 
 pub returns-then-b-lt65 : goal.returns-then-b-lt65

@@ -3,7 +3,6 @@ use native.Mathlib.Omega.{arith}
 use Rattle.octets.specs.Octets.{fold}
 use Rattle.octets.proofs.Laws.{lengths_differ, rest}
 use Rattle.octets.proofs.Sames.{left_folded, right_folded, none_folded}
-use borrow.Author.Rules.{rules}
 use Rattle.octets.proofs.same.Goals as goal
 
 pub returns-then-s-t : goal.returns-then-s-t

@@ -3,7 +3,6 @@ use Prim.Native.Nat.{◌-◌}
 use native.Mathlib.Omega.{arith}
 use mir.Syntax.{w32}
 use mir.Val.{to_z}
-use borrow.Author.Rules.{rules}
 use Rattle.word.proofs.i32_of_bits.Goals as goal
 
 pub returns-else-u-lt2147483648 : goal.returns-else-u-lt2147483648

@@ -3,7 +3,6 @@ use Prim.Native.Nat.{◌-◌}
 use native.Mathlib.Omega.{arith}
 use mir.Syntax.{w64}
 use mir.Val.{to_z}
-use borrow.Author.Rules.{rules}
 use Rattle.word.proofs.i64_of_bits.Goals as goal
 
 pub returns-else-u-lt9223372036854775808 : goal.returns-else-u-lt9223372036854775808

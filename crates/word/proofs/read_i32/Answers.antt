@@ -2,9 +2,6 @@ use mathlib.Core.Path.{◌∙◌, ap}
 use mir.Syntax.{w32}
 use mir.Val.{to_z}
 use mir.ValLaws.{to_z-of_z}
-use borrow.Author.Rules.{rules}
-use Rattle.word.proofs.i32_of_bits.Reads as i32-of-bits-reads
-use Rattle.word.proofs.read_u32.Reads as read-u32-reads
 use Rattle.word.proofs.read_i32.Goals as goal
 
 pub returns : goal.returns

@@ -1,10 +1,9 @@
 use mathlib.Core.Path.{◌≡◌}
-use Prim.Native.Nat.{◌≤◌, ◌<◌, ◌+◌, ◌-◌, ◌^◌}
+use Prim.Native.Nat.{◌<◌, ◌+◌, ◌-◌, ◌^◌}
 use native.Mathlib.Omega.{arith}
 use borrow.Author.Rules.{rules}
 use Rattle.word.specs.Word.{word_at}
 use Rattle.word.proofs.Laws.{read_more, fits7}
-use Rattle.word.proofs.wide.Reads as wide-reads
 use Rattle.word.proofs.read_le.Goals as goal
 
 pub loop-i-init : goal.loop-i-init

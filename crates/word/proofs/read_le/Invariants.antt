@@ -1,10 +1,6 @@
 use mathlib.Core.Path.{◌≡◌}
 use Prim.Native.Nat.{◌≤◌, ◌<◌, ◌+◌, ◌-◌, ◌^◌}
-use native.Mathlib.Omega.{arith}
-use borrow.Author.Rules.{rules}
 use Rattle.word.specs.Word.{word_at}
-use Rattle.word.proofs.Laws.{read_more, fits7}
-use Rattle.word.proofs.wide.Reads as wide-reads
 use Rattle.word.proofs.read_le.Given as goal
 
 abbrev pub invariant-loop-i : goal.invariant-loop-i

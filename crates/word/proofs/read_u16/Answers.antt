@@ -1,8 +1,6 @@
 use Prim.Native.Nat.{◌+◌}
 use native.Mathlib.Omega.{arith}
 use Rattle.word.proofs.Laws.{word_parts, word_one}
-use borrow.Author.Rules.{rules}
-use Rattle.word.proofs.wide.Reads as wide-reads
 use Rattle.word.proofs.read_u16.Goals as goal
 
 pub returns : goal.returns

@@ -1,7 +1,5 @@
 use native.Mathlib.Omega.{arith}
 use Rattle.word.proofs.Laws.{word_parts}
-use borrow.Author.Rules.{rules}
-use Rattle.word.proofs.read_u32.Reads as read-u32-reads
 use Rattle.word.proofs.read_u64.Goals as goal
 
 pub returns : goal.returns

@@ -1,8 +1,5 @@
 use mir.Syntax.{w32}
 use mir.ValLaws.{to_z-of_z}
-use borrow.Author.Rules.{rules}
-use Rattle.word.proofs.bits_of_i32.Reads as bits-of-i32-reads
-use Rattle.word.proofs.write_u32.Reads as write-u32-reads
 use Rattle.word.proofs.write_i32.Goals as goal
 
 pub returns : goal.returns

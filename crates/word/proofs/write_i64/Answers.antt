@@ -1,8 +1,5 @@
 use mir.Syntax.{w64}
 use mir.ValLaws.{to_z-of_z}
-use borrow.Author.Rules.{rules}
-use Rattle.word.proofs.bits_of_i64.Reads as bits-of-i64-reads
-use Rattle.word.proofs.write_u64.Reads as write-u64-reads
 use Rattle.word.proofs.write_i64.Goals as goal
 
 pub returns : goal.returns

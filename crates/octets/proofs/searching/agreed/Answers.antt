@@ -1,12 +1,10 @@
-use Prim.Native.Nat.{◌+◌, ◌-◌, ◌≤◌}
+use Prim.Native.Nat.{◌+◌}
 use mathlib.Core.Path.{◌≡◌, sym, ◌∙◌}
 use native.Mathlib.Omega.{arith}
-use lib.ListN.{length, drop}
+use lib.ListN.{length}
 use borrow.Author.Tests.{eq-eqb, ne_eqb}
-use Rattle.octets.specs.Octets.{fold, folded, begins_of}
-use Rattle.octets.proofs.Places.{begins_from, begins_more, begins_stop, begins_end}
-use borrow.Author.Rules.{rules}
-use Rattle.octets.proofs.fold.Reads as fold-reads
+use Rattle.octets.specs.Octets.{fold}
+use Rattle.octets.proofs.Places.{begins_more, begins_stop, begins_end}
 use Rattle.octets.proofs.searching.agreed.Goals as goal
 
 pub loop-j-init : goal.loop-j-init

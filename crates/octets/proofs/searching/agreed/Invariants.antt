@@ -1,12 +1,8 @@
 use Prim.Native.Nat.{◌+◌, ◌-◌, ◌≤◌}
-use mathlib.Core.Path.{◌≡◌, sym, ◌∙◌}
-use native.Mathlib.Omega.{arith}
+use mathlib.Core.Path.{◌≡◌}
 use lib.ListN.{length, drop}
-use borrow.Author.Tests.{eq-eqb, ne_eqb}
 use Rattle.octets.specs.Octets.{fold, folded, begins_of}
-use Rattle.octets.proofs.Places.{begins_from, begins_more, begins_stop, begins_end}
-use borrow.Author.Rules.{rules}
-use Rattle.octets.proofs.fold.Reads as fold-reads
+use Rattle.octets.proofs.Places.{begins_from}
 use Rattle.octets.proofs.searching.agreed.Given as goal
 
 abbrev pub invariant-loop-j : goal.invariant-loop-j

@@ -1,12 +1,9 @@
-use Prim.Native.Nat.{◌+◌, ◌-◌, ◌*◌, ◌≤◌, ◌<◌}
+use Prim.Native.Nat.{◌+◌, ◌-◌}
 use mathlib.Core.Path.{sym, ◌∙◌}
 use native.Mathlib.Omega.{arith}
 use lib.ListN.{length, get_or, length-map}
 use Rattle.octets.specs.Octets.{fold, folded}
-use Rattle.octets.specs.Borders.{Longest}
 use Rattle.octets.proofs.Borders.{begun, later, widens, border_at, goes_on, begins_anew, falls, whole, nowhere}
-use borrow.Author.Rules.{rules}
-use Rattle.octets.proofs.fold.Reads as fold-reads
 use Rattle.octets.proofs.searching.follow.Goals as goal
 
 pub loop-i-init : goal.loop-i-init

@@ -1,20 +1,12 @@
-use Prim.Native.Nat.{◌+◌, ◌-◌, ◌≤◌}
-use mathlib.Core.Path.{◌≡◌, refl, sym, ◌∙◌}
-use mathlib.Core.List.{map}
+use mathlib.Core.Path.{refl, sym, ◌∙◌}
 use native.Mathlib.Omega.{arith}
 use lib.Dec.{eqb, leb}
-use lib.ListN.{length, get_or, drop}
-use Rattle.octets.specs.Octets.{fold, folded, contains_of}
+use lib.ListN.{length, get_or}
+use Rattle.octets.specs.Octets.{fold, folded}
 use Rattle.octets.proofs.Laws.{rest, found, passed}
 use Rattle.octets.proofs.Places.{other_first, no_place}
 use Rattle.octets.proofs.Theorems.{and_parts}
 use borrow.Author.Tests.{eq-eqb, ne_eqb, leb-true}
-use borrow.Author.Rules.{rules}
-use Rattle.octets.proofs.fold.Reads as fold-reads
-use Rattle.octets.proofs.searching.case_bit.Reads as case-bit-reads
-use Rattle.octets.proofs.searching.agreed.Reads as agreed-reads
-use Rattle.octets.proofs.searching.by_borders.Reads as by-borders-reads
-use Rattle.octets.proofs.searching.left.Reads as left-reads
 use Rattle.octets.proofs.searching.marked.Goals as goal
 
 pub overflow_add-credit : goal.overflow_add-credit

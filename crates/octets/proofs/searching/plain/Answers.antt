@@ -1,19 +1,13 @@
-use Prim.Native.Nat.{◌+◌, ◌-◌, ◌≤◌}
-use mathlib.Core.Path.{◌≡◌, refl, sym, ◌∙◌}
+use mathlib.Core.Path.{refl, sym, ◌∙◌}
 use mathlib.Core.Bool.{false}
-use mathlib.Core.List.{map}
 use native.Mathlib.Omega.{arith}
 use lib.Dec.{eqb, leb}
-use lib.ListN.{length, drop}
-use Rattle.octets.specs.Octets.{fold, folded, contains_of}
+use lib.ListN.{length}
+use Rattle.octets.specs.Octets.{fold, folded}
 use Rattle.octets.proofs.Laws.{rest, found, passed}
 use Rattle.octets.proofs.Places.{other_first, no_place}
 use Rattle.octets.proofs.Theorems.{and_parts}
 use borrow.Author.Tests.{eq-eqb, ne_eqb, leb-true}
-use borrow.Author.Rules.{rules}
-use Rattle.octets.proofs.searching.agreed.Reads as agreed-reads
-use Rattle.octets.proofs.searching.by_borders.Reads as by-borders-reads
-use Rattle.octets.proofs.searching.left.Reads as left-reads
 use Rattle.octets.proofs.searching.plain.Goals as goal
 
 pub overflow_add-credit : goal.overflow_add-credit

@@ -1,12 +1,10 @@
-use Prim.Native.Nat.{◌+◌, ◌-◌, ◌*◌, ◌≤◌, ◌<◌}
+use Prim.Native.Nat.{◌+◌, ◌-◌, ◌<◌}
 use mathlib.Core.Path.{◌≡◌, refl, sym, ◌∙◌}
 use native.Mathlib.Omega.{arith}
 use lib.ListN.{length, get_or, length-set}
-use Rattle.octets.specs.Octets.{fold, folded}
-use Rattle.octets.specs.Borders.{Longest, Borders}
+use Rattle.octets.specs.Octets.{folded}
+use Rattle.octets.specs.Borders.{Longest}
 use Rattle.octets.proofs.Borders.{begun, later, widens, border_at, border_more, goes_on, begins_anew, falls}
-use borrow.Author.Rules.{rules}
-use Rattle.octets.proofs.fold.Reads as fold-reads
 use Rattle.octets.proofs.searching.set_borders.Goals as goal
 
 pub loop-i-init : goal.loop-i-init

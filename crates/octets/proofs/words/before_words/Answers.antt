@@ -41,8 +41,7 @@ pub read_u64-requires-in-loop-i : goal.read_u64-requires-in-loop-i
 read_u64-requires-in-loop-i c = omega (arith, c.loop-i-test.true, c.shorter-tail.ensures.1, long c.before.before.before.before)
 
 pub by_word-requires : goal.by_word-requires
-by_word-requires c =
-    (
+by_word-requires c = (
   omega (arith, c.loop-i-test.true, c.shorter-tail.ensures.0, long c.before.before.before.before.before.before),
   omega (arith, c.loop-i-test.true, c.shorter-tail.ensures.1, long c.before.before.before.before.before.before),
   c.loop-i.invariant.1,
@@ -73,8 +72,7 @@ pub read_u64-requires-3 : goal.read_u64-requires-3
 read_u64-requires-3 c = omega (arith, c.shorter-tail.ensures.1, long c.before.before.before.before)
 
 pub by_word-requires-then-read_u64-2 : goal.by_word-requires-then-read_u64-2
-by_word-requires-then-read_u64-2 c =
-    (
+by_word-requires-then-read_u64-2 c = (
   omega (arith, c.shorter-tail.ensures.0, long c.before.before.before.before.before.before),
   omega (arith, c.shorter-tail.ensures.1, long c.before.before.before.before.before.before),
   before_last c.before.before.before.before,

@@ -1,12 +1,7 @@
 -- `words::before_words` meets its contract: the bytes before i are the same. Assumes nothing.
-use mathlib.Core.Path.{◌≡◌, refl, sym, ◌∙◌}
+use mathlib.Core.Path.{◌≡◌}
 use Prim.Native.Nat.{◌+◌, ◌-◌, ◌≤◌}
-use mathlib.Core.Logic.{⊎_elim}
-use native.Mathlib.Omega.{arith}
 use lib.ListN.{take}
-use Rattle.word.specs.Word.{Bytes}
-use Rattle.octets.proofs.Sames.{less_alike, more_alike}
-use Rattle.octets.proofs.Leads.{all_alike}
 use Rattle.octets.proofs.words.before_words.Given as goal
 
 abbrev pub invariant-loop-i : goal.invariant-loop-i

@@ -2,7 +2,6 @@
 use mathlib.Core.Path.{ap₂, ◌∙◌}
 use lib.Dec.{ltb}
 use Rattle.octets.proofs.Leads.{words_order}
-use borrow.Author.Rules.{rules}
 use Rattle.octets.proofs.words.by_word.Goals as goal
 
 pub returns : goal.returns

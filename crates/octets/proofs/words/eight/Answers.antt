@@ -1,5 +1,5 @@
 use mathlib.Core.Path.{◌≡◌, sym, ap, ◌∙◌}
-use Prim.Native.Nat.{ℕ, ◌+◌, ◌-◌, ◌*◌, ◌^◌, ◌≤◌, ◌<◌}
+use Prim.Native.Nat.{ℕ, ◌+◌, ◌-◌, ◌*◌, ◌^◌, ◌<◌}
 use native.Mathlib.Nat.{pow-suc}
 use native.Mathlib.Numerals.{add-one}
 use native.Mathlib.Omega.{arith}
@@ -7,9 +7,7 @@ use lib.ListN.{get_or, drop}
 use Rattle.word.proofs.Laws.{fits7}
 use Rattle.octets.specs.Octets.{lead}
 use Rattle.octets.proofs.Leads.{lead_more, lead_all}
-use borrow.Author.Rules.{rules}
 use Rattle.octets.proofs.words.eight.Lts as lts
-use Rattle.octets.proofs.words.eight.Tie as tie
 use Rattle.octets.proofs.words.eight.Reads as reads
 use Rattle.octets.proofs.words.eight.Goals as goal
 

@@ -1,13 +1,7 @@
-use mathlib.Core.Path.{◌≡◌, sym, ap, ◌∙◌}
-use Prim.Native.Nat.{ℕ, ◌+◌, ◌-◌, ◌*◌, ◌^◌, ◌≤◌, ◌<◌}
-use native.Mathlib.Nat.{pow-suc}
-use native.Mathlib.Numerals.{add-one}
-use native.Mathlib.Omega.{arith}
-use lib.ListN.{get_or, drop}
-use Rattle.word.proofs.Laws.{fits7}
+use mathlib.Core.Path.{◌≡◌}
+use Prim.Native.Nat.{◌+◌, ◌-◌, ◌^◌, ◌≤◌, ◌<◌}
+use lib.ListN.{drop}
 use Rattle.octets.specs.Octets.{lead}
-use Rattle.octets.proofs.Leads.{lead_more, lead_all}
-use borrow.Author.Rules.{rules}
 use Rattle.octets.proofs.words.eight.Given as goal
 
 abbrev pub invariant-loop-i : goal.invariant-loop-i

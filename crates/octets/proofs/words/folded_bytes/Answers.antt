@@ -1,12 +1,9 @@
 -- `words::folded_bytes` meets its contract: what is left to compare from i on says whether the whole is the same. Assumes nothing.
-use Prim.Native.Nat.{◌≤◌, ◌-◌}
-use mathlib.Core.Path.{◌≡◌, refl, sym, ◌∙◌}
+use mathlib.Core.Path.{refl, sym, ◌∙◌}
 use mathlib.Core.Bool.{true}
 use native.Mathlib.Omega.{arith}
-use lib.ListN.{length}
-use Rattle.octets.specs.Octets.{fold, folded, same_of}
-use Rattle.octets.proofs.Laws.{same_from, same_more, same_stop, same_end}
-use borrow.Author.Rules.{rules}
+use Rattle.octets.specs.Octets.{fold}
+use Rattle.octets.proofs.Laws.{same_more, same_stop, same_end}
 use Rattle.octets.proofs.words.folded_bytes.Goals as goal
 
 pub loop-i-init : goal.loop-i-init

@@ -1,9 +1,9 @@
 -- `words::folded_words` meets its contract: the folded bytes before i are the same, and the last eight are. Assumes nothing.
 use mathlib.Core.Path.{◌≡◌, refl, sym, ◌∙◌}
 use mathlib.Core.Bool.{true}
-use Prim.Native.Nat.{◌+◌, ◌-◌, ◌≤◌}
+use Prim.Native.Nat.{◌-◌}
 use native.Mathlib.Omega.{arith}
-use lib.ListN.{length, take, length-map}
+use lib.ListN.{length, length-map}
 use Rattle.octets.specs.Octets.{fold, folded}
 use Rattle.octets.proofs.Sames.{other_word, next_word, last_word}
 use Rattle.octets.proofs.Folds.{folded_bytes}

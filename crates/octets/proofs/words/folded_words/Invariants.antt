@@ -1,12 +1,9 @@
 -- `words::folded_words` meets its contract: the folded bytes before i are the same, and the last eight are. Assumes nothing.
-use mathlib.Core.Path.{◌≡◌, refl, sym, ◌∙◌}
+use mathlib.Core.Path.{◌≡◌}
 use mathlib.Core.Bool.{true}
 use Prim.Native.Nat.{◌+◌, ◌-◌, ◌≤◌}
-use native.Mathlib.Omega.{arith}
-use lib.ListN.{length, take, length-map}
-use Rattle.octets.specs.Octets.{fold, folded}
-use Rattle.octets.proofs.Sames.{other_word, next_word, last_word}
-use Rattle.octets.proofs.Folds.{folded_bytes}
+use lib.ListN.{take}
+use Rattle.octets.specs.Octets.{folded}
 use Rattle.octets.proofs.words.folded_words.Given as goal
 
 abbrev pub invariant-loop-i : goal.invariant-loop-i

@@ -1,8 +1,6 @@
 -- `words::same_bytes` meets its contract: the bytes before i are the same. Assumes nothing.
-use mathlib.Core.Path.{◌≡◌, refl}
-use Prim.Native.Nat.{◌-◌, ◌≤◌}
+use mathlib.Core.Path.{refl}
 use native.Mathlib.Omega.{arith}
-use lib.ListN.{length, take}
 use Rattle.octets.proofs.Sames.{other_byte, next_byte, all_same}
 use Rattle.octets.proofs.words.same_bytes.Goals as goal
 

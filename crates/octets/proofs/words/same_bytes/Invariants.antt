@@ -1,9 +1,7 @@
 -- `words::same_bytes` meets its contract: the bytes before i are the same. Assumes nothing.
-use mathlib.Core.Path.{◌≡◌, refl}
+use mathlib.Core.Path.{◌≡◌}
 use Prim.Native.Nat.{◌-◌, ◌≤◌}
-use native.Mathlib.Omega.{arith}
 use lib.ListN.{length, take}
-use Rattle.octets.proofs.Sames.{other_byte, next_byte, all_same}
 use Rattle.octets.proofs.words.same_bytes.Given as goal
 
 abbrev pub invariant-loop-i : goal.invariant-loop-i

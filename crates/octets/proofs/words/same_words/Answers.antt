@@ -1,8 +1,8 @@
 -- `words::same_words` meets its contract: the bytes before i are the same, and the last eight are. Assumes nothing.
-use mathlib.Core.Path.{◌≡◌, refl, sym, ◌∙◌}
-use Prim.Native.Nat.{◌+◌, ◌-◌, ◌≤◌}
+use mathlib.Core.Path.{refl, sym, ◌∙◌}
+use Prim.Native.Nat.{◌-◌}
 use native.Mathlib.Omega.{arith}
-use lib.ListN.{length, take}
+use lib.ListN.{length}
 use Rattle.octets.proofs.Sames.{other_word, next_word, last_word}
 use Rattle.octets.proofs.words.same_words.Goals as goal
 

@@ -1,9 +1,7 @@
 -- `words::same_words` meets its contract: the bytes before i are the same, and the last eight are. Assumes nothing.
-use mathlib.Core.Path.{◌≡◌, refl, sym, ◌∙◌}
+use mathlib.Core.Path.{◌≡◌}
 use Prim.Native.Nat.{◌+◌, ◌-◌, ◌≤◌}
-use native.Mathlib.Omega.{arith}
-use lib.ListN.{length, take}
-use Rattle.octets.proofs.Sames.{other_word, next_word, last_word}
+use lib.ListN.{take}
 use Rattle.octets.proofs.words.same_words.Given as goal
 
 abbrev pub invariant-loop-i : goal.invariant-loop-i

@@ -1,6 +1,5 @@
 use mathlib.Core.Path.{◌∙◌}
 use Rattle.octets.proofs.Folds.{under_mark, under_none}
-use borrow.Author.Rules.{rules}
 use Rattle.octets.proofs.words.word_under.Goals as goal
 
 pub returns-then-mark : goal.returns-then-mark
