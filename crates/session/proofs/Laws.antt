@@ -1,12 +1,10 @@
 -- What a record leaves, by its kind, and a stretch of the input record by record. Assumes nothing.
 use mathlib.Core.Path.{◌≡◌, refl, sym, ap, ap₂, subst, ◌∙◌}
-use mathlib.Core.Logic.{◌⊎◌, inl, inr}
-use mathlib.Core.Bool.{Bool, true, false, not}
-use mathlib.Core.List.{List, [], ◌∷◌, ◌++◌, append_assoc, append-nil}
-use Prim.Native.Nat.{ℕ, zero, suc, ◌+◌, ◌*◌, ◌-◌, ◌≤◌, ◌<◌}
+use mathlib.Core.Bool.{Bool, true, false}
+use mathlib.Core.List.{List, [], ◌++◌, append_assoc, append-nil}
+use Prim.Native.Nat.{ℕ, suc, ◌+◌, ◌*◌, ◌-◌, ◌≤◌, ◌<◌}
 use native.Mathlib.Omega.{arith}
 use borrow.Author.Tests.{ne_eqb}
-use lib.Dec.{eqb}
 use lib.ListN.{length, take, drop, length-drop}
 use lib.Seq.{sets, sets-eq, length-sets, length-take-le, take_all, take-append_seam, drop-drop}
 use Rattle.common.specs.Choice.{pick}
@@ -25,8 +23,7 @@ use Rattle.interpreter.specs.Running.{running_of}
 use Rattle.session.specs.declared.Stop.{Stop}
 use Rattle.session.specs.declared.Stop.TheVariants.{Full, Waiting, Ended}
 use Rattle.session.specs.declared.Answered.{Answered}
-use Rattle.session.specs.declared.Served.{Served}
-use Rattle.session.specs.Session.{edition, text_of, translated_line, ran_line, line_of, table_after, Sound, on_record}
+use Rattle.session.specs.Session.{edition, text_of, ran_line, line_of, table_after, Sound, on_record}
 use Rattle.session.specs.Serving.{buffer_after, Serving, stopped, prepend, serving_of, Answers, Serves}
 use Rattle.session.proofs.Kept.{text_sound}
 
@@ -133,12 +130,6 @@ module _ (n : ℕ) (last : Bool) (t b s : List ℕ) where
 
 abbrev with_both : Serving → List ℕ → ℕ → Serving
 with_both σ lines taken = record { lines = lines; table = σ.table; buffer = σ.buffer; taken = taken; stop = σ.stop }
-
--- a record that is none of the other three kinds of finding by its tag
-pub not_whole : (tag : Record → ℕ) → ((kind size : ℕ) → tag (Whole kind size) ≡ 1) → (r f : Record) → (tag f ≡ 0) ⊎ ((tag f ≡ 2) ⊎ (tag f ≡ 3)) → f ≡ r → (kind size : ℕ) → r ≡ Whole kind size → ⊥
-not_whole tag one r f (inl h) e k n w = let z : ◌≡◌ {A = ℕ} 0 1 = sym h ∙ ap tag (e ∙ w) ∙ one k n in omega arith
-not_whole tag one r f (inr (inl h)) e k n w = let z : ◌≡◌ {A = ℕ} 2 1 = sym h ∙ ap tag (e ∙ w) ∙ one k n in omega arith
-not_whole tag one r f (inr (inr h)) e k n w = let z : ◌≡◌ {A = ℕ} 3 1 = sym h ∙ ap tag (e ∙ w) ∙ one k n in omega arith
 
 -- nothing before, and one record after another
 prepend_none : (σ : Serving) → prepend [] 0 σ ≡ σ

@@ -179,7 +179,7 @@ in_pieces (suc n) (suc m) last table buffer s t hl hm =
 
 pub no_table : NoTable
 unfolding check_of layout_of
-no_table room r = refl
+no_table size r = refl
 
 -- ---- a session
 

@@ -1,8 +1,7 @@
 -- The input comes in pieces and the lines leave through a buffer: what is answered of a stretch of the input.
-use Rattle.std.specs.Prelude.{ℕ, zero, suc, ◌+◌, ◌*◌, ◌≤◌, Bool, List, [], ◌++◌, ◌≡◌, length, take, drop}
+use Rattle.std.specs.Prelude.{ℕ, zero, suc, ◌+◌, ◌≤◌, Bool, List, [], ◌++◌, ◌≡◌, length, take, drop}
 use Rattle.std.proofs.lemmas.List.Edits.{sets}
 use Rattle.common.specs.Choice.{pick}
-use Rattle.record.specs.declared.Record.{Record}
 use Rattle.record.specs.Record.{record_of, waits_of}
 use Rattle.decimal.specs.Decimal.{Put}
 use Rattle.record.specs.Line.{error_line, line_room}

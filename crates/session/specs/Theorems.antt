@@ -1,5 +1,5 @@
 -- What holds of the program's whole output. The proofs are in proofs/Theorems.antt, under the same names.
-use Rattle.std.specs.Prelude.{◌≡◌, Bool, true, false, List, [], ◌++◌, ℕ, ◌≤◌, length, take, drop}
+use Rattle.std.specs.Prelude.{◌≡◌, Bool, true, List, [], ◌++◌, ℕ, ◌≤◌, length, take, drop}
 use Rattle.truth.specs.declared.Truth.TheVariants.{Bottom}
 use Rattle.record.specs.Line.{notice_line}
 use Rattle.session.specs.declared.Stop.{Stop}

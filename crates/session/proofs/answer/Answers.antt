@@ -3,10 +3,6 @@ use native.Mathlib.Omega.{arith}
 use lib.ListN.{take}
 use Rattle.session.specs.Session.{Sound}
 use Rattle.session.proofs.Laws.{from_start, at_kind, notice_answers, other_answers}
-use borrow.Author.Rules.{rules}
-use Rattle.record.proofs.put_kind_line.Reads as put-kind-line-reads
-use Rattle.session.proofs.answer_text.Reads as answer-text-reads
-use Rattle.session.proofs.put_verdict.Reads as put-verdict-reads
 use Rattle.session.proofs.answer.Goals as goal
 
 pub returns-then-kind-eq3 : goal.returns-then-kind-eq3
@@ -17,8 +13,7 @@ returns-then-kind-eq3 c =
 
 pub put_verdict-next-requires : goal.put_verdict-next-requires
 put_verdict-next-requires c =
-    let s = c.before.before.before.before.before.before.before.before.before in
-    (subst Sound (sym (from_start s.args.table.now s.args.held)) s.requires.2, omega (arith, s.requires.3))
+    (subst Sound (sym (from_start c.args.table.now c.args.held)) c.requires.2, omega (arith, c.requires.3))
 
 pub returns-then-kind-eq1 : goal.returns-then-kind-eq1
 returns-then-kind-eq1 c =

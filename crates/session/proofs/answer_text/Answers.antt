@@ -1,8 +1,4 @@
-use mathlib.Core.Path.{ap}
 use Rattle.session.proofs.Laws.{to_end, text_answers}
-use borrow.Author.Rules.{rules}
-use Rattle.record.proofs.put_text_line.Reads as put-text-line-reads
-use Rattle.translator.proofs.translate.Reads as translate-reads
 use Rattle.session.proofs.answer_text.Goals as goal
 
 pub returns : goal.returns

@@ -1,6 +1,5 @@
 -- `session::lines` meets its contract. Assumes nothing.
 use Rattle.session.proofs.Laws.{from_start}
-use borrow.Author.Rules.{rules}
 use Rattle.session.proofs.lines.Goals as goal
 
 pub returns : goal.returns

@@ -1,7 +1,5 @@
 -- `session::make_room` meets its contract: by whether a longest record has room. Assumes nothing.
-use Rattle.common.proofs.move_down.Reads as move-down-reads
 use Rattle.session.proofs.Steps.{room_made, room_there}
-use borrow.Author.Rules.{rules}
 use Rattle.session.proofs.make_room.Goals as goal
 
 pub returns-then-input-end-lt16384 : goal.returns-then-input-end-lt16384

@@ -1,9 +1,6 @@
 use mathlib.Core.Path.{ap}
 use Rattle.session.specs.Session.{ran_line}
 use Rattle.decimal.proofs.Laws.{renamed}
-use borrow.Author.Rules.{rules}
-use Rattle.session.proofs.run_last.Reads as run-last-reads
-use Rattle.record.proofs.put_notice_line.Reads as put-notice-line-reads
 use Rattle.session.proofs.put_verdict.Goals as goal
 
 pub returns : goal.returns

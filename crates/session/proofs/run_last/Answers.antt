@@ -1,6 +1,5 @@
 -- `session::run_last` meets its contract: a table that is not empty passes the check. Assumes nothing.
 use Rattle.session.proofs.Kept.{passes}
-use borrow.Author.Rules.{rules}
 use Rattle.session.proofs.run_last.Goals as goal
 
 pub returns-then-table-eq0 : goal.returns-then-table-eq0

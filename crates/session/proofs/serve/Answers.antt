@@ -1,42 +1,29 @@
-use mathlib.Core.Path.{◌≡◌, refl, sym, ap, ◌∙◌}
-use mathlib.Core.Bool.{true, false}
-use Prim.Native.Nat.{ℕ, ◌+◌, ◌-◌, ◌*◌, ◌/◌, ◌≤◌, ◌<◌}
+use mathlib.Core.Path.{◌≡◌, sym, ap, ◌∙◌}
+use mathlib.Core.List.{List}
+use Prim.Native.Nat.{ℕ, ◌+◌, ◌-◌, ◌/◌, ◌≤◌}
 use native.Mathlib.Omega.{arith}
-use borrow.Author.Rules.{rules}
 use lib.ListN.{length, take, drop, length-drop}
 use Rattle.record.specs.declared.Record.{Record}
 use Rattle.record.specs.declared.Record.TheVariants.{Whole}
-use Rattle.record.specs.contracts.Record.{the_type}
-use denote.Enum.Declared.{tag_of}
 use Rattle.record.specs.Record.{record_of, waits_of}
 use Rattle.record.proofs.Theorems.{whole_lies}
 use Rattle.record.specs.Line.{line_room}
-use Rattle.session.proofs.Laws.{to_end, between, between_length, not_whole, Along, along_first, along_more, along_full, along_waits, along_error}
-use borrow.Author.Rules.{rules}
-use Rattle.record.proofs.next_record.Reads as next-record-reads
-use Rattle.record.proofs.put_error_line.Reads as put-error-line-reads
-use Rattle.record.proofs.waits.Reads as waits-reads
-use Rattle.session.proofs.answer.Reads as answer-reads
-use Rattle.session.proofs.serve.Lts as lts
-use Rattle.session.proofs.serve.Tie as tie
-use Rattle.session.proofs.serve.Reads as reads
+use Rattle.session.proofs.Laws.{to_end, between, between_length, along_first, along_more, along_full, along_waits, along_error}
 use Rattle.session.proofs.serve.Goals as goal
 
 -- the record reader's finding at the stretch's own bytes
-found : (c : lts.After-next_record tie.the-claims reads.Pre reads.Post goal.the-invariant-loop-left goal.the-decreases-loop-left) → c.next_record-found.result ≡ record_of (drop c.loop-left.at c.args.input.now)
-found c = c.next_record-found.ensures ∙ ap record_of (to_end c.args.input.now c.loop-left.at)
+found_at : (s : List ℕ) (at : ℕ) (r : Record) → r ≡ record_of (take (length s - at) (drop at s)) → r ≡ record_of (drop at s)
+found_at s at r e = e ∙ ap record_of (to_end s at)
 
 -- the whole record that was taken
-whole : (c : lts.After-known_told tie.the-claims reads.Pre reads.Post goal.the-invariant-loop-left goal.the-decreases-loop-left) → record_of (drop c.loop-left.at c.args.input.now) ≡ Whole c.found-1.given.0.0 c.found-1.given.0.1.0
-whole c = sym (found c.before.before.before.before.before) ∙ c.found-1.given.1
+whole_at : (s : List ℕ) (at : ℕ) (r : Record) (kind size : ℕ) → r ≡ record_of (take (length s - at) (drop at s)) → r ≡ Whole kind size → record_of (drop at s) ≡ Whole kind size
+whole_at s at r kind size e w = sym (found_at s at r e) ∙ w
 
-lies : (c : lts.After-known_told tie.the-claims reads.Pre reads.Post goal.the-invariant-loop-left goal.the-decreases-loop-left) → (6 ≤ c.found-1.given.0.1.0) × (c.loop-left.at + c.found-1.given.0.1.0 ≤ length c.args.input.now)
-lies c =
-    let s = c.args.input.now in
-    let at = c.loop-left.at in
-    let l = whole_lies (drop at s) c.found-1.given.0.0 c.found-1.given.0.1.0 (whole c) in
+lies_at : (s : List ℕ) (at : ℕ) (r : Record) (kind size : ℕ) → at ≤ length s → r ≡ record_of (take (length s - at) (drop at s)) → r ≡ Whole kind size → (6 ≤ size) × (at + size ≤ length s)
+lies_at s at r kind size h e w =
+    let l = whole_lies (drop at s) kind size (whole_at s at r kind size e w) in
     let d = length-drop at s in
-    (l.0, omega (arith, l.2, c.loop-left.invariant.placed))
+    (l.0, omega (arith, l.2))
 
 pub loop-left-init : goal.loop-left-init
 loop-left-init c =
@@ -60,7 +47,7 @@ shape_of-out-then-waits c = c.loop-left.invariant.same_out
 pub returns-then-waits : goal.returns-then-waits
 returns-then-waits c =
     along_waits c.loop-left.invariant c.loop-left-test.true
-    (ap (λ (r : Record). waits_of r c.args.last) (sym (found c.before.before.before)) ∙ sym c.waits.ensures ∙ c.if-waits.true)
+    (ap (λ (r : Record). waits_of r c.args.last) (sym (found_at c.args.input.now c.loop-left.at c.next_record-found.result c.next_record-found.ensures)) ∙ sym c.waits.ensures ∙ c.if-waits.true)
 
 pub put_error_line-end-requires : goal.put_error_line-end-requires
 put_error_line-end-requires c = omega (arith, c.loop-left.invariant.room)
@@ -69,17 +56,17 @@ pub shape_of-table-in_default : goal.shape_of-table-in_default
 shape_of-table-in_default c = c.loop-left.invariant.same_buffer
 
 pub shape_of-out-in_default : goal.shape_of-out-in_default
-shape_of-out-in_default c = c.put_error_line-end.auto.0 ∙ c.loop-left.invariant.same_out
+shape_of-out-in_default c = c.put_error_line-end.auto.out ∙ c.loop-left.invariant.same_out
 
 pub returns-in_default : goal.returns-in_default
 returns-in_default c =
     along_error c.loop-left.invariant _ c.put_error_line-end.result c.loop-left-test.true
-    (ap (λ (r : Record). waits_of r c.args.last) (sym (found c.before.before.before.before.before.before.before.before)) ∙ sym c.waits.ensures ∙ c.if-waits.false)
-    (not_whole (tag_of the_type) (λ k n. refl) (record_of (drop c.loop-left.at c.args.input.now)) c.next_record-found.result c.in_default.keys2 (found c.before.before.before.before.before.before.before.before))
-    c.put_error_line-end.auto.0 c.put_error_line-end.ensures.1 c.put_error_line-end.ensures.0
+    (ap (λ (r : Record). waits_of r c.args.last) (sym (found_at c.args.input.now c.loop-left.at c.next_record-found.result c.next_record-found.ensures)) ∙ sym c.waits.ensures ∙ c.if-waits.false)
+    (λ k n w. c.in_default.not-Whole k n (found_at c.args.input.now c.loop-left.at c.next_record-found.result c.next_record-found.ensures ∙ w))
+    c.put_error_line-end.auto.out c.put_error_line-end.ensures.1 c.put_error_line-end.ensures.0
 
 pub overflow_add-next : goal.overflow_add-next
-overflow_add-next c = omega (arith, lies c.before, c.well_formed)
+overflow_add-next c = omega (arith, lies_at c.args.input.now c.loop-left.at c.next_record-found.result c.in-Whole.kind c.in-Whole.size c.loop-left.invariant.placed c.next_record-found.ensures c.in-Whole.is, c.well_formed)
 
 pub slice_bounds-answer-count : goal.slice_bounds-answer-count
 slice_bounds-answer-count c = omega arith
@@ -88,13 +75,13 @@ pub slice_bounds-answer-start : goal.slice_bounds-answer-start
 slice_bounds-answer-start c = omega arith
 
 pub slice_bounds-answer-end : goal.slice_bounds-answer-end
-slice_bounds-answer-end c = omega (arith, lies c.before)
+slice_bounds-answer-end c = omega (arith, lies_at c.args.input.now c.loop-left.at c.next_record-found.result c.in-Whole.kind c.in-Whole.size c.loop-left.invariant.placed c.next_record-found.ensures c.in-Whole.is)
 
 pub answer-done-requires : goal.answer-done-requires
 answer-done-requires c =
-    let k = c.before.before.before.before in
-    let n = between_length c.args.input.now c.loop-left.at k.found-1.given.0.1.0 (lies k).1 in
-    (omega (arith, lies k, n), c.loop-left.invariant.within, c.loop-left.invariant.sound, omega (arith, c.loop-left.invariant.room, c.loop-left-test.true))
+    let l = lies_at c.args.input.now c.loop-left.at c.next_record-found.result c.in-Whole.kind c.in-Whole.size c.loop-left.invariant.placed c.next_record-found.ensures c.in-Whole.is in
+    let n = between_length c.args.input.now c.loop-left.at c.in-Whole.size l.1 in
+    (omega (arith, l, n), c.loop-left.invariant.within, c.loop-left.invariant.sound, omega (arith, c.loop-left.invariant.room, c.loop-left-test.true))
 
 pub overflow_sub-left : goal.overflow_sub-left
 overflow_sub-left c = omega arith
@@ -104,12 +91,11 @@ loop-left-smaller c = omega arith
 
 pub loop-left-preserved : goal.loop-left-preserved
 loop-left-preserved c =
-    let k = c.before.before.before.before.before.before.before.before.before in
     let a = c.answer-done in
     let at = c.loop-left.at in
-    let size = k.found-1.given.0.1.0 in
-    along_more _ _ _ k.found-1.given.0.0 size a.result c.loop-left.invariant c.loop-left-test.true (whole k) (lies k).1
-    (between c.args.input.now at size) a.auto.1.1.0 a.auto.1.1.1.1.0 a.ensures
+    let size = c.in-Whole.size in
+    along_more _ _ _ c.in-Whole.kind size a.result c.loop-left.invariant c.loop-left-test.true (whole_at c.args.input.now c.loop-left.at c.next_record-found.result c.in-Whole.kind c.in-Whole.size c.next_record-found.ensures c.in-Whole.is) (lies_at c.args.input.now c.loop-left.at c.next_record-found.result c.in-Whole.kind c.in-Whole.size c.loop-left.invariant.placed c.next_record-found.ensures c.in-Whole.is).1
+    (between c.args.input.now at size) a.auto.table a.auto.out a.ensures
 
 pub shape_of-table : goal.shape_of-table
 shape_of-table c = c.loop-left.invariant.same_buffer

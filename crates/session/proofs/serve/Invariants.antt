@@ -1,22 +1,7 @@
-use mathlib.Core.Path.{◌≡◌, refl, sym, ap, ◌∙◌}
-use mathlib.Core.Bool.{true, false}
-use Prim.Native.Nat.{ℕ, ◌+◌, ◌-◌, ◌*◌, ◌/◌, ◌≤◌, ◌<◌}
-use native.Mathlib.Omega.{arith}
-use borrow.Author.Rules.{rules}
-use lib.ListN.{length, take, drop, length-drop}
-use Rattle.record.specs.declared.Record.{Record}
-use Rattle.record.specs.declared.Record.TheVariants.{Whole}
-use Rattle.record.specs.contracts.Record.{the_type}
-use denote.Enum.Declared.{tag_of}
-use Rattle.record.specs.Record.{record_of, waits_of}
-use Rattle.record.proofs.Theorems.{whole_lies}
+use Prim.Native.Nat.{◌/◌}
+use lib.ListN.{length}
 use Rattle.record.specs.Line.{line_room}
-use Rattle.session.proofs.Laws.{to_end, between, between_length, not_whole, Along, along_first, along_more, along_full, along_waits, along_error}
-use borrow.Author.Rules.{rules}
-use Rattle.record.proofs.next_record.Reads as next-record-reads
-use Rattle.record.proofs.put_error_line.Reads as put-error-line-reads
-use Rattle.record.proofs.waits.Reads as waits-reads
-use Rattle.session.proofs.answer.Reads as answer-reads
+use Rattle.session.proofs.Laws.{Along}
 use Rattle.session.proofs.serve.Given as goal
 
 abbrev pub invariant-loop-left : goal.invariant-loop-left
