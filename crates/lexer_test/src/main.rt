@@ -4,105 +4,121 @@
 #![tactic(auto)]
 
 use lexer::Lexing;
-use libc::STDOUT_FILENO;
+use std::io;
+use std::io::{BufReader, BufWriter, Write};
 
-fn put_number(n: u64) {
-    io::write_all(STDOUT_FILENO, b" ");
-    io::print_decimal(STDOUT_FILENO, n);
+fn put_number(to: &mut impl io::Write, n: u64) -> io::Result<()> {
+    to.write_all(b" ")?;
+    cases::print_decimal(to, n)
 }
 
-fn put_flag(flag: bool) {
-    put_number(if flag { 1 } else { 0 });
+fn put_flag(to: &mut impl io::Write, flag: bool) -> io::Result<()> {
+    put_number(to, if flag { 1 } else { 0 })
 }
 
-fn put_bits(bits: u64) {
-    io::write_all(STDOUT_FILENO, b" ");
-    io::print_hex(STDOUT_FILENO, bits, 16);
+fn put_bits(to: &mut impl io::Write, bits: u64) -> io::Result<()> {
+    to.write_all(b" ")?;
+    cases::print_bits(to, bits)
 }
 
-fn put_bytes(part: &[u8], n: usize) {
-    io::write_all(STDOUT_FILENO, b" ");
+fn put_bytes(to: &mut impl io::Write, part: &[u8], n: usize) -> io::Result<()> {
+    to.write_all(b" ")?;
     if n <= part.len() {
-        cases::print_hex(&part[0..n]);
+        cases::print_hex(to, &part[0..n])?;
     }
+    Ok(())
 }
 
-fn put_name(text: &[u8], at: usize) {
+fn put_name(to: &mut impl io::Write, text: &[u8], at: usize) -> io::Result<()> {
     let mut part = [0u8; 4096];
     lexer::copy_name(text, at, &mut part);
-    put_bytes(&part, lexer::name_length(text, at));
-    put_flag(lexer::name_escaped(text, at));
-    put_flag(lexer::name_is(text, at, b"fold-case"));
+    put_bytes(to, &part, lexer::name_length(text, at))?;
+    put_flag(to, lexer::name_escaped(text, at))?;
+    put_flag(to, lexer::name_is(text, at, b"fold-case"))
 }
 
-fn put_string(text: &[u8], at: usize) {
+fn put_string(to: &mut impl io::Write, text: &[u8], at: usize) -> io::Result<()> {
     let mut part = [0u8; 4096];
     lexer::copy_string(text, at, &mut part);
-    put_bytes(&part, lexer::string_length(text, at));
+    put_bytes(to, &part, lexer::string_length(text, at))
 }
 
-fn put_value(text: &[u8], at: usize, kind: u8) {
+fn put_value(to: &mut impl io::Write, text: &[u8], at: usize, kind: u8) -> io::Result<()> {
     match kind {
-        1 => put_bits(word::bits_of_i64(lexer::int_value(text, at))),
-        2 => put_bits(word::bits_of_i64(lexer::int_value(text, at))),
-        3 => put_bits(number::bits_of_real(lexer::real_value(text, at))),
-        4 => put_string(text, at),
-        5 => put_name(text, at),
-        _ => (),
+        1 => put_bits(to, word::bits_of_i64(lexer::int_value(text, at))),
+        2 => put_bits(to, word::bits_of_i64(lexer::int_value(text, at))),
+        3 => put_bits(to, number::bits_of_real(lexer::real_value(text, at))),
+        4 => put_string(to, text, at),
+        5 => put_name(to, text, at),
+        _ => Ok(()),
     }
 }
 
-fn put_token(text: &[u8], kind: u8, start: u16) {
-    put_number(kind as u64);
-    put_number(start as u64);
-    put_value(text, start as usize, kind);
+fn put_token(to: &mut impl io::Write, text: &[u8], kind: u8, start: u16) -> io::Result<()> {
+    put_number(to, kind as u64)?;
+    put_number(to, start as u64)?;
+    put_value(to, text, start as usize, kind)
 }
 
 // No token's kind number is 0, so the tokens end where the kinds do.
-fn put_tokens(text: &[u8], kinds: &[u8; 4096], starts: &[u16; 4096]) {
+fn put_tokens(
+    to: &mut impl io::Write,
+    text: &[u8],
+    kinds: &[u8; 4096],
+    starts: &[u16; 4096],
+) -> io::Result<()> {
     let mut i = 0;
     while i < 4096 {
         if kinds[i] == 0 {
-            return;
+            return Ok(());
         }
-        put_token(text, kinds[i], starts[i]);
+        put_token(to, text, kinds[i], starts[i])?;
         i += 1;
     }
+    Ok(())
 }
 
-fn answer(text: &[u8]) {
+fn answer(to: &mut impl io::Write, text: &[u8]) -> io::Result<()> {
     let mut kinds = [0u8; 4096];
     let mut starts = [0u16; 4096];
     match lexer::lex(text, &mut kinds, &mut starts) {
         Lexing::Tokens(n) => {
-            io::write_all(STDOUT_FILENO, b"0");
-            put_number(n as u64);
+            to.write_all(b"0")?;
+            put_number(to, n as u64)?;
         }
         Lexing::Refused(number, place) => {
-            io::print_decimal(STDOUT_FILENO, number as u64);
-            put_number(place as u64);
+            cases::print_decimal(to, number as u64)?;
+            put_number(to, place as u64)?;
         }
     }
-    put_tokens(text, &kinds, &starts);
-    io::write_all(STDOUT_FILENO, b"\n");
+    put_tokens(to, text, &kinds, &starts)?;
+    to.write_all(b"\n")
 }
 
 // One text. Answers whether there was one.
-fn next_case() -> bool {
+fn next_case(from: &mut impl io::Read, to: &mut impl io::Write) -> io::Result<bool> {
     let mut buffer = [0u8; 8192];
-    let part = cases::next_part(&mut buffer);
+    let part = cases::next_part(from, &mut buffer)?;
     if !part.whole {
-        return false;
+        return Ok(false);
     }
     let end = part.len;
-    answer(&buffer[0..end]);
-    true
+    answer(to, &buffer[0..end])?;
+    Ok(true)
 }
 
 // Nothing says that the input ends, so the turns are counted down.
-fn main() {
+fn all_cases(from: &mut impl io::Read, to: &mut impl io::Write) -> io::Result<()> {
     let mut turns: u64 = 1000000;
-    while turns > 0 && next_case() {
+    while turns > 0 && next_case(from, to)? {
         turns -= 1;
     }
+    Ok(())
+}
+
+fn main(rt: HostRuntime) -> io::Result<()> {
+    let mut from = BufReader::new(rt.alloc(), rt.reader())?;
+    let mut to = BufWriter::new(rt.alloc(), io::writer(&rt))?;
+    all_cases(&mut from, &mut to)?;
+    to.flush()
 }

@@ -4,16 +4,17 @@
 
 ghost use Rattle.std.specs.Prelude.{◌≤◌, length};
 
-use libc::STDOUT_FILENO;
+use std::io;
+use std::io::{BufReader, BufWriter, Write};
 use ubf::Answer;
 
-fn put(s: &[u8]) {
-    io::write_all(STDOUT_FILENO, s);
+fn put(to: &mut impl io::Write, s: &[u8]) -> io::Result<()> {
+    to.write_all(s)
 }
 
-fn put_number(n: u64) {
-    io::print_decimal(STDOUT_FILENO, n);
-    put(b" ");
+fn put_number(to: &mut impl io::Write, n: u64) -> io::Result<()> {
+    cases::print_decimal(to, n)?;
+    put(to, b" ")
 }
 
 // Whether every byte is what the buffer was filled with.
@@ -29,67 +30,76 @@ fn kept(rest: &[u8]) -> bool {
 }
 
 // The result and the bytes after it: all of them where there is none.
-fn put_buffer(buffer: &[u8], len: usize) {
+fn put_buffer(to: &mut impl io::Write, buffer: &[u8], len: usize) -> io::Result<()> {
     if buffer.len() < len {
-        put(b"past the buffer\n");
-        return;
+        put(to, b"past the buffer\n")?;
+        return Ok(());
     }
-    cases::print_hex(&buffer[0..len]);
+    cases::print_hex(to, &buffer[0..len])?;
     if kept(&buffer[len..]) {
-        put(b" kept\n");
+        put(to, b" kept\n")?;
     } else {
-        put(b" changed\n");
+        put(to, b" changed\n")?;
     }
+    Ok(())
 }
 
-fn put_answer(a: Answer, buffer: &[u8]) {
-    put_number(a.number as u64);
-    put_number(a.place as u64);
-    put_number(a.len as u64);
-    put_buffer(buffer, a.len);
+fn put_answer(to: &mut impl io::Write, a: Answer, buffer: &[u8]) -> io::Result<()> {
+    put_number(to, a.number as u64)?;
+    put_number(to, a.place as u64)?;
+    put_number(to, a.len as u64)?;
+    put_buffer(to, buffer, a.len)
 }
 
-fn read(text: &[u8], buffer: &mut [u8], room: usize)
+fn read(to: &mut impl io::Write, text: &[u8], buffer: &mut [u8], room: usize) -> io::Result<()>
     requires { room ≤ length buffer.old }
 {
     let a = ubf::read(text, &mut buffer[0..room]);
-    put_answer(a, buffer);
+    put_answer(to, a, buffer)
 }
 
-fn write(notice: &[u8], buffer: &mut [u8], room: usize)
+fn write(to: &mut impl io::Write, notice: &[u8], buffer: &mut [u8], room: usize) -> io::Result<()>
     requires { room ≤ length buffer.old }
 {
     let a = ubf::write(notice, &mut buffer[0..room]);
-    put_answer(a, buffer);
+    put_answer(to, a, buffer)
 }
 
 // One case. Answers whether there was one.
-fn next_case() -> bool {
+fn next_case(from: &mut impl io::Read, to: &mut impl io::Write) -> io::Result<bool> {
     let mut head = [0u8; 5];
     let mut input = [0u8; 131072];
     let mut buffer = [0xa5u8; 131136];
-    let first = cases::next_part(&mut head);
-    let second = cases::next_part(&mut input);
+    let first = cases::next_part(from, &mut head)?;
+    let second = cases::next_part(from, &mut input)?;
     if !(first.whole & second.whole) {
-        return false;
+        return Ok(false);
     }
     let room = word::read_u32(&head, 1) as usize;
     if 131136 < room {
-        return false;
+        return Ok(false);
     }
     let n = second.len;
     if head[0] == b'r' {
-        read(&input[0..n], &mut buffer, room);
+        read(to, &input[0..n], &mut buffer, room)?;
     } else {
-        write(&input[0..n], &mut buffer, room);
+        write(to, &input[0..n], &mut buffer, room)?;
     }
-    true
+    Ok(true)
 }
 
 // Nothing says that the input ends, so the turns are counted down.
-fn main() {
+fn all_cases(from: &mut impl io::Read, to: &mut impl io::Write) -> io::Result<()> {
     let mut turns: u64 = 1000000;
-    while turns > 0 && next_case() {
+    while turns > 0 && next_case(from, to)? {
         turns -= 1;
     }
+    Ok(())
+}
+
+fn main(rt: HostRuntime) -> io::Result<()> {
+    let mut from = BufReader::new(rt.alloc(), rt.reader())?;
+    let mut to = BufWriter::new(rt.alloc(), io::writer(&rt))?;
+    all_cases(&mut from, &mut to)?;
+    to.flush()
 }

@@ -5,4 +5,4 @@ use Rattle.lexer_test.proofs.put_token.Reads as put-token-reads
 use Rattle.lexer_test.proofs.put_tokens.Goals as goal
 
 pub loop-i-init : goal.loop-i-init
-loop-i-init c = omega arith
+loop-i-init g c = omega arith

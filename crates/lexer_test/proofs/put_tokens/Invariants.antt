@@ -5,7 +5,7 @@ use Rattle.lexer_test.proofs.put_token.Reads as put-token-reads
 use Rattle.lexer_test.proofs.put_tokens.Given as goal
 
 abbrev pub invariant-loop-i : goal.invariant-loop-i
-invariant-loop-i l = l.i ≤ 4096
+invariant-loop-i g l = l.i ≤ 4096
 
 abbrev pub decreases-loop-i : goal.decreases-loop-i
-decreases-loop-i l = 4096 - l.i
+decreases-loop-i g l = 4096 - l.i
