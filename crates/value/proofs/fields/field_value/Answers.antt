@@ -59,5 +59,5 @@ returns-in-5 c = λ p. rw (c.in-5.is, c.in_notice-in-5.ensures)
 
 pub returns-in_default : goal.returns-in_default
 returns-in_default c =
-    λ p. let r = c.in_default.in_default-own.rest in let k = c.args.kind in
-    rw (ne_eqb k 1 r.0.0.0.0.1, ne_eqb k 2 r.0.0.0.1, ne_eqb k 3 r.0.0.1, ne_eqb k 4 r.0.1, ne_eqb k 5 r.1)
+    λ p. let k = c.args.kind in
+    rw (ne_eqb k 1 (search rules), ne_eqb k 2 (search rules), ne_eqb k 3 (search rules), ne_eqb k 4 (search rules), ne_eqb k 5 (search rules))
