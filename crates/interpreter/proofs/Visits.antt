@@ -8,7 +8,6 @@ use native.Mathlib.Omega.{arith}
 use borrow.Author.Tests.{ltb-true, ltb-false, leb-true, leb-false, lt-ltb}
 use lib.Dec.{ltb, leb}
 use lib.ListN.{length, get_or, set, take, drop, length-set, length-map, length-append, length-replicate}
-use Rattle.common.proofs.Choice.{true_false}
 use Rattle.truth.specs.declared.Truth.{Truth}
 use Rattle.truth.specs.declared.Truth.TheVariants.{Bottom}
 use Rattle.opcode.specs.Opcode.{op_of, Kind, unary_takes, binary_takes, takes_of}

@@ -1,5 +1,5 @@
 -- What holds of every store. The proofs are in proofs/Theorems.antt, under the same names.
-use Rattle.std.specs.Prelude.{ℕ, ◌+◌, ◌-◌, ◌≤◌, ◌<◌, ◌≡◌, true, List, [], ◌∷◌, ◌++◌, map, ◌↔◌, eqb, length, get_or, set, take, drop}
+use Rattle.std.specs.Prelude.{ℕ, ◌-◌, ◌≤◌, ◌<◌, ◌≡◌, true, List, [], ◌∷◌, ◌++◌, map, ◌↔◌, eqb, length, get_or, set, take, drop}
 use Rattle.std.proofs.Math.Option.{none, some}
 use Rattle.common.specs.Choice.{pick}
 use Rattle.common.specs.Each.{Each}

@@ -12,7 +12,7 @@ use borrow.Author.Tests.{ltb-true, lt-ltb, leb-true, le-leb}
 use Rattle.common.proofs.Choice.{false_true}
 use Rattle.opcode.specs.Opcode.{Kind, logic}
 use Rattle.table.specs.Table.{Entry, blank}
-use Rattle.table.specs.Check.{pop, push, after, shape_from, shape_at, is_skip, landing, lands_right, skip_right, skips_right, end_right}
+use Rattle.table.specs.Check.{pop, push, shape_from, shape_at, is_skip, landing, lands_right, skip_right, skips_right, end_right}
 use Rattle.table.specs.Ways.{taken_at, given_at, Reaches, start, falls, skips, EveryWay}
 use Rattle.table.proofs.Tests.{both_true, are_true}
 use Rattle.table.proofs.Numbers.{shape_eq, eq_shape}

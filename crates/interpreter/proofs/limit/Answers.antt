@@ -1,5 +1,4 @@
 -- `interpreter::limit` meets its contract. Assumes nothing.
-use borrow.Author.Rules.{rules}
 use borrow.Author.Tests.{le-leb, lt-leb}
 use Rattle.interpreter.proofs.limit.Goals as goal
 

@@ -1,6 +1,5 @@
 -- `interpreter::noted` meets its contract. Assumes nothing.
 use mathlib.Core.Path.{sym}
-use borrow.Author.Rules.{rules}
 use Rattle.interpreter.proofs.noted.Goals as goal
 
 pub returns-then-first-is_bottom : goal.returns-then-first-is_bottom

@@ -1,7 +1,6 @@
 -- `interpreter::run` meets its contract: 12, then the answer of the kept table's run. Assumes nothing.
 use mathlib.Core.Path.{sym, ◌∙◌}
 use Rattle.interpreter.proofs.Answers.{table_refused}
-use borrow.Author.Rules.{rules}
 use Rattle.interpreter.proofs.run.Goals as goal
 
 pub returns-then-not-check : goal.returns-then-not-check

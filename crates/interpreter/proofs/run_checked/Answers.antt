@@ -1,7 +1,6 @@
 -- `interpreter::run_checked` meets its contract. Assumes nothing.
 use mathlib.Core.Path.{refl}
 use Rattle.interpreter.proofs.Answers.{indexed}
-use borrow.Author.Rules.{rules}
 use Rattle.interpreter.proofs.run_checked.Goals as goal
 
 pub run_indexed-requires : goal.run_indexed-requires

@@ -5,7 +5,6 @@ use Prim.Native.Nat.{ℕ, ◌-◌}
 use lib.ListN.{length, take}
 use lib.Seq.{take_all}
 use native.Mathlib.Omega.{arith}
-use borrow.Author.Rules.{rules}
 use Rattle.notice.specs.Layout.{check_of}
 use Rattle.notice.specs.declared.Layout.{Layout}
 use Rattle.interpreter.proofs.Answers.{indexed, notice_refused, neither_refused}

@@ -3,7 +3,6 @@ use Rattle.table.specs.Table.{pool_of}
 use Rattle.table.proofs.Theorems.{checked_layout}
 use Rattle.table.proofs.Laid.{laid}
 use Rattle.interpreter.proofs.Answers.{answer_is}
-use borrow.Author.Rules.{rules}
 use Rattle.interpreter.proofs.run_whole.Goals as goal
 
 pub count-n-requires : goal.count-n-requires

@@ -1,9 +1,6 @@
 -- `count` meets its contract: the tables so far and those that are left are all. Assumes nothing.
-use Prim.Native.Nat.{◌-◌, ◌<◌}
 use native.Mathlib.Omega.{arith}
-use lib.ListN.{length}
-use borrow.Author.Rules.{rules}
-use Rattle.many.proofs.Stretches.{Counts, counts_first, counts_more, counts_on, counted}
+use Rattle.many.proofs.Stretches.{counts_first, counts_more, counts_on, counted}
 use Rattle.many.proofs.count.Goals as goal
 
 pub loop-at-init : goal.loop-at-init

@@ -1,9 +1,6 @@
 -- `deliver` meets its contract: the bytes written and those of the tables that are left make the same of the buffer. Assumes nothing.
-use Prim.Native.Nat.{◌-◌, ◌<◌}
 use native.Mathlib.Omega.{arith}
-use lib.ListN.{length}
-use borrow.Author.Rules.{rules}
-use Rattle.many.proofs.Verdicts.{Delivering, delivering_first, delivering_on, place_left, delivered}
+use Rattle.many.proofs.Verdicts.{delivering_first, delivering_on, place_left, delivered}
 use Rattle.many.proofs.deliver.Goals as goal
 
 pub loop-at-init : goal.loop-at-init

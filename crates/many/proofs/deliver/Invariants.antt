@@ -1,9 +1,7 @@
 -- `deliver` meets its contract: the bytes written and those of the tables that are left make the same of the buffer. Assumes nothing.
-use Prim.Native.Nat.{◌-◌, ◌<◌}
-use native.Mathlib.Omega.{arith}
+use Prim.Native.Nat.{◌-◌}
 use lib.ListN.{length}
-use borrow.Author.Rules.{rules}
-use Rattle.many.proofs.Verdicts.{Delivering, delivering_first, delivering_on, place_left, delivered}
+use Rattle.many.proofs.Verdicts.{Delivering}
 use Rattle.many.proofs.deliver.Given as goal
 
 abbrev pub invariant-loop-at : goal.invariant-loop-at

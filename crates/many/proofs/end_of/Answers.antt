@@ -1,7 +1,6 @@
 -- `end_of` meets its contract: 1 to 3 bytes, a length word that passes the end, and one that does not. Assumes nothing.
 use native.Mathlib.Omega.{arith}
 use Rattle.many.proofs.Stretches.{ends_short, ends_passes, ends_lies}
-use borrow.Author.Rules.{rules}
 use Rattle.many.proofs.end_of.Goals as goal
 
 pub returns-then-left-lt4 : goal.returns-then-left-lt4

@@ -2,7 +2,6 @@
 use native.Mathlib.Omega.{arith}
 use Rattle.many.proofs.Stretches.{counted_over, counted_all}
 use Rattle.many.proofs.Verdicts.{many_over, many-short, many-written}
-use borrow.Author.Rules.{rules}
 use Rattle.many.proofs.judge.Goals as goal
 
 pub returns-then-n-gt64 : goal.returns-then-n-gt64

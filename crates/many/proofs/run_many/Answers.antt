@@ -5,7 +5,6 @@ use Prim.Native.Nat.{ℕ}
 use Rattle.notice.specs.Layout.{Indexed}
 use Rattle.notice.proofs.Stood.{stood_indexed}
 use Rattle.many.proofs.Verdicts.{many_faulty}
-use borrow.Author.Rules.{rules}
 use Rattle.many.proofs.run_many.Goals as goal
 
 pub judge-requires : goal.judge-requires

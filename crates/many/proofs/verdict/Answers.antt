@@ -3,7 +3,6 @@ use mathlib.Core.Path.{sym, ap, ◌∙◌}
 use Rattle.interpreter.specs.declared.Ran.{Ran}
 use Rattle.interpreter.proofs.Answers.{neither_refused}
 use Rattle.many.proofs.Verdicts.{byte_refused, byte_ran}
-use borrow.Author.Rules.{rules}
 use Rattle.many.proofs.verdict.Goals as goal
 
 pub returns-then-not-check : goal.returns-then-not-check

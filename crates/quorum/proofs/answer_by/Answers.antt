@@ -1,6 +1,5 @@
 -- `quorum::answer_by` meets its contract, case by case. Assumes nothing.
 use mathlib.Core.Path.{sym, ap, ◌∙◌}
-use borrow.Author.Rules.{rules}
 use Rattle.quorum.specs.declared.Turn.{Turn}
 use Rattle.quorum.specs.Showing.{answer_by}
 use Rattle.quorum.proofs.answer_by.Goals as goal

@@ -2,7 +2,6 @@
 use mathlib.Core.Path.{sym, ◌∙◌}
 use native.Mathlib.Omega.{arith}
 use lib.ListN.{length}
-use borrow.Author.Rules.{rules}
 use Rattle.quorum.proofs.Opening.{openable, open_refused, open_done}
 use Rattle.quorum.proofs.open.Goals as goal
 

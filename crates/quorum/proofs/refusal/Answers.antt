@@ -1,7 +1,6 @@
 -- `quorum::refusal` meets its contract: 12, 21, 9 in this order. Assumes nothing.
 use mathlib.Core.Path.{sym, ◌∙◌}
 use native.Mathlib.Omega.{arith}
-use borrow.Author.Rules.{rules}
 use Rattle.quorum.proofs.Opening.{bad_table, too_few, too_many, no_room, may-open}
 use Rattle.quorum.proofs.refusal.Goals as goal
 

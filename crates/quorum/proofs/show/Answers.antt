@@ -1,16 +1,12 @@
 -- `quorum::show` meets its contract: 12, or what the notice is to the decision. Assumes nothing.
 use mathlib.Core.Path.{◌≡◌, refl, sym, ap, ◌∙◌}
-use mathlib.Core.Bool.{true}
-use mathlib.Core.List.{List}
-use Prim.Native.Nat.{ℕ}
 use native.Mathlib.Omega.{arith}
 use lib.ListN.{length}
-use borrow.Author.Rules.{rules}
-use Rattle.quorum.specs.Decision.{holds_of, added_to}
+use Rattle.quorum.specs.Decision.{added_to}
 use Rattle.quorum.specs.Showing.{staff_of, bytes_by}
-use Rattle.quorum.proofs.Reading.{Holding, holding}
+use Rattle.quorum.proofs.Reading.{holding}
 use Rattle.quorum.proofs.Staff.{staff_short}
-use Rattle.quorum.proofs.Turns.{length_by, with_staff, without_staff, not_held, added-well, free-place, shows-by}
+use Rattle.quorum.proofs.Turns.{with_staff, without_staff, not_held, added-well, free-place, shows-by}
 use Rattle.quorum.proofs.show.Goals.{then-adds, else-adds}
 use Rattle.quorum.proofs.show.Goals as goal
 

@@ -1,8 +1,5 @@
 -- `repeat::repeat_run` meets its contract: 0 where a check fails, else the sum. Assumes nothing.
-use mathlib.Core.Path.{◌≡◌, refl, sym, ◌∙◌}
-use mathlib.Core.Bool.{true}
-use borrow.Author.Rules.{rules}
-use Rattle.table.specs.Check.{check_of}
+use mathlib.Core.Path.{refl, sym, ◌∙◌}
 use Rattle.interpreter.proofs.Answers.{indexed}
 use Rattle.repeat.proofs.Small.{nothing, no_notice, whole}
 use Rattle.repeat.proofs.repeat_run.Goals as goal

@@ -1,12 +1,11 @@
 -- `repeat::sum` meets its contract. The loop's invariant: the sum is i times what one run adds, and at most 268433410 for each. Assumes nothing.
-use mathlib.Core.Path.{◌≡◌, sym, ap, ◌∙◌}
-use Prim.Native.Nat.{ℕ, ◌+◌, ◌*◌, ◌≤◌, ◌-◌}
+use mathlib.Core.Path.{◌≡◌, ap, ◌∙◌}
+use Prim.Native.Nat.{ℕ, ◌*◌}
 use native.Mathlib.Omega.{arith}
 use Rattle.table.specs.Table.{decode}
 use Rattle.interpreter.specs.Running.{answer_of}
 use Rattle.repeat.specs.Repeat.{weight_of}
 use Rattle.repeat.proofs.Small.{one_more}
-use borrow.Author.Rules.{rules}
 use Rattle.repeat.proofs.sum.Goals as goal
 
 pub overflow_add-total : goal.overflow_add-total

@@ -1,7 +1,6 @@
 -- `repeat::weight` meets its contract: a checked run has at most 512 steps. Assumes nothing.
 use native.Mathlib.Omega.{arith}
 use Rattle.repeat.proofs.Small.{few, is_weight}
-use borrow.Author.Rules.{rules}
 use Rattle.repeat.proofs.weight.Goals as goal
 
 pub overflow_mul-result : goal.overflow_mul-result

@@ -6,7 +6,6 @@ use Rattle.store.specs.declared.Added.{Added}
 use Rattle.store.specs.Layout.{records_of, places_in, written}
 use Rattle.store.specs.Calls.{lowest_free, rec, add_refusal}
 use Rattle.store.proofs.Answers.{appendable, number_is, same_bytes, new_bytes}
-use borrow.Author.Rules.{rules}
 use Rattle.store.proofs.add.Lts as lts
 use Rattle.store.proofs.add.Tie as tie
 use Rattle.store.proofs.add.Reads as reads

@@ -2,7 +2,6 @@
 use mathlib.Core.Path.{sym, subst}
 use native.Mathlib.Omega.{arith}
 use Rattle.store.proofs.Answers.{Fetches, fetches}
-use borrow.Author.Rules.{rules}
 use Rattle.store.proofs.fetch.Lts as lts
 use Rattle.store.proofs.fetch.Tie as tie
 use Rattle.store.proofs.fetch.Reads as reads

@@ -1,7 +1,6 @@
 -- `find` meets its contract: 26, or what the starts of the records tell. Assumes nothing.
 use mathlib.Core.Path.{sym, ◌∙◌}
 use Rattle.store.proofs.Answers.{broken_held, part_refused}
-use borrow.Author.Rules.{rules}
 use Rattle.store.proofs.find.Goals as goal
 
 pub part_of-requires : goal.part_of-requires

@@ -9,7 +9,6 @@ use Rattle.store.specs.Layout.{right_of, places_in}
 use Rattle.store.specs.Calls.{first_zero, lowest_free, answered, added_by}
 use Rattle.store.proofs.Parses.{right}
 use Rattle.store.proofs.Answers.{starts_64, lowest_few, first_lowest, broken, bad_table, all_held, no_room, accepted}
-use borrow.Author.Rules.{rules}
 use Rattle.store.proofs.judge.Lts as lts
 use Rattle.store.proofs.judge.Tie as tie
 use Rattle.store.proofs.judge.Reads as reads

@@ -7,7 +7,6 @@ use borrow.Author.Tests.{lt-leb, le-leb}
 use Rattle.word.specs.Word.{word_bytes}
 use Rattle.store.proofs.Stores.{made}
 use Rattle.store.proofs.Answers.{made_refused, made_empty}
-use borrow.Author.Rules.{rules}
 use Rattle.store.proofs.make.Goals as goal
 
 pub returns-then-n-lt8 : goal.returns-then-n-lt8

@@ -8,7 +8,6 @@ use Rattle.store.specs.declared.Part.{Part}
 use Rattle.store.specs.Calls.{starts_of}
 use Rattle.store.proofs.Stores.{Lying, numbers}
 use Rattle.store.proofs.Answers.{starts_64, not_held, lies, part_refused, part_held}
-use borrow.Author.Rules.{rules}
 use Rattle.store.proofs.part_of.Lts as lts
 use Rattle.store.proofs.part_of.Tie as tie
 use Rattle.store.proofs.part_of.Reads as reads

@@ -1,13 +1,10 @@
 -- `remove` meets its contract: 26, 29, or the store without the record. Assumes nothing.
 use mathlib.Core.Path.{◌≡◌, sym, ap, ◌∙◌}
-use mathlib.Core.Bool.{true}
 use mathlib.Core.List.{List}
 use Prim.Native.Nat.{ℕ}
 use lib.ListN.{length, get_or}
-use Rattle.store.specs.Layout.{right_of}
 use Rattle.store.specs.Calls.{starts_of}
 use Rattle.store.proofs.Answers.{starts_64, broken_held, not_held, found, is_held, cut-bytes, remove_refused}
-use borrow.Author.Rules.{rules}
 use Rattle.store.proofs.remove.Goals as goal
 
 pub returns-then-not-index : goal.returns-then-not-index

@@ -8,10 +8,6 @@ use lib.Seq.{take_all}
 use Rattle.table.proofs.Laid.{laid}
 use Rattle.table.proofs.Answer.{bad_layout}
 use Rattle.table.proofs.Passing.{nothing}
-use borrow.Author.Rules.{rules}
-use Rattle.table.proofs.count.Reads as count-reads
-use Rattle.table.proofs.kinds_right.Reads as kinds-right-reads
-use Rattle.table.proofs.layout_right.Reads as layout-right-reads
 use Rattle.table.proofs.check.Goals as goal
 
 -- the whole of a table, as a part of it

@@ -1,6 +1,4 @@
-use borrow.Author.Rules.{rules}
 use borrow.Author.Tests.{eq-eqb, ne_eqb}
-use Rattle.word.proofs.read_u16.Reads as read-u16-reads
 use Rattle.table.proofs.edition.Goals as goal
 
 pub returns-then-read_u16-eq-SECOND_KIND : goal.returns-then-read_u16-eq-SECOND_KIND

@@ -1,11 +1,4 @@
 -- `table::entry_right` meets its contract, group by group. Assumes nothing.
-use borrow.Author.Rules.{rules}
-use Rattle.table.proofs.int32_right.Reads as int32-right-reads
-use Rattle.table.proofs.many_right.Reads as many-right-reads
-use Rattle.table.proofs.name_right.Reads as name-right-reads
-use Rattle.table.proofs.part_right.Reads as part-right-reads
-use Rattle.table.proofs.passes_some.Reads as passes-some-reads
-use Rattle.table.proofs.unused.Reads as unused-reads
 use Rattle.table.proofs.entry_right.Goals as goal
 
 pub returns-in-Int32 : goal.returns-in-Int32

@@ -1,11 +1,6 @@
 -- `table::flow` meets its contract, group by group. Assumes nothing.
 use mathlib.Core.Path.{refl}
 use Rattle.opcode.specs.Opcode.{logic, value}
-use borrow.Author.Rules.{rules}
-use Rattle.table.proofs.many_flow.Reads as many-flow-reads
-use Rattle.table.proofs.one_flow.Reads as one-flow-reads
-use Rattle.table.proofs.push_one.Reads as push-one-reads
-use Rattle.table.proofs.two_flow.Reads as two-flow-reads
 use Rattle.table.proofs.flow.Goals as goal
 
 pub returns-in-Int32 : goal.returns-in-Int32

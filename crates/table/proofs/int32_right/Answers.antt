@@ -1,5 +1,3 @@
-use borrow.Author.Rules.{rules}
-use Rattle.table.proofs.in_range.Reads as in-range-reads
 use Rattle.table.proofs.int32_right.Goals as goal
 
 pub returns : goal.returns

@@ -5,9 +5,6 @@ use Prim.Native.Nat.{ℕ}
 use Rattle.pattern.specs.Wildcard.{well_formed}
 use Rattle.regexp.specs.Regex.{well_formed as regexFormed}
 use Rattle.table.proofs.Patterns.{no_test, the_test}
-use borrow.Author.Rules.{rules}
-use Rattle.pattern.proofs.wildcard.well_formed.Reads as well-formed-reads
-use Rattle.regexp.proofs.well_formed.Reads as well-formed-reads-2
 use Rattle.table.proofs.is_pattern.Goals as goal
 
 pub returns-in-60 : goal.returns-in-60

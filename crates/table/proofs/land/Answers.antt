@@ -1,8 +1,6 @@
 use mathlib.Core.Path.{refl, sym, ◌∙◌}
 use borrow.Author.Tests.{lt-leb, le-leb}
-use borrow.Author.Rules.{rules}
 use Rattle.common.proofs.Choice.{false_true}
-use Rattle.table.proofs.meets.Reads as meets-reads
 use Rattle.table.proofs.land.Goals as goal
 
 pub returns-then-n-to : goal.returns-then-n-to

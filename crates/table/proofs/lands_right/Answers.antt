@@ -3,8 +3,6 @@ use mathlib.Core.Path.{◌≡◌, refl}
 use mathlib.Core.Bool.{false}
 use Rattle.table.specs.declared.groups.Group.{Group}
 use Rattle.table.specs.Groups.{skip_by}
-use borrow.Author.Rules.{rules}
-use Rattle.table.proofs.land.Reads as land-reads
 use Rattle.table.proofs.lands_right.Goals as goal
 
 -- a group of the other arm is no skip

@@ -1,9 +1,5 @@
 use borrow.Author.Tests.{lt-leb, le-leb}
 use Rattle.table.specs.Table.{layout_of}
-use borrow.Author.Rules.{rules}
-use Rattle.table.proofs.count.Reads as count-reads
-use Rattle.word.proofs.read_u16.Reads as read-u16-reads
-use Rattle.word.proofs.read_u32.Reads as read-u32-reads
 use Rattle.table.proofs.layout_right.Goals as goal
 
 pub returns-then-len-lt10 : goal.returns-then-len-lt10

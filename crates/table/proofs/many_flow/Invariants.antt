@@ -1,16 +1,12 @@
-use mathlib.Core.Path.{◌≡◌, refl, ◌∙◌}
+use mathlib.Core.Path.{◌≡◌}
 use mathlib.Core.List.{List}
 use mathlib.Core.Option.{Option}
 use Prim.Native.Nat.{suc}
-use native.Mathlib.Omega.{arith}
 use lib.ListN.{replicate}
-use Rattle.opcode.specs.Opcode.{Kind, logic, value}
-use Rattle.table.specs.Check.{pop_one, pop}
+use Rattle.opcode.specs.Opcode.{Kind, value}
+use Rattle.table.specs.Check.{pop}
 use Rattle.table.specs.Number.{number_of}
-use Rattle.table.proofs.Numbers.{Popping, pop_more}
-use borrow.Author.Rules.{rules}
-use Rattle.table.proofs.pop_one.Reads as pop-one-reads
-use Rattle.table.proofs.push_one.Reads as push-one-reads
+use Rattle.table.proofs.Numbers.{Popping}
 use Rattle.table.proofs.many_flow.Given as goal
 
 abbrev pub invariant-loop-left : goal.invariant-loop-left

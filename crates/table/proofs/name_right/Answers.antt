@@ -6,8 +6,6 @@ use borrow.Author.Tests.{leb-true}
 use lib.ListN.{length}
 use Rattle.table.specs.Check.{part_right}
 use borrow.Author.Rules.{rules}
-use Rattle.notice.proofs.name_right.Reads as name-right-reads
-use Rattle.table.proofs.part_right.Reads as part-right-reads
 use Rattle.table.proofs.name_right.Goals as goal
 
 pub returns-then-not-part_right : goal.returns-then-not-part_right

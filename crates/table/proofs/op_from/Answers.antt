@@ -1,5 +1,4 @@
 use mathlib.Core.Path.{ap, ◌∙◌}
-use borrow.Author.Rules.{rules}
 use Rattle.word.specs.Word.{word_at}
 use Rattle.table.proofs.op_from.Goals as goal
 

@@ -4,7 +4,6 @@ use native.Mathlib.Omega.{arith}
 use borrow.Author.Tests.{leb-true, eq-eqb, ne_eqb}
 use lib.ListN.{length}
 use borrow.Author.Rules.{rules}
-use Rattle.table.proofs.is_pattern.Reads as is-pattern-reads
 use Rattle.table.proofs.operand_right.Goals as goal
 
 pub returns-then-e-ne4 : goal.returns-then-e-ne4

@@ -1,17 +1,8 @@
-use mathlib.Core.Path.{◌≡◌, refl, sym, ◌∙◌}
-use mathlib.Core.Bool.{Bool}
-use mathlib.Core.List.{List}
-use mathlib.Core.Option.{some}
-use Prim.Native.Nat.{ℕ, ◌-◌, ◌≤◌}
+use mathlib.Core.Path.{refl, sym, ◌∙◌}
+use Prim.Native.Nat.{◌-◌}
 use native.Mathlib.Omega.{arith}
-use Rattle.opcode.specs.Opcode.{op_of}
-use Rattle.table.specs.Table.{entries_of}
-use Rattle.table.specs.Check.{pattern_test, operands_right}
 use Rattle.table.proofs.Reading.{entry_of}
 use Rattle.table.proofs.Patterns.{string_lies, operands_turn, operands_none, operands_all}
-use borrow.Author.Rules.{rules}
-use Rattle.table.proofs.entry_at.Reads as entry-at-reads
-use Rattle.table.proofs.operand_right.Reads as operand-right-reads
 use Rattle.table.proofs.operands_right.Goals as goal
 
 pub loop-left-init : goal.loop-left-init

@@ -4,7 +4,6 @@ use native.Mathlib.Omega.{arith}
 use lib.ListN.{length}
 use borrow.Author.Tests.{lt-leb}
 use Rattle.table.proofs.Tests.{room_left}
-use borrow.Author.Rules.{rules}
 use Rattle.table.proofs.part_right.Goals as goal
 
 pub returns-then-pool-start : goal.returns-then-pool-start

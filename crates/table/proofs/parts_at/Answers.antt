@@ -4,10 +4,6 @@ use Rattle.table.proofs.Laid.{laid}
 use Rattle.table.proofs.Theorems.{checked_layout, checked_entry}
 use Rattle.table.proofs.Parts.{parts_small, parts_pooled, parts_plain}
 use borrow.Author.Rules.{rules}
-use Rattle.table.proofs.a_at.Reads as a-at-reads
-use Rattle.table.proofs.b_at.Reads as b-at-reads
-use Rattle.table.proofs.count.Reads as count-reads
-use Rattle.table.proofs.op_at.Reads as op-at-reads
 use Rattle.table.proofs.parts_at.Lts as lts
 use Rattle.table.proofs.parts_at.Tie as tie
 use Rattle.table.proofs.parts_at.Reads as reads

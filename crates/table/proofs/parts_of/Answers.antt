@@ -1,15 +1,8 @@
-use mathlib.Core.Path.{◌≡◌, sym, ◌∙◌}
-use mathlib.Core.Bool.{true}
+use mathlib.Core.Path.{sym, ◌∙◌}
 use native.Mathlib.Omega.{arith}
-use Rattle.table.specs.Check.{check_of}
 use Rattle.table.proofs.Laid.{laid}
 use Rattle.table.proofs.Theorems.{checked_layout}
 use Rattle.table.proofs.Parts.{parts_unchecked, parts_past, parts_there}
-use borrow.Author.Rules.{rules}
-use Rattle.table.proofs.check.Reads as check-reads
-use Rattle.table.proofs.count.Reads as count-reads
-use Rattle.table.proofs.no_parts.Reads as no-parts-reads
-use Rattle.table.proofs.parts_at.Reads as parts-at-reads
 use Rattle.table.proofs.parts_of.Goals as goal
 
 pub returns-then-not-check : goal.returns-then-not-check

@@ -3,10 +3,6 @@ use mathlib.Core.Path.{◌≡◌, sym, ◌∙◌}
 use mathlib.Core.Bool.{and-true}
 use Rattle.table.specs.declared.groups.Group.{Group}
 use Rattle.table.proofs.Patterns.{none_beside, some_beside}
-use borrow.Author.Rules.{rules}
-use Rattle.table.proofs.entry_right.Reads as entry-right-reads
-use Rattle.table.proofs.many_right.Reads as many-right-reads
-use Rattle.table.proofs.operands_right.Reads as operands-right-reads
 use Rattle.table.proofs.placed_right.Goals as goal
 
 pub returns-then-e : goal.returns-then-e

@@ -1,6 +1,5 @@
 use native.Mathlib.Omega.{arith}
 use Rattle.table.proofs.Numbers.{pop_two_low, pop_two_other, pop_two_right}
-use borrow.Author.Rules.{rules}
 use Rattle.table.proofs.pop_two.Goals as goal
 
 pub returns-then-c-lt4 : goal.returns-then-c-lt4

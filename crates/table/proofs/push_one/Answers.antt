@@ -1,7 +1,6 @@
 use mathlib.Core.Path.{◌∙◌}
 use native.Mathlib.Omega.{arith}
 use Rattle.table.proofs.Numbers.{push_none, push_full, push_right}
-use borrow.Author.Rules.{rules}
 use Rattle.table.proofs.push_one.Goals as goal
 
 pub returns-then-c-eq0 : goal.returns-then-c-eq0

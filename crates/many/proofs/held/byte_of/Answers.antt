@@ -10,7 +10,6 @@ use Rattle.store.specs.declared.Part.{Part}
 use Rattle.store.proofs.Answers.{Fetches, fetches}
 use Rattle.many.specs.Many.{verdict_byte}
 use Rattle.many.proofs.Holding.{byte_free, byte_held}
-use borrow.Author.Rules.{rules}
 use Rattle.many.proofs.held.byte_of.Goals as goal
 
 -- where the number's table lies

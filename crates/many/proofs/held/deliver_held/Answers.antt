@@ -1,8 +1,6 @@
 -- `deliver_held` meets its contract: the bytes written and those of the places that are left make the same of the buffer. Assumes nothing.
-use Prim.Native.Nat.{◌-◌}
 use native.Mathlib.Omega.{arith}
-use Rattle.many.proofs.Holding.{Filling, filling_first, filling_on, filled}
-use borrow.Author.Rules.{rules}
+use Rattle.many.proofs.Holding.{filling_first, filling_on, filled}
 use Rattle.many.proofs.held.deliver_held.Goals as goal
 
 pub loop-i-init : goal.loop-i-init

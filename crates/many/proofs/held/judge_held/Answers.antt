@@ -6,7 +6,6 @@ use Rattle.notice.specs.Layout.{check_of as noticeCheck, Indexed}
 use Rattle.notice.specs.declared.Layout.TheVariants.{WellFormed}
 use Rattle.notice.proofs.Stood.{stood_indexed}
 use Rattle.many.proofs.Holding.{match_faulty, match-short, match-written}
-use borrow.Author.Rules.{rules}
 use Rattle.many.proofs.held.judge_held.Goals as goal
 
 pub returns-then-verdicts-lt64 : goal.returns-then-verdicts-lt64

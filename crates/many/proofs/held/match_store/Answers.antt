@@ -1,7 +1,6 @@
 -- `match_store` meets its contract: 26, or what the notice is to the store. Assumes nothing.
 use mathlib.Core.Path.{sym, ◌∙◌}
 use Rattle.many.proofs.Holding.{match_broken}
-use borrow.Author.Rules.{rules}
 use Rattle.many.proofs.held.match_store.Goals as goal
 
 pub judge_held-requires : goal.judge_held-requires

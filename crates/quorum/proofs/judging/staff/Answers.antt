@@ -1,7 +1,6 @@
 -- `judging::staff` meets its contract: what the lookup finds is the field Staff. Assumes nothing.
 use mathlib.Core.Path.{sym, ◌∙◌}
 use native.Mathlib.Omega.{arith}
-use borrow.Author.Rules.{rules}
 use Rattle.quorum.proofs.Staff.{staff_none, staff_lies, staff_found, staff_wrong}
 use Rattle.quorum.proofs.judging.staff.Goals as goal
 

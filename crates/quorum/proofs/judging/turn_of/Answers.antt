@@ -2,7 +2,6 @@
 use mathlib.Core.Path.{sym, ap, ◌∙◌}
 use mathlib.Core.List.{List}
 use Prim.Native.Nat.{ℕ}
-use borrow.Author.Rules.{rules}
 use Rattle.interpreter.specs.declared.Ran.{Ran}
 use Rattle.interpreter.proofs.Answers.{ran_well}
 use Rattle.quorum.specs.Decision.{table_of, values_of, kept}

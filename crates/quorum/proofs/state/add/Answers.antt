@@ -3,7 +3,6 @@ use mathlib.Core.Path.{◌≡◌, ◌∙◌}
 use Prim.Native.Nat.{suc, ◌+◌, ◌*◌}
 use native.Mathlib.Omega.{arith}
 use lib.ListN.{length, set, get_or, length-set}
-use borrow.Author.Rules.{rules}
 use Rattle.quorum.proofs.state.add.Goals as goal
 
 pub bounds-buffer-at : goal.bounds-buffer-at

@@ -2,11 +2,10 @@
 use mathlib.Core.Path.{◌≡◌, ap, ◌∙◌}
 use mathlib.Core.Bool.{Bool}
 use mathlib.Core.List.{List}
-use Prim.Native.Nat.{ℕ, ◌+◌, ◌-◌, ◌≤◌}
+use Prim.Native.Nat.{ℕ, ◌+◌, ◌-◌}
 use native.Mathlib.Omega.{arith}
-use borrow.Author.Rules.{rules}
 use Rattle.quorum.proofs.Reading.{size_at_lem, twice, once, differ_end}
-use Rattle.quorum.specs.Decision.{has, different, value_at, values_from}
+use Rattle.quorum.specs.Decision.{has, value_at, values_from}
 use Rattle.quorum.proofs.state.differ.Goals as goal
 
 pub loop-i-init : goal.loop-i-init

@@ -1,11 +1,7 @@
 -- `state::differ` meets its contract: the values from i on are all different exactly if all are. Assumes nothing.
-use mathlib.Core.Path.{◌≡◌, ap, ◌∙◌}
-use mathlib.Core.List.{List}
-use Prim.Native.Nat.{ℕ, ◌+◌, ◌-◌, ◌≤◌}
-use native.Mathlib.Omega.{arith}
-use borrow.Author.Rules.{rules}
-use Rattle.quorum.proofs.Reading.{size_at_lem, twice, once, differ_end}
-use Rattle.quorum.specs.Decision.{has, different, value_at, values_from}
+use mathlib.Core.Path.{◌≡◌}
+use Prim.Native.Nat.{◌-◌, ◌≤◌}
+use Rattle.quorum.specs.Decision.{different, values_from}
 use Rattle.quorum.proofs.state.differ.Given as goal
 
 abbrev pub invariant-loop-i : goal.invariant-loop-i

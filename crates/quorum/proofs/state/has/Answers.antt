@@ -1,11 +1,9 @@
 -- `state::has` meets its contract: v is among the values from i on exactly if among all. Assumes nothing.
-use mathlib.Core.Path.{◌≡◌, refl, ◌∙◌, ap₂}
-use Prim.Native.Nat.{◌≤◌, ◌-◌}
+use mathlib.Core.Path.{refl, ◌∙◌, ap₂}
 use native.Mathlib.Omega.{arith}
 use borrow.Author.Rules.{rules}
 use Rattle.octets.specs.Octets.{same_of}
 use Rattle.octets.proofs.Theorems.{not_folded}
-use Rattle.quorum.specs.Decision.{has, value_at, values_from}
 use Rattle.quorum.proofs.Reading.{size_at_lem, has-found, has-passed, has_end}
 use Rattle.quorum.proofs.state.has.Goals as goal
 

@@ -1,6 +1,5 @@
 -- `state::head_right` meets its contract. Assumes nothing.
 use borrow.Author.Tests.{le-leb, lt-leb}
-use borrow.Author.Rules.{rules}
 use Rattle.quorum.specs.Decision.{head_right}
 use Rattle.quorum.proofs.state.head_right.Goals as goal
 

@@ -3,7 +3,6 @@ use mathlib.Core.Path.{sym, ap, ◌∙◌}
 use Prim.Native.Nat.{ℕ, ◌-◌}
 use native.Mathlib.Omega.{arith}
 use lib.ListN.{take, drop}
-use borrow.Author.Rules.{rules}
 use Rattle.quorum.proofs.Reading.{head_is, no_head, no_sizes, not_apart, by_table}
 use Rattle.table.specs.Check.{check_of as tableCheck}
 use Rattle.quorum.proofs.state.holds.Goals as goal

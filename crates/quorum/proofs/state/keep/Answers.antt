@@ -5,7 +5,6 @@ use Prim.Native.Nat.{ℕ}
 use native.Mathlib.Omega.{arith}
 use lib.Seq.{sets}
 use lib.ListN.{length, set, length-set}
-use borrow.Author.Rules.{rules}
 use Rattle.quorum.proofs.Writing.{head_stored}
 use Rattle.word.specs.Word.{word_bytes}
 use Rattle.quorum.proofs.state.keep.Goals as goal

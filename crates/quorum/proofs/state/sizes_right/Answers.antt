@@ -1,9 +1,7 @@
 -- `state::sizes_right` meets its contract: the sizes from i on are right exactly if all are. Assumes nothing.
 use mathlib.Core.Path.{◌≡◌, ◌∙◌, sym}
-use Prim.Native.Nat.{◌≤◌, ◌-◌}
+use Prim.Native.Nat.{◌-◌}
 use native.Mathlib.Omega.{arith}
-use borrow.Author.Rules.{rules}
-use Rattle.quorum.specs.Decision.{sizes_right}
 use Rattle.quorum.proofs.Reading.{size_none, size_long, size_more_lem, sizes_end}
 use Rattle.quorum.proofs.state.sizes_right.Goals as goal
 

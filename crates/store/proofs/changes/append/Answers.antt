@@ -1,14 +1,12 @@
 -- `append` meets its contract: the new record, and the header's two words anew. Assumes nothing.
-use mathlib.Core.Path.{◌≡◌, ap, ap₂, ◌∙◌}
+use mathlib.Core.Path.{ap, ap₂, ◌∙◌}
 use mathlib.Core.List.{List}
 use Prim.Native.Nat.{ℕ, ◌+◌}
 use native.Mathlib.Omega.{arith}
 use lib.ListN.{length}
 use lib.Seq.{sets}
 use Rattle.word.specs.Word.{word_bytes}
-use Rattle.store.specs.Layout.{end_of}
-use Rattle.store.proofs.Stores.{Numbers, numbers, appended}
-use borrow.Author.Rules.{rules}
+use Rattle.store.proofs.Stores.{numbers, appended}
 use Rattle.store.proofs.changes.append.Goals as goal
 
 pub read_u32-requires : goal.read_u32-requires

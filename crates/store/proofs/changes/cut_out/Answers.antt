@@ -1,14 +1,13 @@
 -- `cut_out` meets its contract: the later records move down, and the header's two words anew. Assumes nothing.
-use mathlib.Core.Path.{◌≡◌, ap, ap₂, ◌∙◌}
+use mathlib.Core.Path.{ap, ap₂, ◌∙◌}
 use mathlib.Core.List.{List}
 use Prim.Native.Nat.{ℕ, ◌+◌, ◌-◌}
 use native.Mathlib.Omega.{arith}
 use lib.ListN.{take, drop}
 use lib.Seq.{sets}
 use Rattle.word.specs.Word.{word_bytes}
-use Rattle.store.specs.Layout.{end_of, count_of, size_at}
-use Rattle.store.proofs.Stores.{Numbers, numbers, Lying, lying, cut}
-use borrow.Author.Rules.{rules}
+use Rattle.store.specs.Layout.{end_of, count_of}
+use Rattle.store.proofs.Stores.{numbers, Lying, lying, cut}
 use Rattle.store.proofs.changes.cut_out.Goals as goal
 
 pub read_u32-requires : goal.read_u32-requires

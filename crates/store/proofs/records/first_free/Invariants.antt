@@ -1,11 +1,8 @@
 -- `first_free` meets its contract: no number before the one that is looked at is free. Assumes nothing.
-use mathlib.Core.Path.{◌≡◌, ap, ◌∙◌}
+use mathlib.Core.Path.{◌≡◌}
 use Prim.Native.Nat.{◌+◌, ◌-◌, ◌≤◌}
-use native.Mathlib.Omega.{arith}
-use lib.ListN.{drop, drop_of_length-le}
+use lib.ListN.{drop}
 use Rattle.store.specs.Calls.{first_zero}
-use Rattle.store.proofs.Stores.{first_here, first_later, first_none}
-use borrow.Author.Rules.{rules}
 use Rattle.store.proofs.records.first_free.Given as goal
 
 abbrev pub invariant-loop-i : goal.invariant-loop-i

@@ -1,5 +1,4 @@
 -- `header_right` meets its contract: the size, then the length and the kind. Assumes nothing.
-use borrow.Author.Rules.{rules}
 use borrow.Author.Tests.{lt-leb, le-leb}
 use Rattle.store.specs.Layout.{header_right}
 use Rattle.store.proofs.records.header_right.Goals as goal

@@ -1,13 +1,10 @@
 -- `index` meets its contract: what is left of the walk decides as the whole. Assumes nothing.
-use mathlib.Core.Path.{◌≡◌, sym, ap, ◌∙◌}
-use mathlib.Core.Bool.{true}
+use mathlib.Core.Path.{sym, ap, ◌∙◌}
 use Prim.Native.Nat.{ℕ, ◌+◌, ◌-◌}
 use native.Mathlib.Omega.{arith}
 use Rattle.common.proofs.Choice.{false_true}
-use Rattle.store.specs.Layout.{header_right}
 use Rattle.store.proofs.Parses.{Stands, stands_parts, header_parts, no_header}
-use Rattle.store.proofs.Stores.{Walk, walk_starts, walk_stops, walk_goes, walk_ends}
-use borrow.Author.Rules.{rules}
+use Rattle.store.proofs.Stores.{walk_starts, walk_stops, walk_goes, walk_ends}
 use Rattle.store.proofs.records.index.Goals as goal
 
 pub returns-then-not-header_right : goal.returns-then-not-header_right

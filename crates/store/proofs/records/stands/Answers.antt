@@ -5,7 +5,6 @@ use native.Mathlib.Omega.{arith}
 use lib.ListN.{get_or}
 use lib.Dec.{eqb}
 use Rattle.store.proofs.Parses.{stands_not, stands_last}
-use borrow.Author.Rules.{rules}
 use Rattle.store.proofs.records.stands.Goals as goal
 
 pub returns-then-end-at : goal.returns-then-end-at
