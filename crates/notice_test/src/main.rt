@@ -4,85 +4,100 @@
 // number, place, index and the names looked at, after `other` if halving finds something else than lookup.
 #![tactic(auto)]
 
-ghost use Rattle.std.specs.Prelude.{◌≡◌};
+ghost use Rattle.std.specs.Prelude.{◌≡◌, IfOk};
 ghost use Rattle.notice.specs.Layout.{check_of, Indexed};
 ghost use Rattle.notice.specs.Read.{read_number};
 ghost use Rattle.notice.specs.declared.Layout.TheVariants.{WellFormed};
 
-use libc::STDOUT_FILENO;
 use notice::{Found, Layout};
+use std::io;
+use std::io::{BufReader, BufWriter, Write};
 
-fn put(s: &[u8]) {
-    io::write_all(STDOUT_FILENO, s);
+fn put(to: &mut impl io::Write, s: &[u8]) -> io::Result<()> {
+    to.write_all(s)
 }
 
-fn put_number(n: u64) {
-    io::print_decimal(STDOUT_FILENO, n);
-    put(b" ");
+fn put_number(to: &mut impl io::Write, n: u64) -> io::Result<()> {
+    cases::print_decimal(to, n)?;
+    put(to, b" ")
 }
 
-fn put_hex(s: &[u8]) {
-    cases::print_hex(s);
-    put(b" ");
+fn put_hex(to: &mut impl io::Write, s: &[u8]) -> io::Result<()> {
+    cases::print_hex(to, s)?;
+    put(to, b" ")
 }
 
-fn put_parts<'a>(number: u8, place: usize, kind: u16, name: &'a [u8], value: &'a [u8]) -> usize
-    ensures { result ≡ number }
+fn put_parts<'a>(
+    to: &mut impl io::Write,
+    number: u8,
+    place: usize,
+    kind: u16,
+    name: &'a [u8],
+    value: &'a [u8],
+) -> io::Result<usize>
+    ensures { IfOk result (λ n. n ≡ number) }
 {
-    put_number(number as u64);
-    put_number(place as u64);
-    put_number(kind as u64);
-    put_hex(name);
-    put_hex(value);
-    number as usize
+    put_number(to, number as u64)?;
+    put_number(to, place as u64)?;
+    put_number(to, kind as u64)?;
+    put_hex(to, name)?;
+    put_hex(to, value)?;
+    Ok(number as usize)
 }
 
 // Field k as `read` hands it back. Answers the number.
-fn put_field(s: &[u8], k: usize) -> usize
-    ensures { result ≡ read_number s.now k }
+fn put_field(to: &mut impl io::Write, s: &[u8], k: usize) -> io::Result<usize>
+    ensures { IfOk result (λ n. n ≡ read_number s.now k) }
 {
     let f = notice::read(s, k);
-    put_parts(f.number, f.place, f.kind, f.name, f.value)
+    put_parts(to, f.number, f.place, f.kind, f.name, f.value)
 }
 
-fn put_found(s: &[u8], name: &[u8])
+fn put_found(to: &mut impl io::Write, s: &[u8], name: &[u8]) -> io::Result<()>
     requires { check_of s.now ≡ WellFormed }
 {
     let found = notice::lookup(s, name);
     match found {
         Found::At { kind, start, len } => {
-            put_number(kind as u64);
+            put_number(to, kind as u64)?;
             let a = start as usize;
             let e = a + len as usize;
-            put_hex(notice::part(s, a, e));
+            put_hex(to, notice::part(s, a, e))
         }
-        Found::Nothing => put(b"- - "),
+        Found::Nothing => put(to, b"- - "),
     }
 }
 
 // Lookup asks for a notice found well-formed, as every one is of which a field was read.
-fn put_checked(s: &[u8], name: &[u8]) {
+fn put_checked(to: &mut impl io::Write, s: &[u8], name: &[u8]) -> io::Result<()> {
     let layout = notice::check(s);
     match layout {
-        Layout::WellFormed => put_found(s, name),
-        Layout::Fault(_) => {}
+        Layout::WellFormed => put_found(to, s, name),
+        Layout::Fault(_) => Ok(()),
     }
 }
 
-fn read_case(s: &[u8], k: usize) {
-    if put_field(s, k) == 0 {
-        put_checked(s, notice::name_of(s, k));
+fn read_case(to: &mut impl io::Write, s: &[u8], k: usize) -> io::Result<()> {
+    if put_field(to, s, k)? == 0 {
+        put_checked(to, s, notice::name_of(s, k))?;
     }
-    put(b"\n");
+    put(to, b"\n")
 }
 
-fn write_case(buffer: &mut [u8], len: usize, name: &[u8], kind: u16, value: &[u8]) {
+fn write_case(
+    to: &mut impl io::Write,
+    buffer: &mut [u8],
+    len: usize,
+    name: &[u8],
+    kind: u16,
+    value: &[u8],
+) -> io::Result<()> {
     let w = notice::write(buffer, len, name, kind, value);
-    put_number(w.number as u64);
-    put_number(w.place as u64);
-    put_number(w.len as u64);
-    put_hex(&buffer[..]);
-    put(b"\n");
+    put_number(to, w.number as u64)?;
+    put_number(to, w.place as u64)?;
+    put_number(to, w.len as u64)?;
+    put_hex(to, &buffer[..])?;
+    put(to, b"\n")
 }
 
 // What was found, as one number.
@@ -96,117 +111,123 @@ fn packed(found: Found) -> u64 {
 }
 
 // Nothing is printed where halving and the walk by the starts find what lookup finds.
-fn put_halved(s: &[u8], starts: &[u16; 64], name: &[u8])
+fn put_halved(to: &mut impl io::Write, s: &[u8], starts: &[u16; 64], name: &[u8]) -> io::Result<()>
     requires { (check_of s.now ≡ WellFormed) × Indexed s.now starts.now }
 {
     let found = packed(notice::lookup(s, name));
     if packed(notice::lookup_in(s, starts, name)) != found {
-        put(b"other ");
+        put(to, b"other ")?;
     }
     if packed(notice::lookup_along(s, starts, name)) != found {
-        put(b"other ");
+        put(to, b"other ")?;
     }
+    Ok(())
 }
 
-fn put_indexed(s: &[u8], name: &[u8]) {
+fn put_indexed(to: &mut impl io::Write, s: &[u8], name: &[u8]) -> io::Result<()> {
     let mut starts: [u16; 64] = [0; 64];
     let layout = notice::index(s, &mut starts);
     match layout {
-        Layout::WellFormed => put_halved(s, &starts, name),
-        Layout::Fault(_) => {}
+        Layout::WellFormed => put_halved(to, s, &starts, name),
+        Layout::Fault(_) => Ok(()),
     }
 }
 
-fn find_case(s: &[u8], name: &[u8]) {
-    put_indexed(s, name);
+fn find_case(to: &mut impl io::Write, s: &[u8], name: &[u8]) -> io::Result<()> {
+    put_indexed(to, s, name)?;
     let w = notice::find(s, name);
-    put_number(w.number as u64);
-    put_number(w.place as u64);
-    put_number(w.index as u64);
-    put_number(w.looked as u64);
-    put(b"\n");
+    put_number(to, w.number as u64)?;
+    put_number(to, w.place as u64)?;
+    put_number(to, w.index as u64)?;
+    put_number(to, w.looked as u64)?;
+    put(to, b"\n")
 }
 
-fn next_read() -> bool {
+fn next_read(from: &mut impl io::Read, to: &mut impl io::Write) -> io::Result<bool> {
     let mut s = [0u8; 20000];
-    let m = cases::next_part(&mut s);
+    let m = cases::next_part(from, &mut s)?;
     if !m.whole {
-        return false;
+        return Ok(false);
     }
     let mut k = [0u8; 8];
-    let n = cases::next_part(&mut k);
+    let n = cases::next_part(from, &mut k)?;
     if !n.whole {
-        return false;
+        return Ok(false);
     }
     let end = m.len;
-    read_case(&s[0..end], word::read_u64(&k, 0) as usize);
-    true
+    read_case(to, &s[0..end], word::read_u64(&k, 0) as usize)?;
+    Ok(true)
 }
 
-fn next_write() -> bool {
+fn next_write(from: &mut impl io::Read, to: &mut impl io::Write) -> io::Result<bool> {
     let mut buffer = [0u8; 20000];
-    let m = cases::next_part(&mut buffer);
+    let m = cases::next_part(from, &mut buffer)?;
     let mut len = [0u8; 8];
-    cases::next_part(&mut len);
+    cases::next_part(from, &mut len)?;
     let mut name = [0u8; 100];
-    let n = cases::next_part(&mut name);
+    let n = cases::next_part(from, &mut name)?;
     let mut kind = [0u8; 2];
-    cases::next_part(&mut kind);
+    cases::next_part(from, &mut kind)?;
     let mut value = [0u8; 2000];
-    let v = cases::next_part(&mut value);
+    let v = cases::next_part(from, &mut value)?;
     if !v.whole {
-        return false;
+        return Ok(false);
     }
     let end = m.len;
     let name_end = n.len;
     let value_end = v.len;
     write_case(
+        to,
         &mut buffer[0..end],
         word::read_u64(&len, 0) as usize,
         &name[0..name_end],
         word::read_u16(&kind, 0),
         &value[0..value_end],
-    );
-    true
+    )?;
+    Ok(true)
 }
 
-fn next_find() -> bool {
+fn next_find(from: &mut impl io::Read, to: &mut impl io::Write) -> io::Result<bool> {
     let mut s = [0u8; 20000];
-    let m = cases::next_part(&mut s);
+    let m = cases::next_part(from, &mut s)?;
     let mut name = [0u8; 1000];
-    let n = cases::next_part(&mut name);
+    let n = cases::next_part(from, &mut name)?;
     if !n.whole {
-        return false;
+        return Ok(false);
     }
     let end = m.len;
     let name_end = n.len;
-    find_case(&s[0..end], &name[0..name_end]);
-    true
+    find_case(to, &s[0..end], &name[0..name_end])?;
+    Ok(true)
 }
 
-fn next_case() -> bool {
+fn next_case(from: &mut impl io::Read, to: &mut impl io::Write) -> io::Result<bool> {
     let mut tag = [0u8; 1];
-    let t = cases::next_part(&mut tag);
+    let t = cases::next_part(from, &mut tag)?;
     if !t.whole {
-        return false;
+        return Ok(false);
     }
     if tag[0] == 1 {
-        return next_read();
+        return next_read(from, to);
     }
     if tag[0] == 3 {
-        return next_find();
+        return next_find(from, to);
     }
-    next_write()
+    next_write(from, to)
 }
 
 // Nothing says that the input ends, so the turns are counted down.
-fn all_cases() {
+fn all_cases(from: &mut impl io::Read, to: &mut impl io::Write) -> io::Result<()> {
     let mut turns: u64 = 1000000;
-    while turns > 0 && next_case() {
+    while turns > 0 && next_case(from, to)? {
         turns -= 1;
     }
+    Ok(())
 }
 
-fn main() {
-    all_cases();
+fn main(rt: HostRuntime) -> io::Result<()> {
+    let mut from = BufReader::new(rt.alloc(), rt.reader())?;
+    let mut to = BufWriter::new(rt.alloc(), io::writer(&rt))?;
+    all_cases(&mut from, &mut to)?;
+    to.flush()
 }

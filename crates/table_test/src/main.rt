@@ -5,81 +5,91 @@
 ghost use Rattle.std.specs.Prelude.{◌+◌, ◌*◌, ◌≤◌, length, ◌≡◌, true};
 ghost use Rattle.table.specs.Check.{check_of};
 
-use libc::STDOUT_FILENO;
+use std::io;
+use std::io::{BufReader, BufWriter, Write};
 
-fn put(s: &[u8]) {
-    io::write_all(STDOUT_FILENO, s);
+fn put(to: &mut impl io::Write, s: &[u8]) -> io::Result<()> {
+    to.write_all(s)
 }
 
-fn put_number(n: u64) {
-    io::print_decimal(STDOUT_FILENO, n);
-    put(b" ");
+fn put_number(to: &mut impl io::Write, n: u64) -> io::Result<()> {
+    cases::print_decimal(to, n)?;
+    put(to, b" ")
 }
 
-fn put_entry(table: &[u8], i: usize)
+fn put_entry(to: &mut impl io::Write, table: &[u8], i: usize) -> io::Result<()>
     requires { 22 + 12 * i ≤ length table.now }
 {
     let e = table::entry_at(table, i);
-    put_number(e.op as u64);
-    put_number(e.a as u64);
-    put_number(e.b);
+    put_number(to, e.op as u64)?;
+    put_number(to, e.a as u64)?;
+    put_number(to, e.b)
 }
 
-fn put_table(table: &[u8])
+fn put_table(to: &mut impl io::Write, table: &[u8]) -> io::Result<()>
     requires { check_of table.now ≡ true }
 {
     let n = table::count(table);
     let mut i = 0;
     while i < n {
-        put_entry(table, i);
+        put_entry(to, table, i)?;
         i += 1;
     }
-    cases::print_hex(table::pool(table));
+    cases::print_hex(to, table::pool(table))?;
+    Ok(())
 }
 
-fn answer(table: &[u8]) {
+fn answer(to: &mut impl io::Write, table: &[u8]) -> io::Result<()> {
     if table::check(table) {
-        put(b"0 ");
-        put_table(table);
+        put(to, b"0 ")?;
+        put_table(to, table)?;
     } else {
-        put(b"12");
+        put(to, b"12")?;
     }
-    put(b"\n");
+    put(to, b"\n")
 }
 
-fn put_parts(table: &[u8], k: usize) {
+fn put_parts(to: &mut impl io::Write, table: &[u8], k: usize) -> io::Result<()> {
     let p = table::parts_of(table, k);
-    put_number(p.number as u64);
-    put_number(p.op as u64);
-    put_number(p.a as u64);
-    put_number(p.b);
-    put_number(p.start as u64);
-    put_number(p.end as u64);
-    put(b"\n");
+    put_number(to, p.number as u64)?;
+    put_number(to, p.op as u64)?;
+    put_number(to, p.a as u64)?;
+    put_number(to, p.b)?;
+    put_number(to, p.start as u64)?;
+    put_number(to, p.end as u64)?;
+    put(to, b"\n")
 }
 
 // One table. Answers whether there was one.
-fn next_case() -> bool {
+fn next_case(from: &mut impl io::Read, to: &mut impl io::Write) -> io::Result<bool> {
     let mut buffer = [0u8; 16384];
-    let part = cases::next_part(&mut buffer);
+    let part = cases::next_part(from, &mut buffer)?;
     let mut k = [0u8; 8];
-    let asked = cases::next_part(&mut k);
+    let asked = cases::next_part(from, &mut k)?;
     if !asked.whole {
-        return false;
+        return Ok(false);
     }
     let end = part.len;
     if asked.len == 0 {
-        answer(&buffer[0..end]);
+        answer(to, &buffer[0..end])?;
     } else {
-        put_parts(&buffer[0..end], word::read_u64(&k, 0) as usize);
+        put_parts(to, &buffer[0..end], word::read_u64(&k, 0) as usize)?;
     }
-    true
+    Ok(true)
 }
 
 // Nothing says that the input ends, so the turns are counted down.
-fn main() {
+fn all_cases(from: &mut impl io::Read, to: &mut impl io::Write) -> io::Result<()> {
     let mut turns: u64 = 1000000;
-    while turns > 0 && next_case() {
+    while turns > 0 && next_case(from, to)? {
         turns -= 1;
     }
+    Ok(())
+}
+
+fn main(rt: HostRuntime) -> io::Result<()> {
+    let mut from = BufReader::new(rt.alloc(), rt.reader())?;
+    let mut to = BufWriter::new(rt.alloc(), io::writer(&rt))?;
+    all_cases(&mut from, &mut to)?;
+    to.flush()
 }

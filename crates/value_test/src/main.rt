@@ -3,81 +3,94 @@
 // The last is the op to run; 0 gives its one operand. An answer is a truth value, or a type and its bits or bytes in hex.
 #![tactic(auto)]
 
-use libc::STDOUT_FILENO;
 use notice::{Found, Layout};
 use opcode::groups::Group;
 use opcode::{Change, Edition, Many, groups};
+use std::io;
+use std::io::{BufReader, BufWriter, Write};
 use truth::Truth;
 use value::{Held, Piece, Slot, Typed};
 
-fn put(s: &[u8]) {
-    io::write_all(STDOUT_FILENO, s);
+fn put(to: &mut impl io::Write, s: &[u8]) -> io::Result<()> {
+    to.write_all(s)
 }
 
-fn put_bits(n: u64) {
-    io::print_hex(STDOUT_FILENO, n, 16);
+fn put_bits(to: &mut impl io::Write, n: u64) -> io::Result<()> {
+    cases::print_bits(to, n)
 }
 
-fn wide(b: u8) -> u64 {
-    b as u64
-}
-
-fn put_bytes(s: &[u8], mark: bool) {
+fn put_bytes(to: &mut impl io::Write, s: &[u8], mark: bool) -> io::Result<()> {
     if s.len() == 0 {
-        put(b"-");
+        put(to, b"-")?;
     }
     let mut i = 0;
     while i < s.len() {
-        io::print_hex(STDOUT_FILENO, wide(octets::fold(mark, s[i])), 2);
+        cases::print_byte(to, octets::fold(mark, s[i]))?;
         i += 1;
     }
+    Ok(())
 }
 
-fn put_piece<'a>(pool: &'a [u8], notice: &'a [u8], p: Piece) {
-    put_bytes(value::fetch(pool, notice, p), p.folded);
+fn put_piece<'a>(
+    to: &mut impl io::Write,
+    pool: &'a [u8],
+    notice: &'a [u8],
+    p: Piece,
+) -> io::Result<()> {
+    put_bytes(to, value::fetch(pool, notice, p), p.folded)
 }
 
-fn put_value<'a>(pool: &'a [u8], notice: &'a [u8], v: Typed) {
+fn put_value<'a>(
+    to: &mut impl io::Write,
+    pool: &'a [u8],
+    notice: &'a [u8],
+    v: Typed,
+) -> io::Result<()> {
     match v {
-        Typed::Bottom => put(b"bottom"),
+        Typed::Bottom => put(to, b"bottom"),
         Typed::Int32(x) => {
-            put(b"int32 ");
-            put_bits(word::bits_of_i32(x) as u64);
+            put(to, b"int32 ")?;
+            put_bits(to, word::bits_of_i32(x) as u64)
         }
         Typed::Int64(x) => {
-            put(b"int64 ");
-            put_bits(word::bits_of_i64(x));
+            put(to, b"int64 ")?;
+            put_bits(to, word::bits_of_i64(x))
         }
         Typed::Real(x) => {
-            put(b"real64 ");
-            put_bits(number::bits_of_real(x));
+            put(to, b"real64 ")?;
+            put_bits(to, number::bits_of_real(x))
         }
         Typed::Text(p) => {
-            put(b"string ");
-            put_piece(pool, notice, p);
+            put(to, b"string ")?;
+            put_piece(to, pool, notice, p)
         }
         Typed::Opaque(p) => {
-            put(b"opaque ");
-            put_piece(pool, notice, p);
+            put(to, b"opaque ")?;
+            put_piece(to, pool, notice, p)
         }
     }
 }
 
-fn put_truth(t: Truth) {
+fn put_truth(to: &mut impl io::Write, t: Truth) -> io::Result<()> {
     match t {
-        Truth::True => put(b"true"),
-        Truth::Bottom => put(b"bottom"),
-        Truth::False => put(b"false"),
+        Truth::True => put(to, b"true"),
+        Truth::Bottom => put(to, b"bottom"),
+        Truth::False => put(to, b"false"),
     }
 }
 
-fn put_slot<'a>(pool: &'a [u8], notice: &'a [u8], s: Slot) {
+fn put_slot<'a>(
+    to: &mut impl io::Write,
+    pool: &'a [u8],
+    notice: &'a [u8],
+    s: Slot,
+) -> io::Result<()> {
     let h = s.held;
     match h {
-        Held::Logic(t) => put_truth(t),
-        Held::Value(v) => put_value(pool, notice, v),
+        Held::Logic(t) => put_truth(to, t)?,
+        Held::Value(v) => put_value(to, pool, notice, v)?,
     }
-    put(b"\n");
+    put(to, b"\n")
 }
 
 fn truth_of(rank: u16) -> Truth {
@@ -189,16 +202,22 @@ fn edition_of(number: u16) -> Edition {
 }
 
 // Answers whether there was a case.
-fn next_case<'a>(pool: &'a [u8], notice: &'a [u8]) -> bool {
+fn next_case<'a>(
+    from: &mut impl io::Read,
+    to: &mut impl io::Write,
+    pool: &'a [u8],
+    notice: &'a [u8],
+) -> io::Result<bool> {
     let mut entries = [0u8; 120];
-    let p = cases::next_part(&mut entries);
+    let p = cases::next_part(from, &mut entries)?;
     let n = p.len;
     if n < 12 {
-        return false;
+        return Ok(false);
     }
     let count = n / 12 - 1;
     let number = word::read_u16(&entries, count * 12);
     put_slot(
+        to,
         pool,
         notice,
         operate(
@@ -209,24 +228,33 @@ fn next_case<'a>(pool: &'a [u8], notice: &'a [u8]) -> bool {
             &entries,
             count,
         ),
-    );
-    true
+    )?;
+    Ok(true)
 }
 
 // Nothing says that the input ends, so the turns are counted down.
-fn all_cases<'a>(pool: &'a [u8], notice: &'a [u8]) {
+fn all_cases<'a>(
+    from: &mut impl io::Read,
+    to: &mut impl io::Write,
+    pool: &'a [u8],
+    notice: &'a [u8],
+) -> io::Result<()> {
     let mut turns: u64 = 1000000;
-    while turns > 0 && next_case(pool, notice) {
+    while turns > 0 && next_case(from, to, pool, notice)? {
         turns -= 1;
     }
+    Ok(())
 }
 
-fn main() {
+fn main(rt: HostRuntime) -> io::Result<()> {
+    let mut from = BufReader::new(rt.alloc(), rt.reader())?;
+    let mut to = BufWriter::new(rt.alloc(), io::writer(&rt))?;
     let mut pool = [0u8; 1024];
     let mut notice = [0u8; 2048];
-    let p = cases::next_part(&mut pool);
-    let q = cases::next_part(&mut notice);
+    let p = cases::next_part(&mut from, &mut pool)?;
+    let q = cases::next_part(&mut from, &mut notice)?;
     let m = p.len;
     let n = q.len;
-    all_cases(&pool[0..m], &notice[0..n]);
+    all_cases(&mut from, &mut to, &pool[0..m], &notice[0..n])?;
+    to.flush()
 }

@@ -6,4 +6,4 @@ use Rattle.table_test.proofs.put_table.Reads as put-table-reads
 use Rattle.table_test.proofs.answer.Goals as goal
 
 pub put_table-requires : goal.put_table-requires
-put_table-requires c = sym c.check.ensures ∙ c.if-check.true
+put_table-requires g c = sym c.check.ensures ∙ c.if-check.true
