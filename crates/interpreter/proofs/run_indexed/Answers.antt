@@ -25,6 +25,7 @@ use Rattle.interpreter.specs.Machine.{limit_of}
 use Rattle.value.specs.declared.Slot.{Slot}
 use Rattle.interpreter.proofs.Visits.{Visiting, below, name_fits_lem, name_found, name_missing, load_fits, load_known, unary_fits_lem, unary_law, unary_known_lem, binary_fits_lem, binary_law, binary_known_lem, combine_law, many_fits_lem, many_law, skip_fits, skip_room, skip_taken, skip_kept, no_unknown, tally_start, tally_more}
 use Rattle.interpreter.proofs.Places.{Placed, placed, behind, more_at, early_at, inside_at, noting, onward, skipping, counted, answer}
+use borrow.Author.Rules.{rules}
 use Rattle.interpreter.proofs.run_indexed.Goals as goal
 
 -- the visit of a turn, once the operator's number and group are read
@@ -175,7 +176,7 @@ pub overflow_add-depth-in-Name : goal.overflow_add-depth-in-Name
 overflow_add-depth-in-Name c = omega (arith, load_fits (visit c.loop-next.invariant c.loop-next-test.true c.op_from-number.ensures c.group_of-group.ensures c.in-Name.is))
 
 pub field-requires : goal.field-requires
-field-requires c = found_right c.args.notice.now _ _ _ _ (λ i. (c.shared_slice_known-2-1.given i).fits) c.requires.1 (sym c.find_name-found.ensures ∙ c.in-At.is)
+field-requires c = found_right c.args.notice.now _ _ _ _ (λ i. search rules) c.requires.1 (sym c.find_name-found.ensures ∙ c.in-At.is)
 
 pub offset_bounds-stack-i : goal.offset_bounds-stack-i
 offset_bounds-stack-i c = omega (arith, load_fits (visit c.loop-next.invariant c.loop-next-test.true c.op_from-number.ensures c.group_of-group.ensures c.in-Name.is))
@@ -188,7 +189,7 @@ loop-next-smaller-in-At c = omega (arith, early_at c.loop-next.invariant c.loop-
 
 pub loop-next-preserved-in-At : goal.loop-next-preserved-in-At
 loop-next-preserved-in-At c =
-    onward c.loop-next.invariant (name_found (visit c.loop-next.invariant c.loop-next-test.true c.op_from-number.ensures c.group_of-group.ensures c.in-Name.is) (c.a_to-in-Name.ensures _ (behind c.loop-next.invariant)) (c.b_to-in-Name.ensures _ (behind c.loop-next.invariant)) c.find_name-found.ensures c.field.result c.in-At.is (found_right c.args.notice.now _ _ _ _ (λ i. (c.shared_slice_known-2-1.given i).fits) c.requires.1 (sym c.find_name-found.ensures ∙ c.in-At.is)).0 (c.field.ensures _))
+    onward c.loop-next.invariant (name_found (visit c.loop-next.invariant c.loop-next-test.true c.op_from-number.ensures c.group_of-group.ensures c.in-Name.is) (c.a_to-in-Name.ensures _ (behind c.loop-next.invariant)) (c.b_to-in-Name.ensures _ (behind c.loop-next.invariant)) c.find_name-found.ensures c.field.result c.in-At.is (found_right c.args.notice.now _ _ _ _ (λ i. search rules) c.requires.1 (sym c.find_name-found.ensures ∙ c.in-At.is)).0 (c.field.ensures _))
 
 pub missing-r-requires : goal.missing-r-requires
 missing-r-requires c = tt

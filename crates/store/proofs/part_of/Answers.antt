@@ -11,6 +11,7 @@ use Rattle.store.proofs.Answers.{starts_64, not_held, lies, part_refused, part_h
 use Rattle.store.proofs.part_of.Lts as lts
 use Rattle.store.proofs.part_of.Tie as tie
 use Rattle.store.proofs.part_of.Reads as reads
+use borrow.Author.Rules.{rules}
 use Rattle.store.proofs.part_of.Goals as goal
 
 abbrev part : ℕ → ℕ → Part
@@ -20,7 +21,7 @@ start_is : (c : lts.After-start_of tie.the-claims reads.Pre reads.Post) → c.st
 start_is c = c.start_of-at.ensures ∙ ap (λ (l : List ℕ). get_or l c.args.number 0) c.requires.all
 
 lying : (c : lts.Else1 tie.the-claims reads.Pre reads.Post) → Lying c.args.store.now c.args.number c.start_of-at.result
-lying c = lies c.args.store.now c.args.number c.requires.right (λ i. (c.shared_slice_known-1.given i).fits) c.start_of-at.result (start_is c.before) c.if-at-eq0.false
+lying c = lies c.args.store.now c.args.number c.requires.right (λ i. search rules) c.start_of-at.result (start_is c.before) c.if-at-eq0.false
 
 pub start_of-at-requires : goal.start_of-at-requires
 start_of-at-requires c = ap length c.requires.all ∙ starts_64 c.args.store.now
@@ -38,4 +39,4 @@ returns c =
     let a = c.args in
     let at = c.start_of-at.result in
     ap (λ (n : ℕ). part (at + 4) (at + 2 + n)) c.read_u16.ensures
-    ∙ part_held a.store.now a.number c.requires.right (λ i. (c.shared_slice_known-1.given i).fits) at (start_is c.before.before.before) c.if-at-eq0.false
+    ∙ part_held a.store.now a.number c.requires.right (λ i. search rules) at (start_is c.before.before.before) c.if-at-eq0.false

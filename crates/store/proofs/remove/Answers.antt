@@ -5,6 +5,7 @@ use Prim.Native.Nat.{ℕ}
 use lib.ListN.{length, get_or}
 use Rattle.store.specs.Calls.{starts_of}
 use Rattle.store.proofs.Answers.{starts_64, broken_held, not_held, found, is_held, cut-bytes, remove_refused}
+use borrow.Author.Rules.{rules}
 use Rattle.store.proofs.remove.Goals as goal
 
 pub returns-then-not-index : goal.returns-then-not-index
@@ -25,7 +26,7 @@ cut_out-requires c =
     let a = c.args in
     record {
       right = sym c.index.ensures.0 ∙ c.if-not-index.false;
-      found = found a.store.now a.number (sym c.index.ensures.0 ∙ c.if-not-index.false) (λ i. (c.slice_known-1.given i).fits) c.start_of-at.result (c.start_of-at.ensures ∙ ap (λ (l : List ℕ). get_or l c.args.number 0) (c.index.ensures.1 (c.if-not-index.false))) c.if-at-eq0.false;
+      found = found a.store.now a.number (sym c.index.ensures.0 ∙ c.if-not-index.false) (λ i. search rules) c.start_of-at.result (c.start_of-at.ensures ∙ ap (λ (l : List ℕ). get_or l c.args.number 0) (c.index.ensures.1 (c.if-not-index.false))) c.if-at-eq0.false;
     }
 
 pub returns : goal.returns
@@ -35,6 +36,6 @@ returns c =
     let at = c.start_of-at.result in
     let e : c.start_of-at.result ≡ get_or (starts_of c.args.store.now) c.args.number 0 = c.start_of-at.ensures ∙ ap (λ (l : List ℕ). get_or l c.args.number 0) (c.index.ensures.1 (c.if-not-index.false)) in
     record {
-      answer = sym (is_held s n (sym c.index.ensures.0 ∙ c.if-not-index.false) (λ i. (c.slice_known-1.given i).fits) at e c.if-at-eq0.false);
-      bytes = c.cut_out.ensures ∙ cut-bytes s n (sym c.index.ensures.0 ∙ c.if-not-index.false) (λ i. (c.slice_known-1.given i).fits) at e c.if-at-eq0.false;
+      answer = sym (is_held s n (sym c.index.ensures.0 ∙ c.if-not-index.false) (λ i. search rules) at e c.if-at-eq0.false);
+      bytes = c.cut_out.ensures ∙ cut-bytes s n (sym c.index.ensures.0 ∙ c.if-not-index.false) (λ i. search rules) at e c.if-at-eq0.false;
     }

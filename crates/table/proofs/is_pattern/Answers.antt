@@ -5,6 +5,7 @@ use Prim.Native.Nat.{ℕ}
 use Rattle.pattern.specs.Wildcard.{well_formed}
 use Rattle.regexp.specs.Regex.{well_formed as regexFormed}
 use Rattle.table.proofs.Patterns.{no_test, the_test}
+use borrow.Author.Rules.{rules}
 use Rattle.table.proofs.is_pattern.Goals as goal
 
 pub returns-in-60 : goal.returns-in-60
@@ -20,4 +21,4 @@ returns-in-61 c =
     c.well_formed-in-61.ensures ∙ ap (λ (t : List ℕ → Bool). t a.p.now) (the_test a.number 61 regexFormed test c.in-61.is refl e)
 
 pub returns-in_default : goal.returns-in_default
-returns-in_default c = λ test e. no_test c.args.number test c.in_default.in_default-own.rest e
+returns-in_default c = λ test e. no_test c.args.number test (search rules) e

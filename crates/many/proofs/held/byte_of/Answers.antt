@@ -10,6 +10,7 @@ use Rattle.store.specs.declared.Part.{Part}
 use Rattle.store.proofs.Answers.{Fetches, fetches}
 use Rattle.many.specs.Many.{verdict_byte}
 use Rattle.many.proofs.Holding.{byte_free, byte_held}
+use borrow.Author.Rules.{rules}
 use Rattle.many.proofs.held.byte_of.Goals as goal
 
 -- where the number's table lies
@@ -22,18 +23,18 @@ returns-then-p-ne0 c =
     byte_free a.store.now a.notice.now a.number c.requires.0.right (λ e. c.if-p-ne0.true (ap (λ (p : Part). p.refusal) c.part_of-p.ensures ∙ e))
 
 pub slice_bounds-verdict-count : goal.slice_bounds-verdict-count
-slice_bounds-verdict-count c = let f = found c.args.store.now c.args.number (λ i. (c.shared_slice_known-1.given i).fits) c.part_of-p.ensures in omega (arith, f.0)
+slice_bounds-verdict-count c = let f = found c.args.store.now c.args.number (λ i. search rules) c.part_of-p.ensures in omega (arith, f.0)
 
 pub slice_bounds-verdict-start : goal.slice_bounds-verdict-start
-slice_bounds-verdict-start c = let f = found c.args.store.now c.args.number (λ i. (c.shared_slice_known-1.given i).fits) c.part_of-p.ensures in omega (arith, f.0, f.1)
+slice_bounds-verdict-start c = let f = found c.args.store.now c.args.number (λ i. search rules) c.part_of-p.ensures in omega (arith, f.0, f.1)
 
 pub slice_bounds-verdict-end : goal.slice_bounds-verdict-end
-slice_bounds-verdict-end c = let f = found c.args.store.now c.args.number (λ i. (c.shared_slice_known-1.given i).fits) c.part_of-p.ensures in omega (arith, f.0, f.1)
+slice_bounds-verdict-end c = let f = found c.args.store.now c.args.number (λ i. search rules) c.part_of-p.ensures in omega (arith, f.0, f.1)
 
 pub returns : goal.returns
 returns c =
     let a = c.args in
-    let f = found c.args.store.now c.args.number (λ i. (c.shared_slice_known-1.given i).fits) c.part_of-p.ensures in
+    let f = found c.args.store.now c.args.number (λ i. search rules) c.part_of-p.ensures in
     c.verdict.ensures
     ∙ (ap (λ (t : List ℕ). verdict_byte (running_of t a.notice.now)) f.2
     ∙ byte_held a.store.now a.notice.now a.number c.requires.0.right (sym (ap (λ (p : Part). p.refusal) c.part_of-p.ensures) ∙ c.if-p-ne0.false))

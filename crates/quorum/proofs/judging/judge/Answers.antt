@@ -7,6 +7,7 @@ use native.Mathlib.Omega.{arith}
 use Rattle.quorum.proofs.Turns.{turn_none, turn_known, turn_new, turn_ninth}
 use Rattle.quorum.proofs.Reading.{holding, holding_sized, length_values}
 use Rattle.quorum.specs.Decision.{has, count_of, values_from, values_of}
+use borrow.Author.Rules.{rules}
 use Rattle.quorum.proofs.judging.judge.Goals as goal
 
 -- what `has` told
@@ -22,7 +23,7 @@ pub bounds-buffer-7 : goal.bounds-buffer-7
 bounds-buffer-7 c = let h = holding c.args.buffer.now c.requires in omega (arith, h.head.long)
 
 pub overflow_cast-n : goal.overflow_cast-n
-overflow_cast-n c = omega (arith, c.shared_slice_known-3-1.given 7)
+overflow_cast-n c = omega (arith, c.type_inv.buffer 7)
 
 pub has-requires : goal.has-requires
 has-requires c = let s = c.args.buffer.now in (holding_sized s (holding s c.requires), omega arith)

@@ -5,6 +5,7 @@ use native.Mathlib.Omega.{arith}
 use lib.ListN.{take, drop}
 use Rattle.quorum.proofs.Reading.{head_is, no_head, no_sizes, not_apart, by_table}
 use Rattle.table.specs.Check.{check_of as tableCheck}
+use borrow.Author.Rules.{rules}
 use Rattle.quorum.proofs.state.holds.Goals as goal
 
 pub bounds-buffer-7 : goal.bounds-buffer-7
@@ -12,7 +13,7 @@ bounds-buffer-7 c =
     let h = head_is c.args.buffer.now (sym c.head_right.ensures ∙ c.if-head_right.true) in omega (arith, h.long)
 
 pub overflow_cast-n : goal.overflow_cast-n
-overflow_cast-n c = omega (arith, c.shared_slice_known-then-head_right-1.given 7)
+overflow_cast-n c = omega (arith, c.type_inv.buffer 7)
 
 pub sizes_right-requires : goal.sizes_right-requires
 sizes_right-requires c =

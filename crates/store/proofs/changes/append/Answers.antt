@@ -7,6 +7,7 @@ use lib.ListN.{length}
 use lib.Seq.{sets}
 use Rattle.word.specs.Word.{word_bytes}
 use Rattle.store.proofs.Stores.{numbers, appended}
+use borrow.Author.Rules.{rules}
 use Rattle.store.proofs.changes.append.Goals as goal
 
 pub read_u32-requires : goal.read_u32-requires
@@ -58,4 +59,4 @@ returns c =
     ∙ ap (λ (x : List ℕ). sets x (e + 4) t) (c.write_u16-2.ensures
     ∙ ap (λ (x : List ℕ). sets x (e + 2) (word_bytes 2 (256 + n))) c.write_u16.ensures)))
     ∙ ap₂ (λ (i j : ℕ). sets (sets (sets (sets (sets s i (word_bytes 2 (2 + length t))) (i + 2) (word_bytes 2 (256 + n))) (i + 4) t) 0 (word_bytes 4 (i + length t))) 6 (word_bytes 2 (j + 1))) (ap (λ (n : ℕ). 4 + n) c.read_u32.ensures) c.read_u16-count.ensures
-    ∙ appended s (λ i. (c.slice_known-1.given i).fits) n t c.requires
+    ∙ appended s (λ i. search rules) n t c.requires

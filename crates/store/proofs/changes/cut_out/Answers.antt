@@ -8,6 +8,7 @@ use lib.Seq.{sets}
 use Rattle.word.specs.Word.{word_bytes}
 use Rattle.store.specs.Layout.{end_of, count_of}
 use Rattle.store.proofs.Stores.{numbers, Lying, lying, cut}
+use borrow.Author.Rules.{rules}
 use Rattle.store.proofs.changes.cut_out.Goals as goal
 
 pub read_u32-requires : goal.read_u32-requires
@@ -18,23 +19,23 @@ read_u16-count-requires c = let k = numbers _ c.requires.right in omega (arith, 
 
 pub read_u16-requires : goal.read_u16-requires
 read_u16-requires c =
-    let k = numbers _ c.requires.right in let l : Lying c.args.store.now c.args.number c.args.at = lying c.args.store.now (λ i. (c.slice_known-1.given i).fits) c.args.number c.args.at c.requires.right c.requires.found in omega (arith, l.within, k.fits)
+    let k = numbers _ c.requires.right in let l : Lying c.args.store.now c.args.number c.args.at = lying c.args.store.now (λ i. search rules) c.args.number c.args.at c.requires.right c.requires.found in omega (arith, l.within, k.fits)
 
 pub overflow_add-at : goal.overflow_add-at
 overflow_add-at c =
-    let k = numbers _ c.requires.right in let l : Lying c.args.store.now c.args.number c.args.at = lying c.args.store.now (λ i. (c.slice_known-1.given i).fits) c.args.number c.args.at c.requires.right c.requires.found in omega (arith, l.within, k.fits, k.short, (ap (λ (n : ℕ). 2 + n) c.read_u16.ensures))
+    let k = numbers _ c.requires.right in let l : Lying c.args.store.now c.args.number c.args.at = lying c.args.store.now (λ i. search rules) c.args.number c.args.at c.requires.right c.requires.found in omega (arith, l.within, k.fits, k.short, (ap (λ (n : ℕ). 2 + n) c.read_u16.ensures))
 
 pub move_down-requires : goal.move_down-requires
 move_down-requires c =
-    let k = numbers _ c.requires.right in let l : Lying c.args.store.now c.args.number c.args.at = lying c.args.store.now (λ i. (c.slice_known-1.given i).fits) c.args.number c.args.at c.requires.right c.requires.found in omega (arith, l.within, k.fits, (ap (λ (n : ℕ). 2 + n) c.read_u16.ensures), (ap (λ (n : ℕ). 4 + n) c.read_u32.ensures))
+    let k = numbers _ c.requires.right in let l : Lying c.args.store.now c.args.number c.args.at = lying c.args.store.now (λ i. search rules) c.args.number c.args.at c.requires.right c.requires.found in omega (arith, l.within, k.fits, (ap (λ (n : ℕ). 2 + n) c.read_u16.ensures), (ap (λ (n : ℕ). 4 + n) c.read_u32.ensures))
 
 pub overflow_sub-end : goal.overflow_sub-end
 overflow_sub-end c =
-    let l : Lying c.args.store.now c.args.number c.args.at = lying c.args.store.now (λ i. (c.slice_known-1.given i).fits) c.args.number c.args.at c.requires.right c.requires.found in omega (arith, l.within, (ap (λ (n : ℕ). 2 + n) c.read_u16.ensures), (ap (λ (n : ℕ). 4 + n) c.read_u32.ensures))
+    let l : Lying c.args.store.now c.args.number c.args.at = lying c.args.store.now (λ i. search rules) c.args.number c.args.at c.requires.right c.requires.found in omega (arith, l.within, (ap (λ (n : ℕ). 2 + n) c.read_u16.ensures), (ap (λ (n : ℕ). 4 + n) c.read_u32.ensures))
 
 pub overflow_sub-end-2 : goal.overflow_sub-end-2
 overflow_sub-end-2 c =
-    let l : Lying c.args.store.now c.args.number c.args.at = lying c.args.store.now (λ i. (c.slice_known-1.given i).fits) c.args.number c.args.at c.requires.right c.requires.found in omega (arith, l.within, l.after, (ap (λ (n : ℕ). 2 + n) c.read_u16.ensures), (ap (λ (n : ℕ). 4 + n) c.read_u32.ensures))
+    let l : Lying c.args.store.now c.args.number c.args.at = lying c.args.store.now (λ i. search rules) c.args.number c.args.at c.requires.right c.requires.found in omega (arith, l.within, l.after, (ap (λ (n : ℕ). 2 + n) c.read_u16.ensures), (ap (λ (n : ℕ). 4 + n) c.read_u32.ensures))
 
 pub overflow_cast-end-2 : goal.overflow_cast-end-2
 overflow_cast-end-2 c =
@@ -46,7 +47,7 @@ write_u32-requires c =
 
 pub overflow_sub-count : goal.overflow_sub-count
 overflow_sub-count c =
-    let l : Lying c.args.store.now c.args.number c.args.at = lying c.args.store.now (λ i. (c.slice_known-1.given i).fits) c.args.number c.args.at c.requires.right c.requires.found in omega (arith, l.some_record, c.read_u16-count.ensures)
+    let l : Lying c.args.store.now c.args.number c.args.at = lying c.args.store.now (λ i. search rules) c.args.number c.args.at c.requires.right c.requires.found in omega (arith, l.some_record, c.read_u16-count.ensures)
 
 pub write_u16-requires : goal.write_u16-requires
 write_u16-requires c =
@@ -65,4 +66,4 @@ returns c =
     ∙ ap (λ (x : List ℕ). sets x 0 (word_bytes 4 (e - z - 4))) c.move_down.ensures)
     ∙ ap₂ (λ (i j : ℕ). sets (sets (sets s at (take (i - (at + z)) (drop (at + z) s))) 0 (word_bytes 4 (i - z - 4))) 6 (word_bytes 2 (j - 1))) (ap (λ (n : ℕ). 4 + n) c.read_u32.ensures) c.read_u16-count.ensures
     ∙ ap (λ (i : ℕ). sets (sets (sets s at (take (end_of s - (at + i)) (drop (at + i) s))) 0 (word_bytes 4 (end_of s - i - 4))) 6 (word_bytes 2 (count_of s - 1))) (ap (λ (n : ℕ). 2 + n) c.read_u16.ensures)
-    ∙ cut s (λ i. (c.slice_known-1.given i).fits) a.number at c.requires.right c.requires.found
+    ∙ cut s (λ i. search rules) a.number at c.requires.right c.requires.found
