@@ -1,6 +1,6 @@
 -- What of a tree's making the run of its table rests on: operators by their ops, calls with the arguments that their functions take, and literals that their types hold.
 -- Every accepted text's tree is so (`accepted_made` in proofs/Made.antt).
-use Rattle.std.specs.Prelude.{ℕ, suc, ◌≤◌, ◌<◌, ◌≡◌, ◌⊎◌, T}
+use Rattle.std.specs.Prelude.{ℕ, ◌≤◌, ◌<◌, ◌≡◌, ◌⊎◌, T}
 use Rattle.std.specs.Float.{binary64}
 use Rattle.std.specs.Float.Ieee.{fits}
 use Rattle.std.specs.Int.{w32, w64}

@@ -216,12 +216,7 @@ pub fn virentolex_quorum_show(
 }
 
 // "reading into our notice, with fields put in name order": the notice that a UBF(A) text says, at the buffer's start. A refusal changes no byte.
-pub fn virentolex_ubf_read(
-    text: &[u8],
-    notice: &mut [u8],
-    place: &mut usize,
-    len: &mut usize,
-) -> u8
+pub fn virentolex_ubf_read(text: &[u8], notice: &mut [u8], place: &mut usize, len: &mut usize) -> u8
     ensures len_after { record { number = result; place = place.new; len = len.new } ≡ read_answer text.now notice.old }
     ensures notice_after { notice.new ≡ read_bytes text.now notice.old }
 {
@@ -291,12 +286,7 @@ pub fn virentolex_store_remove(store: &mut [u8], number: usize) -> u8
 }
 
 // "fetch by number as a part of the buffer": the table is the bytes from `start` to `end`, both 0 if refused.
-pub fn virentolex_store_fetch(
-    store: &[u8],
-    number: usize,
-    start: &mut usize,
-    end: &mut usize,
-) -> u8
+pub fn virentolex_store_fetch(store: &[u8], number: usize, start: &mut usize, end: &mut usize) -> u8
     ensures { record { refusal = result; start = start.new; end = end.new } ≡ part_of store.now number }
 {
     let p = store::find(store, number);

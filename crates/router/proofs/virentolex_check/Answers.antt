@@ -1,7 +1,6 @@
 -- `router::virentolex_check` meets its contract. Assumes nothing.
 use mathlib.Core.Path.{sym, ap, ◌∙◌}
 use Rattle.table.specs.Check.{refusal_of}
-use borrow.Author.Rules.{rules}
 use Rattle.router.proofs.virentolex_check.Goals as goal
 
 pub returns-then-check : goal.returns-then-check

@@ -1,7 +1,6 @@
 -- `router::virentolex_quorum_show` meets its contract: the fields of the answer, one by one, and the bytes. Assumes nothing.
-use borrow.Author.Rules.{rules}
 use Rattle.quorum.proofs.Turns.{gives}
 use Rattle.router.proofs.virentolex_quorum_show.Goals as goal
 
 pub returns : goal.returns
-returns c = let a = c.show-a in (gives a.result _ _ a.ensures.answer c.flag.ensures, a.ensures.bytes)
+returns c = let a = c.show-a in record { gives = gives a.result _ _ a.ensures.answer c.flag.ensures; decision_after = a.ensures.bytes }

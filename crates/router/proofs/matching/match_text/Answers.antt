@@ -2,22 +2,21 @@
 use native.Mathlib.Omega.{arith}
 use mathlib.Core.Path.{refl, sym, ◌∙◌}
 use Rattle.router.proofs.Demand.{fault_matches, run_matches}
-use borrow.Author.Rules.{rules}
 use Rattle.router.proofs.matching.match_text.Goals as goal
 
 pub translate_and_run-requires : goal.translate_and_run-requires
-translate_and_run-requires c = sym c.check-layout.ensures ∙ c.enum_told-1.given.1
+translate_and_run-requires c = sym c.check-layout.ensures ∙ c.in-WellFormed.is
 
 pub returns-in-WellFormed : goal.returns-in-WellFormed
 returns-in-WellFormed c =
     let a = c.args in
     let n = c.check-layout in
     let r = c.translate_and_run in
-    run_matches a.edition a.text.now a.buffer.now a.notice.now _ a.visits r.result n.result n.ensures c.enum_told-1.given.1
+    run_matches a.edition a.text.now a.buffer.now a.notice.now _ a.visits r.result n.result n.ensures c.in-WellFormed.is
     (λ i. omega (arith, c.shared_slice_known-1.given i)) r.ensures
 
 pub returns-in-Fault : goal.returns-in-Fault
 returns-in-Fault c =
     let a = c.args in
     let n = c.check-layout in
-    fault_matches a.edition a.text.now a.buffer.now a.notice.now _ a.visits c.refused.result n.result _ n.ensures c.layout-1.given.1 refl c.refused.ensures
+    fault_matches a.edition a.text.now a.buffer.now a.notice.now _ a.visits c.refused.result n.result _ n.ensures c.in-Fault.is refl c.refused.ensures

@@ -3,7 +3,6 @@ use Prim.Native.Nat.{◌-◌}
 use native.Mathlib.Nat.{sub-zero}
 use native.Mathlib.Omega.{arith}
 use Rattle.router.proofs.Demand.{fits, refused_run, table_run}
-use borrow.Author.Rules.{rules}
 use Rattle.router.proofs.matching.translate_and_run.Goals as goal
 
 pub returns-then-t-ne0 : goal.returns-then-t-ne0
