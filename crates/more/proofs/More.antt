@@ -6,7 +6,6 @@ use mathlib.Core.Logic.{inl, inr}
 use mathlib.Core.List.{List}
 use mathlib.Core.Option.{some, some-injective}
 use Rattle.truth.specs.declared.Truth.{Truth}
-use Rattle.truth.specs.declared.Truth.TheVariants.{False, Bottom, True}
 use Rattle.truth.specs.Truth.{rank}
 use Rattle.notice.specs.More.{More}
 use Rattle.opcode.specs.declared.Edition.{Edition}
