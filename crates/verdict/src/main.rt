@@ -1,55 +1,58 @@
 // The program `verdict`. Document 01, "Examples": "reads records (u32 length, u16 kind) from standard input". Only reading and writing is here; what is answered is `session::turn`.
 #![tactic(auto)]
 
-ghost use Rattle.std.specs.Prelude.{false, ◌≡◌, ℕ, ◌-◌, ◌≤◌, ◌<◌, pos, length};
-ghost use Rattle.libc.specs.Io.{Moved};
+ghost use Rattle.std.specs.Prelude.{false, ◌≡◌, ℕ, ◌+◌, ◌^◌, ◌<◌, Ok, IfOk, length};
 ghost use Rattle.session.specs.State.{Stands, Ready, Reads};
-ghost use Rattle.verdict.specs.Reading.{BroughtBy};
+ghost use Rattle.verdict.specs.Reading.{answer_of, BroughtBy};
 ghost use Rattle.verdict.specs.Going.{Answered, ReadOn, Goes};
 
-use libc::{EAGAIN, EINTR, STDIN_FILENO, STDOUT_FILENO};
 use session::{Brought, Next, State};
+use std::io;
+use std::io::ErrorKind;
 
 // Whether a read is repeated: it failed since a signal came first, or since nothing had come and standard input does not wait. Then it is asked again at once, since nothing here can wait for more.
-fn is_repeated(got: isize) -> bool
-    ensures { (n : ℕ) → got ≡ pos n → result ≡ false }
+fn is_repeated(got: &io::Result<usize>) -> bool
+    ensures { (n : ℕ) → got.now ≡ Ok n → result ≡ false }
 {
-    if got < 0 {
-        let error = os::errno();
-        (error == EINTR) | (error == EAGAIN)
-    } else {
-        false
+    match got {
+        Ok(_) => false,
+        Err(e) => {
+            let kind = e.kind();
+            (kind == ErrorKind::Interrupted) | (kind == ErrorKind::WouldBlock)
+        }
     }
 }
 
 // What the answer of a read behind `end` means. Any other failure counts as the end of the input, since nothing more can come.
-fn brought(got: isize, input: &[u8], end: usize) -> Brought
-    requires { (end ≤ length input.now) × Moved (length input.now - end) got }
-    ensures { BroughtBy got end result }
+fn brought(got: io::Result<usize>, end: usize) -> Brought
+    requires { IfOk got (λ n. end + n < 2 ^ 64) }
+    ensures { BroughtBy (answer_of got) end result }
 {
-    if is_repeated(got) {
+    if is_repeated(&got) {
         return Brought::Again;
     }
-    let n = io::count(got, &input[end..]);
-    Brought::UpTo(end + n)
+    match got {
+        Ok(n) => Brought::UpTo(end + n),
+        Err(_) => Brought::UpTo(end),
+    }
 }
 
 // Reads once, to the buffer's end from `end` on. No contract can say which bytes come.
-fn read_on(input: &mut [u8], end: usize) -> Brought
+fn read_on(from: &mut impl io::Read, input: &mut [u8], end: usize) -> Brought
     requires { end < length input.old }
     ensures { Reads input.old end input.new result }
 {
-    let got = libc::read(STDIN_FILENO, &mut input[end..]);
-    brought(got, input, end)
+    let got = from.read(&mut input[end..]);
+    brought(got, end)
 }
 
 // Reads behind what is not answered yet.
-fn more(input: &mut [u8], s: State) -> State
+fn more(from: &mut impl io::Read, input: &mut [u8], s: State) -> State
     requires { Stands input.old s × (s.next ≡ Next.Read) }
     ensures { ReadOn input.old s input.new result }
 {
     let ready = session::make_room(input, s);
-    let came = read_on(input, ready.end);
+    let came = read_on(from, input, ready.end);
     session::received(ready, came)
 }
 
@@ -61,7 +64,13 @@ struct Stage {
 }
 
 // Answers what is there and writes the lines. Nothing is left to do where they cannot be written.
-fn answer(input: &[u8], table: &mut [u8], out: &mut [u8], s: State) -> Stage
+fn answer(
+    to: &mut impl io::Write,
+    input: &[u8],
+    table: &mut [u8],
+    out: &mut [u8],
+    s: State,
+) -> Stage
     requires { Ready input.now table.old s × (s.next ≡ Next.Answer) }
     ensures { Answered input.now table.old s table.new out.new result.state }
 {
@@ -69,19 +78,26 @@ fn answer(input: &[u8], table: &mut [u8], out: &mut [u8], s: State) -> Stage
     let lines = session::lines(out, after);
     Stage {
         state: after,
-        going: io::write_all(STDOUT_FILENO, lines),
+        going: to.write_all(lines).is_ok(),
     }
 }
 
-fn step(input: &mut [u8], table: &mut [u8], out: &mut [u8], s: State) -> Stage
+fn step(
+    from: &mut impl io::Read,
+    to: &mut impl io::Write,
+    input: &mut [u8],
+    table: &mut [u8],
+    out: &mut [u8],
+    s: State,
+) -> Stage
     requires { Ready input.old table.old s }
     ensures { Goes input.old table.old s input.new table.new result.state }
 {
     let next = s.next;
     match next {
-        Next::Answer => answer(input, table, out, s),
+        Next::Answer => answer(to, input, table, out, s),
         Next::Read => Stage {
-            state: more(input, s),
+            state: more(from, input, s),
             going: true,
         },
         Next::Done => Stage {
@@ -92,7 +108,9 @@ fn step(input: &mut [u8], table: &mut [u8], out: &mut [u8], s: State) -> Stage
 }
 
 // Nothing says that the input ends, so the steps are counted down, from a number that no run uses up.
-fn main() {
+fn main(rt: HostRuntime) {
+    let mut from = rt.stdin();
+    let mut to = rt.stdout();
     let mut input_space = [0u8; 65536];
     let mut table_space = [0u8; table::MOST_BYTES];
     let mut out_space = [0u8; 65536];
@@ -105,7 +123,7 @@ fn main() {
     };
     let mut left = u64::MAX;
     while 0 < left && at.going {
-        at = step(input, table, out, at.state);
+        at = step(&mut from, &mut to, input, table, out, at.state);
         left -= 1;
     }
 }
