@@ -1,12 +1,13 @@
 // Prints for each standard input among the framed cases what `verdict` prints on it, in hex. The session gets it in small pieces, through a buffer that a long one fills many times.
 #![tactic(auto)]
 
-ghost use Rattle.std.specs.Prelude.{◌≡◌, ◌+◌, ◌≤◌, ◌<◌, length};
+ghost use Rattle.std.specs.Prelude.{◌≡◌, ◌+◌, ◌≤◌, ◌<◌, length, IfOk};
 ghost use Rattle.session.specs.State.{Ready};
 ghost use Rattle.verdict_test.specs.Feeding.{Feeds};
 
-use libc::STDOUT_FILENO;
 use session::{Brought, Next, State};
+use std::io;
+use std::io::{BufReader, BufWriter, Write};
 
 fn least(a: usize, b: usize) -> usize
     ensures { (result ≤ a) × (result ≤ b) }
@@ -51,41 +52,54 @@ fn read_on(bytes: &[u8], input: &mut [u8], table: &[u8], s: Stage) -> Stage
     }
 }
 
-fn answer(input: &[u8], table: &mut [u8], out: &mut [u8], s: Stage) -> Stage
+fn answer(
+    to: &mut impl io::Write,
+    input: &[u8],
+    table: &mut [u8],
+    out: &mut [u8],
+    s: Stage,
+) -> io::Result<Stage>
     requires { Ready input.now table.old s.state }
-    ensures { Ready input.now table.new result.state × (result.at ≡ s.at) }
+    ensures { IfOk result (λ r. Ready input.now table.new r.state × (r.at ≡ s.at)) }
 {
     let after = session::turn(input, table, out, s.state);
     let lines = session::lines(out, after);
     if 0 < lines.len() {
-        cases::print_hex(lines);
+        cases::print_hex(to, lines)?;
     }
-    Stage {
+    Ok(Stage {
         state: after,
         at: s.at,
         going: true,
-    }
+    })
 }
 
-fn step(bytes: &[u8], input: &mut [u8], table: &mut [u8], out: &mut [u8], s: Stage) -> Stage
+fn step(
+    to: &mut impl io::Write,
+    bytes: &[u8],
+    input: &mut [u8],
+    table: &mut [u8],
+    out: &mut [u8],
+    s: Stage,
+) -> io::Result<Stage>
     requires { Ready input.old table.old s.state × (s.at ≤ length bytes.now) }
-    ensures { Ready input.new table.new result.state × (result.at ≤ length bytes.now) }
+    ensures { IfOk result (λ r. Ready input.new table.new r.state × (r.at ≤ length bytes.now)) }
 {
     let state = s.state;
     let next = state.next;
     match next {
-        Next::Answer => answer(input, table, out, s),
-        Next::Read => read_on(bytes, input, table, s),
-        Next::Done => Stage {
+        Next::Answer => answer(to, input, table, out, s),
+        Next::Read => Ok(read_on(bytes, input, table, s)),
+        Next::Done => Ok(Stage {
             state: state,
             at: s.at,
             going: false,
-        },
+        }),
     }
 }
 
 // Nothing says that a session ends, so the steps are counted down.
-fn serve(bytes: &[u8]) {
+fn serve(to: &mut impl io::Write, bytes: &[u8]) -> io::Result<()> {
     let mut input_space = [0u8; 20000];
     let mut table_space = [0u8; table::MOST_BYTES];
     let mut out_space = [0u8; 4096];
@@ -99,28 +113,36 @@ fn serve(bytes: &[u8]) {
     };
     let mut left: u64 = 1000000;
     while 0 < left && s.going {
-        s = step(bytes, input, table, out, s);
+        s = step(to, bytes, input, table, out, s)?;
         left -= 1;
     }
-    io::write_all(STDOUT_FILENO, b"\n");
+    to.write_all(b"\n")
 }
 
 // One case. Answers whether there was one.
-fn next_case() -> bool {
+fn next_case(from: &mut impl io::Read, to: &mut impl io::Write) -> io::Result<bool> {
     let mut buffer = [0u8; 131072];
-    let part = cases::next_part(&mut buffer);
+    let part = cases::next_part(from, &mut buffer)?;
     if !part.whole {
-        return false;
+        return Ok(false);
     }
     let end = part.len;
-    serve(&buffer[0..end]);
-    true
+    serve(to, &buffer[0..end])?;
+    Ok(true)
 }
 
 // Nothing says that the input ends, so the turns are counted down.
-fn main() {
+fn all_cases(from: &mut impl io::Read, to: &mut impl io::Write) -> io::Result<()> {
     let mut turns: u64 = 1000000;
-    while turns > 0 && next_case() {
+    while turns > 0 && next_case(from, to)? {
         turns -= 1;
     }
+    Ok(())
+}
+
+fn main(rt: HostRuntime) -> io::Result<()> {
+    let mut from = BufReader::new(rt.alloc(), rt.reader())?;
+    let mut to = BufWriter::new(rt.alloc(), io::writer(&rt))?;
+    all_cases(&mut from, &mut to)?;
+    to.flush()
 }
