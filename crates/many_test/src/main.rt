@@ -4,59 +4,74 @@
 
 ghost use Rattle.std.specs.Prelude.{◌≤◌, length};
 
-use libc::STDOUT_FILENO;
 use many::Delivered;
+use std::io;
+use std::io::{BufReader, BufWriter, Write};
 
-fn put(s: &[u8]) {
-    io::write_all(STDOUT_FILENO, s);
+fn put(to: &mut impl io::Write, s: &[u8]) -> io::Result<()> {
+    to.write_all(s)
 }
 
-fn put_number(n: u64) {
-    io::print_decimal(STDOUT_FILENO, n);
-    put(b" ");
+fn put_number(to: &mut impl io::Write, n: u64) -> io::Result<()> {
+    cases::print_decimal(to, n)?;
+    put(to, b" ")
 }
 
-fn put_delivered(d: Delivered, verdicts: &[u8]) {
-    put_number(d.number as u64);
-    put_number(d.place as u64);
-    put_number(d.count as u64);
-    cases::print_hex(verdicts);
-    put(b"\n");
+fn put_delivered(to: &mut impl io::Write, d: Delivered, verdicts: &[u8]) -> io::Result<()> {
+    put_number(to, d.number as u64)?;
+    put_number(to, d.place as u64)?;
+    put_number(to, d.count as u64)?;
+    cases::print_hex(to, verdicts)?;
+    put(to, b"\n")
 }
 
-fn answer<'a>(tables: &'a [u8], notice: &'a [u8], verdicts: &mut [u8], room: usize)
+fn answer<'a>(
+    to: &mut impl io::Write,
+    tables: &'a [u8],
+    notice: &'a [u8],
+    verdicts: &mut [u8],
+    room: usize,
+) -> io::Result<()>
     requires { room ≤ length verdicts.old }
 {
     let d = many::run_many(tables, notice, &mut verdicts[0..room]);
-    put_delivered(d, verdicts);
+    put_delivered(to, d, verdicts)
 }
 
 // One case. Answers whether there was one.
-fn next_case() -> bool {
+fn next_case(from: &mut impl io::Read, to: &mut impl io::Write) -> io::Result<bool> {
     let mut head = [0u8; 4];
     let mut tables = [0u8; 16384];
     let mut notice = [0u8; 24576];
     let mut verdicts = [0xa5u8; 72];
-    let first = cases::next_part(&mut head);
-    let second = cases::next_part(&mut tables);
-    let third = cases::next_part(&mut notice);
+    let first = cases::next_part(from, &mut head)?;
+    let second = cases::next_part(from, &mut tables)?;
+    let third = cases::next_part(from, &mut notice)?;
     if !(first.whole & second.whole & third.whole) {
-        return false;
+        return Ok(false);
     }
     let room = word::read_u32(&head, 0) as usize;
     if 72 < room {
-        return false;
+        return Ok(false);
     }
     let n = second.len;
     let k = third.len;
-    answer(&tables[0..n], &notice[0..k], &mut verdicts, room);
-    true
+    answer(to, &tables[0..n], &notice[0..k], &mut verdicts, room)?;
+    Ok(true)
 }
 
 // Nothing says that the input ends, so the turns are counted down.
-fn main() {
+fn all_cases(from: &mut impl io::Read, to: &mut impl io::Write) -> io::Result<()> {
     let mut turns: u64 = 1000000;
-    while turns > 0 && next_case() {
+    while turns > 0 && next_case(from, to)? {
         turns -= 1;
     }
+    Ok(())
+}
+
+fn main(rt: HostRuntime) -> io::Result<()> {
+    let mut from = BufReader::new(rt.alloc(), rt.reader())?;
+    let mut to = BufWriter::new(rt.alloc(), io::writer(&rt))?;
+    all_cases(&mut from, &mut to)?;
+    to.flush()
 }
