@@ -9,11 +9,11 @@ use Rattle.translator.proofs.read.read.Reads as read-reads
 use Rattle.grammar_test.proofs.lexed.Goals as goal
 
 pub slice_bounds-judge-end : goal.slice_bounds-judge-end
-slice_bounds-judge-end c =
-    let rd = subst (Reads c.args.text.now _ _ _) c.n-1.given.1 c.read.ensures.0 in
+slice_bounds-judge-end g c =
+    let rd = subst (Reads c.args.text.now _ _ _) c.in-Tokens.is c.read.ensures.reads in
     omega (arith, rd.0)
 
 pub judge-requires : goal.judge-requires
-judge-requires c =
-    let rd = subst (Reads c.args.text.now _ _ _) c.n-1.given.1 c.read.ensures.0 in
+judge-requires g c =
+    let rd = subst (Reads c.args.text.now _ _ _) c.in-Tokens.is c.read.ensures.reads in
     rw front_as (ready (λ i. omega (arith, c.shared_slice_known-1.given i)) rd.1)
