@@ -2,12 +2,11 @@
 use lib.ListN.{length}
 use Prim.Native.Nat.{◌≤◌}
 use borrow.Author.Rules.{rules}
-use native.Mathlib.Omega.{arith}
-use mathlib.Core.Path.{◌≡◌, refl}
+use mathlib.Core.Path.{◌≡◌}
 use Rattle.quorum_test.proofs.all_cases.Given as goal
 
 abbrev pub invariant-loop-turns : goal.invariant-loop-turns
-invariant-loop-turns l = (l.room ≤ length l.buffer) × (length l.buffer ≡ length l.initial.buffer) × (length l.part ≡ length l.initial.part)
+invariant-loop-turns g l = (l.room ≤ length l.buffer) × (length l.buffer ≡ length l.initial.buffer) × (length l.part ≡ length l.initial.part)
 
 abbrev pub decreases-loop-turns : goal.decreases-loop-turns
-decreases-loop-turns l = l.turns
+decreases-loop-turns g l = l.turns
