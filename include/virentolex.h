@@ -26,34 +26,34 @@
  * refuses it, and the program sends its notices to one on x86-64. What is lent has the same bytes on every
  * machine: all numbers in it are little-endian, so a big-endian program writes them byte by byte, and none
  * copies an int. Each function is a section of its own: with -Wl,--gc-sections a program that writes, checks and
- * finds fields has 5.8 KB in place of 78.6, one that runs tables 34.5 (gcc 12). The code is position-independent:
+ * finds fields has 5.4 KB in place of 81.8, one that runs tables 35.6 (gcc 12). The code is position-independent:
  *
  *    cc -shared -Wl,--whole-archive target/staticlib/librouter.a -Wl,--no-whole-archive -o libvirentolex.so
  *
- * makes a shared library of 91 KB, with these functions alone, for Python's ctypes (examples/match.py) and others.
+ * makes a shared library of 96 KB, with these functions alone, for Python's ctypes (examples/match.py) and others.
  *
  * The stack is not part of the proofs. Measured, in bytes, on the inputs that take most, none over 64 KiB
  * (tests/stack prints the figures, with the frame of a C function that makes the call):
  *
- *    virentolex_translate      53,920   the deepest texts: 24 parentheses or calls, every operator level
- *                                       and 24 prefix operators between each two; a flat one 24,616
- *    virentolex_run            24,999   with `regex`; 13,960 if `contains` goes on by borders; else 5,664
- *    virentolex_run_many       24,967   likewise: 13,928; else 5,632
- *    virentolex_store_match    25,095   likewise: 14,056; else 5,760
- *    virentolex_quorum_show    25,047   likewise: 14,008; else 5,712
- *    virentolex_mend            8,672
- *    virentolex_store_add       5,352
- *    virentolex_quorum_open     5,224
- *    virentolex_entry           5,208
- *    virentolex_check           5,144
- *    virentolex_ubf_read        4,104
- *    virentolex_write             384
- *    virentolex_ubf_write         384
- *    virentolex_read              352
- *    virentolex_find              352
- *    virentolex_check_notice      288
+ *    virentolex_translate      44,336   the deepest texts: 24 parentheses or calls, every operator level
+ *                                       and 24 prefix operators between each two; a flat one 24,592
+ *    virentolex_run            24,888   with `regex`; 13,976 if `contains` goes on by borders; else 5,680
+ *    virentolex_run_many       24,904   likewise: 13,992; else 5,696
+ *    virentolex_store_match    25,016   likewise: 14,104; else 5,808
+ *    virentolex_quorum_show    24,968   likewise: 14,056; else 5,760
+ *    virentolex_mend            8,673
+ *    virentolex_store_add       5,272
+ *    virentolex_quorum_open     5,144
+ *    virentolex_entry           5,112
+ *    virentolex_check           5,048
+ *    virentolex_ubf_read        4,112
+ *    virentolex_write             400
+ *    virentolex_ubf_write         368
+ *    virentolex_read              320
+ *    virentolex_find              320
+ *    virentolex_check_notice      256
  *    virentolex_store_fetch       208
- *    virentolex_store_remove      208
+ *    virentolex_store_remove      224
  *    virentolex_store_make         40
  */
 #ifndef VIRENTOLEX_H
