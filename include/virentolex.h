@@ -22,11 +22,12 @@
  * use no heap and call nothing but memset. The time of `regex` is at most that of the pattern's bytes
  * times the value's; a pattern never makes it go back.
  *
- * Linking. The kit writes the archive for x86-64 alone; for another target, 32-bit or big-endian, the linker
- * refuses it, and the program sends its notices to one on x86-64. What is lent has the same bytes on every
- * machine: all numbers in it are little-endian, so a big-endian program writes them byte by byte, and none
- * copies an int. Each function is a section of its own: with -Wl,--gc-sections a program that writes, checks and
- * finds fields has 5.4 KB in place of 81.8, one that runs tables 35.6 (gcc 12). The code is position-independent:
+ * Linking. The kit writes the archive for x86-64 alone, of level 2 (x86-64-v2, which has SSE4.2 and
+ * popcnt); for another target, 32-bit or big-endian, the linker refuses it, and the program sends its
+ * notices to one on x86-64. What is lent has the same bytes on every machine: all numbers in it are
+ * little-endian, so a big-endian program writes them byte by byte, and none copies an int. Each function
+ * is a section of its own: with -Wl,--gc-sections a program that writes, checks and finds fields has 5.4
+ * KB in place of 81.8, one that runs tables 35.6 (gcc 12). The code is position-independent:
  *
  *    cc -shared -Wl,--whole-archive target/staticlib/librouter.a -Wl,--no-whole-archive -o libvirentolex.so
  *
