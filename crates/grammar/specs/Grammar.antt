@@ -1,7 +1,7 @@
 -- The grammar: which tokens each level derives, with the tree. Document 01, "Grammar".
 use Rattle.std.specs.Prelude.{ℕ, suc, ◌<◌, ◌≡◌, Bool, true, cond, ◌&&◌, ◌||◌, List, [], ◌∷◌, ◌++◌, eqb, leb}
 use Rattle.opcode.specs.Number.{complement_op, shift_left_op, shift_right_zero_op, bit_and_op, bit_xor_op, bit_or_op, mul_op, rem_op, add_op, sub_op, equal_op, not_equal_op, less_op, greater_equal_op, not_op, and_op, xor_op, or_op}
-use Rattle.lexer.specs.Kind.{int32Kind, text_kind, naming, opening, closing, comma}
+use Rattle.lexer.specs.Kind.{int32_kind, text_kind, naming, opening, closing, comma}
 use Rattle.lexer.specs.Token.{Token, kind_of}
 use Rattle.grammar.specs.Tree.{Tree, leaf, group, unary, binary, call, Trees, none, ◌then◌}
 
@@ -27,7 +27,7 @@ is_prefix k = eqb k not_op || eqb k complement_op
 
 -- int32, int64, real64, string
 abbrev pub is_literal : ℕ → Bool
-is_literal k = leb int32Kind k && leb k text_kind
+is_literal k = leb int32_kind k && leb k text_kind
 
 mutual
   -- "Binary operators group to the left": an operator of a level between the same level and the next tighter one; or the tighter one alone

@@ -1,6 +1,6 @@
 -- Tokens as the parser reads them, one number each, and the operands among them. Document 01, "Grammar": "A name before `(` is always a call."
 use Rattle.std.specs.Prelude.{ℕ, zero, suc, ◌+◌, Bool, cond, ◌&&◌, List, [], ◌∷◌, leb, length}
-use Rattle.lexer.specs.Kind.{int32Kind, naming, opening}
+use Rattle.lexer.specs.Kind.{int32_kind, naming, opening}
 use Rattle.lexer.specs.Token.{Token}
 use Rattle.grammar.specs.Parse.{token_at, kind_at, is}
 use Rattle.grammar.specs.Function.{function_of}
@@ -23,7 +23,7 @@ marks_of ks = marks_from ks 0 (length ks)
 
 -- a literal, or a name that is not called
 abbrev pub is_operand : ℕ → Bool
-is_operand m = leb int32Kind m && leb m naming
+is_operand m = leb int32_kind m && leb m naming
 
 -- the operands among n tokens, from the token i on, in text order
 unfoldable pub operands_from : List Token → ℕ → ℕ → List Token

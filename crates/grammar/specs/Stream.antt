@@ -1,6 +1,6 @@
 -- The tokens that the lexer's arrays stand for: kinds and starts, over the text. Defined for all arrays; a start that is lacking counts as 0.
 use Rattle.std.specs.Prelude.{ℕ, cond, List, [], ◌∷◌, eqb, get_or, drop}
-use Rattle.lexer.specs.Kind.{int32Kind, int64Kind, real64Kind, text_kind, naming}
+use Rattle.lexer.specs.Kind.{int32_kind, int64_kind, real64_kind, text_kind, naming}
 use Rattle.lexer.specs.Token.{Token, name, int32, int64, real, text, symbol, name_at, escaped_at, string_at, integer_at, real_at}
 
 -- the token of a kind that starts at a place of the text
@@ -8,9 +8,9 @@ abbrev pub token_of : List ℕ → ℕ → ℕ → Token
 token_of s k at =
     cond (eqb k naming) (name (name_at s at) (escaped_at s at))
     (cond (eqb k text_kind) (text (string_at s at))
-    (cond (eqb k int32Kind) (int32 (integer_at s at))
-    (cond (eqb k int64Kind) (int64 (integer_at s at))
-    (cond (eqb k real64Kind) (real (real_at s at)) (symbol k)))))
+    (cond (eqb k int32_kind) (int32 (integer_at s at))
+    (cond (eqb k int64_kind) (int64 (integer_at s at))
+    (cond (eqb k real64_kind) (real (real_at s at)) (symbol k)))))
 
 unfoldable pub tokens_in : List ℕ → List ℕ → List ℕ → List Token
 tokens_in s [] starts = []

@@ -1,16 +1,16 @@
 -- The kinds of tokens by number: the op of "Table" where there is one, which an operator has too. Document 01, "Table", "Ops".
 use Rattle.std.specs.Prelude.{ℕ}
-use Rattle.opcode.specs.Number.{int32Op, int64Op, real64Op, text_op, name_op}
+use Rattle.opcode.specs.Number.{int32_op, int64_op, real64_op, text_op, name_op}
 
 -- the literals, and a name
-abbrev pub int32Kind : ℕ
-int32Kind = int32Op
+abbrev pub int32_kind : ℕ
+int32_kind = int32_op
 
-abbrev pub int64Kind : ℕ
-int64Kind = int64Op
+abbrev pub int64_kind : ℕ
+int64_kind = int64_op
 
-abbrev pub real64Kind : ℕ
-real64Kind = real64Op
+abbrev pub real64_kind : ℕ
+real64_kind = real64_op
 
 abbrev pub text_kind : ℕ
 text_kind = text_op

@@ -7,7 +7,7 @@ use Rattle.lexer.specs.Byte.{is_space, is_quote, starts_name, starts_number}
 use Rattle.lexer.specs.Run.{run_of, unescaped, has_escape, legal_name, name_fits, body_of, is_closed}
 use Rattle.lexer.specs.Integer.{is_long, is_integer, integer_of, integer_fits, held}
 use Rattle.lexer.specs.Real.{is_real, real_fits, real_of}
-use Rattle.lexer.specs.Kind.{int32Kind, int64Kind, real64Kind, text_kind, naming}
+use Rattle.lexer.specs.Kind.{int32_kind, int64_kind, real64_kind, text_kind, naming}
 use Rattle.lexer.specs.Symbol.{symbol_of, symbol_length}
 
 -- a name by its bytes without escapes and whether it had one; an integer or a real by its value; a string by its bytes without escapes;
@@ -23,9 +23,9 @@ pub data Token : Type 0 where
 -- the kind number of a token: the op of "Table" where there is one
 abbrev pub kind_of : Token → ℕ
 kind_of (name bytes escaped) = naming
-kind_of (int32 z) = int32Kind
-kind_of (int64 z) = int64Kind
-kind_of (real x) = real64Kind
+kind_of (int32 z) = int32_kind
+kind_of (int64 z) = int64_kind
+kind_of (real x) = real64_kind
 kind_of (text bytes) = text_kind
 kind_of (symbol k) = k
 

@@ -162,7 +162,7 @@ pub unchanged : Unchanged
 unchanged s list notice bytes well p q m = comes_out_as (fields_of s) (well_fields s bytes well) s (well_render s bytes well) list notice p q m
 
 pub twice : Twice
-twice s list notice m z list-again notice-again p q again = comes_out_as (sorted (kept_of s)) (ok s list notice m z) (result_of m) (result s list notice m z) list-again notice-again p q again
+twice s list notice m z list_again notice_again p q again = comes_out_as (sorted (kept_of s)) (ok s list notice m z) (result_of m) (result s list notice m z) list_again notice_again p q again
 
 -- ---- the end, the header, and a refusal
 

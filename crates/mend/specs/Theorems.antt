@@ -67,8 +67,8 @@ Unchanged =
 abbrev pub Twice : Type 0
 Twice =
     (s list notice : List ℕ) (m : MendCall s list notice) → m.answer.number ≡ 0
-    → (list-again notice-again : List ℕ) → 3 * count_of (result_of m) ≤ length list-again → length (result_of m) ≤ length notice-again
-    → (again : MendCall (result_of m) list-again notice-again) → ComesOut (result_of m) list-again notice-again again
+    → (list_again notice_again : List ℕ) → 3 * count_of (result_of m) ≤ length list_again → length (result_of m) ≤ length notice_again
+    → (again : MendCall (result_of m) list_again notice_again) → ComesOut (result_of m) list_again notice_again again
 
 -- "is cut and ends the work": only the last field of the list is cut
 abbrev pub cut_last : List Entry → Bool

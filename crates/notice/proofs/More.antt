@@ -2,7 +2,6 @@
 use Rattle.std.proofs.Common.{◌≡◌, ℕ, zero, suc, ◌-◌, Bool, true, false, cond, ◌&&◌, ◌⊎◌, List, [], ◌∷◌, length, take, sym, refl, ap, ◌∙◌, ap₂, inl, inr, arith, le-leb}
 use mathlib.Core.List.Memᴰ
 use mathlib.Core.List.{Memᴰ}
-use mathlib.Core.Option.{some}
 use Rattle.common.specs.Choice.{pick}
 use Rattle.octets.specs.Octets.{before_of}
 use Rattle.octets.proofs.Theorems.{and_parts}

@@ -1,5 +1,5 @@
 -- The theorems that specs/RoundTrip.antt states. Assumes nothing.
-use Rattle.std.proofs.Common.{◌≡◌, ℕ, zero, suc, ◌+◌, ◌-◌, ◌<◌, ◌≤◌, List, [], ◌∷◌, ◌++◌, map, length, get_or, take, drop, sym, refl, ap, ◌∙◌, ap₂, arith, length-append, drop-cons, get_or-append-add}
+use Rattle.std.proofs.Common.{◌≡◌, ℕ, zero, suc, ◌+◌, ◌-◌, ◌<◌, ◌≤◌, List, [], ◌∷◌, ◌++◌, map, length, get_or, take, drop, sym, ap, ◌∙◌, ap₂, arith, length-append, drop-cons, get_or-append-add}
 use mathlib.Core.List.{Permᴰ}
 use lib.ListN.{get_or-append}
 use lib.Seq.{drop-length, get_or-append_seam}
@@ -10,7 +10,7 @@ use Rattle.notice.specs.Field.{Field}
 use Rattle.notice.specs.Layout.{count_of, check_of, fields_of}
 use Rattle.notice.specs.Read.{blank, read_field}
 use Rattle.notice.specs.Write.{field, insert_field, written_of, written_bytes, Writes}
-use Rattle.notice.specs.RoundTrip.{ReadCall, WriteCall, Copies, NoneRefused, numbers_from, ReadWrittenAgain, answered, Gives, ReadsBack, WrittenReadBack}
+use Rattle.notice.specs.RoundTrip.{ReadCall, Copies, NoneRefused, numbers_from, ReadWrittenAgain, answered, Gives, ReadsBack, WrittenReadBack}
 use Rattle.notice.proofs.Renders.{rendered_count}
 use Rattle.notice.proofs.Keys.{bytes_take}
 use Rattle.notice.proofs.Theorems.{count_fields, read_below, number_zero, left_by, write_adds, insert_adds, written_again}
@@ -56,25 +56,25 @@ module _ (s : List ℕ) (bytes : Bytes s) (well : check_of s ≡ WellFormed) whe
 
   -- the calls do what writing the fields that were read does
   copied : (ks b : List ℕ) (len : ℕ) (d : List ℕ) (m : ℕ) → AllBelow (count_of s) ks → Writes (map (read_field s) ks) b len d m
-      → (after : List ℕ) (after-len : ℕ) (c : Copies ks s b len after after-len) → NoneRefused ks s b len after after-len c × (after ≡ d) × (after-len ≡ m)
+      → (after : List ℕ) (after_len : ℕ) (c : Copies ks s b len after after_len) → NoneRefused ks s b len after after_len c × (after ≡ d) × (after_len ≡ m)
   unfolding Writes
-  copied [] b len d m h w after after-len c = (tt, sym c.0 ∙ w.0, sym c.1 ∙ w.1)
-  copied (k ∷ ks) b len d m h w after after-len c =
+  copied [] b len d m h w after after_len c = (tt, sym c.0 ∙ w.0, sym c.1 ∙ w.1)
+  copied (k ∷ ks) b len d m h w after after_len c =
       let r = c.0 in
       let call = c.1 in
       let f = field_answered r in
       let a : call.answer ≡ written_of b len (read_field s k) = call.promise.0 ∙ ap (written_of b len) f in
       let p : call.after ≡ written_bytes b len (read_field s k) = call.promise.1 ∙ ap (written_bytes b len) f in
       let n : call.answer.len ≡ (written_of b len (read_field s k)).len = ap (λ (x : Written). x.len) a in
-      let ih = copied ks call.after call.answer.len d m h.1 (rw (p, n) w.1) after after-len c.2 in
+      let ih = copied ks call.after call.answer.len d m h.1 (rw (p, n) w.1) after after_len c.2 in
       (((gives s k well h.0 r).0, ap (λ (x : Written). x.number) a ∙ w.0, ih.0), ih.1, ih.2)
 
 pub read_written_again : ReadWrittenAgain
-read_written_again s bytes well ks perm b e room after after-len c =
+read_written_again s bytes well ks perm b e room after after_len c =
     let z : 0 + count_of s ≡ count_of s = omega arith in
     let all : map (read_field s) (numbers_from (count_of s) 0) ≡ fields_of s = fields_from_lem s bytes well (count_of s) 0 z in
     let fs : Permᴰ (map (read_field s) ks) (fields_of s) = rw (← all) (mathlib.Core.List.Permᴰ.map (read_field s) perm) in
-    copied s bytes well ks b 8 (s ++ drop (length s) b) (length s) (perm_below (count_of s) perm (from_below (count_of s) 0 (count_of s) z)) (written_again s bytes well (map (read_field s) ks) fs b e room) after after-len c
+    copied s bytes well ks b 8 (s ++ drop (length s) b) (length s) (perm_below (count_of s) perm (from_below (count_of s) 0 (count_of s) z)) (written_again s bytes well (map (read_field s) ks) fs b e room) after after_len c
 
 -- ---- written and read back
 

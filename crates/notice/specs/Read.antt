@@ -1,5 +1,5 @@
 -- Reading: "Reading field k gives its kind and its name and value as parts of the lent notice."
-use Rattle.std.specs.Prelude.{◌≡◌, ℕ, ◌+◌, ◌-◌, ◌&&◌, List, [], length, ◌==◌, nat_le, nat_lt, slice_index, slice_index_or, slice_range}
+use Rattle.std.specs.Prelude.{◌≡◌, ℕ, ◌+◌, ◌&&◌, List, [], length, ◌==◌, nat_le, nat_lt, slice_index, slice_index_or, slice_range}
 use Rattle.common.specs.Choice.{pick}
 use Rattle.notice.specs.Field.{Field}
 use Rattle.notice.specs.Layout.{unless, kind_at, value_start, next_at, count_of, check_of, number_of, place_of, starts_of, fields_of}

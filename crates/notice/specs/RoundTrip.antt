@@ -30,15 +30,15 @@ pub record WriteCall (buffer : List ℕ) (len : ℕ) (name : List ℕ) (kind : �
 
 -- Calls one after the other, from a buffer and a length to a buffer and a length: for each k of a list, field k of s is read, and what `read` answered is given to `write`, on the buffer and the length that the last call left.
 abbrev pub Copies : List ℕ → List ℕ → List ℕ → ℕ → List ℕ → ℕ → Type 0
-Copies [] s buffer len after after-len = (buffer ≡ after) × (len ≡ after-len)
-Copies (k ∷ ks) s buffer len after after-len =
-    (r : ReadCall s k) × (w : WriteCall buffer len r.name r.kind r.value) × Copies ks s w.after w.answer.len after after-len
+Copies [] s buffer len after after_len = (buffer ≡ after) × (len ≡ after_len)
+Copies (k ∷ ks) s buffer len after after_len =
+    (r : ReadCall s k) × (w : WriteCall buffer len r.name r.kind r.value) × Copies ks s w.after w.answer.len after after_len
 
 -- no call of them is refused
-abbrev pub NoneRefused : (ks s buffer : List ℕ) (len : ℕ) (after : List ℕ) (after-len : ℕ) → Copies ks s buffer len after after-len → Type 0
-NoneRefused [] s buffer len after after-len c = Unit {0}
-NoneRefused (k ∷ ks) s buffer len after after-len c =
-    (c.0.number ≡ 0) × (c.1.answer.number ≡ 0) × NoneRefused ks s c.1.after c.1.answer.len after after-len c.2
+abbrev pub NoneRefused : (ks s buffer : List ℕ) (len : ℕ) (after : List ℕ) (after_len : ℕ) → Copies ks s buffer len after after_len → Type 0
+NoneRefused [] s buffer len after after_len c = Unit {0}
+NoneRefused (k ∷ ks) s buffer len after after_len c =
+    (c.0.number ≡ 0) × (c.1.answer.number ≡ 0) × NoneRefused ks s c.1.after c.1.answer.len after after_len c.2
 
 -- n numbers from k on
 abbrev pub numbers_from : ℕ → ℕ → List ℕ
@@ -50,8 +50,8 @@ abbrev pub ReadWrittenAgain : Type 0
 ReadWrittenAgain =
     (s : List ℕ) → Bytes s → check_of s ≡ WellFormed → (ks : List ℕ) → Permᴰ ks (numbers_from (count_of s) 0) →
     (buffer : List ℕ) → take 8 buffer ≡ render [] → length s ≤ length buffer →
-    (after : List ℕ) (after-len : ℕ) (c : Copies ks s buffer 8 after after-len) →
-    NoneRefused ks s buffer 8 after after-len c × (after ≡ s ++ drop (length s) buffer) × (after-len ≡ length s)
+    (after : List ℕ) (after_len : ℕ) (c : Copies ks s buffer 8 after after_len) →
+    NoneRefused ks s buffer 8 after after_len c × (after ≡ s ++ drop (length s) buffer) × (after_len ≡ length s)
 
 -- ---- "A notice that is written reads back as the same fields"
 

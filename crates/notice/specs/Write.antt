@@ -97,6 +97,6 @@ WriteIs buffer len f answer after = (answer ≡ written_of buffer len f) × (aft
 
 -- fields written one after the other, none refused, from a buffer and a length to a buffer and a length
 unfoldable pub Writes : List Field → List ℕ → ℕ → List ℕ → ℕ → Type 0
-Writes [] buffer len after after-len = (buffer ≡ after) × (len ≡ after-len)
-Writes (f ∷ fs) buffer len after after-len =
-    ((written_of buffer len f).number ≡ 0) × Writes fs (written_bytes buffer len f) (written_of buffer len f).len after after-len
+Writes [] buffer len after after_len = (buffer ≡ after) × (len ≡ after_len)
+Writes (f ∷ fs) buffer len after after_len =
+    ((written_of buffer len f).number ≡ 0) × Writes fs (written_bytes buffer len f) (written_of buffer len f).len after after_len

@@ -11,7 +11,7 @@ use Rattle.truth.specs.Truth.{of_bool}
 use Rattle.nearest.specs.Nearest.{is_negative}
 use Rattle.number.specs.Integer.{exact_of}
 use Rattle.number.specs.Bits.{on_bits, shifted}
-use Rattle.number.specs.Number.{is_int32, is_integer, is_real, integer_of, int32Of, real_of, zero_real, typed, in_arithmetic, on_reals, real_arithmetic, divides, is_zero, zero_divisor, arithmetic_of, bitwise_of, places_in, count_of, remainder, remainder_of, count_in, counted, shift_of, value_of, is_number, compared_by}
+use Rattle.number.specs.Number.{is_int32, is_integer, is_real, integer_of, int32_of, real_of, zero_real, typed, in_arithmetic, on_reals, real_arithmetic, divides, is_zero, zero_divisor, arithmetic_of, bitwise_of, places_in, count_of, remainder, remainder_of, count_in, counted, shift_of, value_of, is_number, compared_by}
 use Rattle.number.specs.declared.Number.{Number}
 use Rattle.number.specs.declared.Number.TheVariants.{Int32, Int64, Real, None}
 use Rattle.number.specs.declared.Count.{Count}
@@ -39,20 +39,20 @@ and_right true y e = e
 and_right false y e = true_false (sym e)
 
 -- an int32 is an integer of the same value
-int32_integer : (a : Number) → is_int32 a ≡ true → (is_integer a ≡ true) × (int32Of a ≡ integer_of a)
+int32_integer : (a : Number) → is_int32 a ≡ true → (is_integer a ≡ true) × (int32_of a ≡ integer_of a)
 int32_integer (Int32 z) e = (refl, refl)
 int32_integer (Int64 z) e = true_false (sym e)
 int32_integer (Real x) e = true_false (sym e)
 int32_integer None e = true_false (sym e)
 
 -- and the number of its int32, so that two of them give what their int32 give
-is_int32_lem : (a : Number) → is_int32 a ≡ true → Int32 (int32Of a) ≡ a
+is_int32_lem : (a : Number) → is_int32 a ≡ true → Int32 (int32_of a) ≡ a
 is_int32_lem (Int32 z) e = refl
 is_int32_lem (Int64 z) e = true_false (sym e)
 is_int32_lem (Real x) e = true_false (sym e)
 is_int32_lem None e = true_false (sym e)
 
-pub int32_each : {A : Type 0} (f : Number → Number → A) (a b : Number) → (is_int32 a && is_int32 b) ≡ true → f (Int32 (int32Of a)) (Int32 (int32Of b)) ≡ f a b
+pub int32_each : {A : Type 0} (f : Number → Number → A) (a b : Number) → (is_int32 a && is_int32 b) ≡ true → f (Int32 (int32_of a)) (Int32 (int32_of b)) ≡ f a b
 int32_each f a b e = ap₂ f (is_int32_lem a (and_left (is_int32 a) (is_int32 b) e)) (is_int32_lem b (and_right (is_int32 a) (is_int32 b) e))
 
 -- 0 by its bits, over the width, and in f64
@@ -113,10 +113,10 @@ result_read w r f = to_z-of_z w r (record { sfits = f })
 -- values, and bits, by the test of both types
 module _ (a b : Number) where
   module _ (t : (is_int32 a && is_int32 b) ≡ true) where
-    pub left_int32 : int32Of a ≡ integer_of a
+    pub left_int32 : int32_of a ≡ integer_of a
     left_int32 = (int32_integer a (and_left (is_int32 a) (is_int32 b) t)).1
 
-    pub right_int32 : int32Of b ≡ integer_of b
+    pub right_int32 : int32_of b ≡ integer_of b
     right_int32 = (int32_integer b (and_right (is_int32 a) (is_int32 b) t)).1
 
     pub bits_int32 : (op : Bitwise) → Int32 (on_bits op w32 (integer_of a) (integer_of b)) ≡ bitwise_of op a b
@@ -274,7 +274,7 @@ module _ (f : Float → Float → Bool) where
   pub reread : {x y u v : ℤ} → u ≡ x → v ≡ y → f (exactly u) (exactly v) ≡ f (exactly x) (exactly y)
   reread p q = rw (p, q)
 
-  pub two_int32 : (a b : Number) → (is_int32 a && is_int32 b) ≡ true → (x y : ℤ) → SFits w32 x → SFits w32 y → x ≡ int32Of a → y ≡ int32Of b
+  pub two_int32 : (a b : Number) → (is_int32 a && is_int32 b) ≡ true → (x y : ℤ) → SFits w32 x → SFits w32 y → x ≡ int32_of a → y ≡ int32_of b
       → {t : Bool} → t ≡ f (exactly (Wide x)) (exactly (Wide y)) → of_bool t ≡ compared_by f a b
   two_int32 (Int32 u) (Int32 v) i x y fx fy ex ey h = ap of_bool (h ∙ reread (wide_is x fx ∙ ex) (wide_is y fy ∙ ey))
   two_int32 (Int32 u) (Int64 v) i x y fx fy ex ey h = true_false (sym i)

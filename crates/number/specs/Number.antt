@@ -174,11 +174,11 @@ abbrev pub order_of : Order → Number → Number → Truth
 order_of op a b = compared_by (order_real op) a b
 
 -- Inside the code: an int32's value, and a magnitude that 64 bits hold.
-abbrev pub int32Of : Number → ℤ
-int32Of (Int32 z) = z
-int32Of (Int64 z) = pos 0
-int32Of (Real x) = pos 0
-int32Of None = pos 0
+abbrev pub int32_of : Number → ℤ
+int32_of (Int32 z) = z
+int32_of (Int64 z) = pos 0
+int32_of (Real x) = pos 0
+int32_of None = pos 0
 
 abbrev pub magnitude_of : ℕ → Magnitude
 magnitude_of p = cond (nat_lt p (2 ^ 64)) (Fits p) Over

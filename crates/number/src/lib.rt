@@ -2,7 +2,7 @@
 #![tactic(auto)]
 
 ghost use Rattle.std.specs.Prelude.{◌≡◌, ◌<◌};
-ghost use Rattle.number.specs.Number.{is_int32, is_integer, is_real, integer_of, int32Of, real_of, in_arithmetic, on_reals, real_arithmetic, divides, is_zero, zero_divisor, arithmetic_of, bitwise_of, complement_of, count_of, remainder as remainderBy, remainder_of, count_in, shift_of, equal_of, order_of};
+ghost use Rattle.number.specs.Number.{is_int32, is_integer, is_real, integer_of, int32_of, real_of, in_arithmetic, on_reals, real_arithmetic, divides, is_zero, zero_divisor, arithmetic_of, bitwise_of, complement_of, count_of, remainder as remainderBy, remainder_of, count_in, shift_of, equal_of, order_of};
 
 mod bits;
 mod integer;
@@ -56,7 +56,7 @@ fn is_real(a: Number) -> bool
 }
 
 fn int32_of(a: Number) -> i32
-    ensures { result ≡ int32Of a }
+    ensures { result ≡ int32_of a }
 {
     match a {
         Number::Int32(x) => x,

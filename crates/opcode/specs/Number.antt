@@ -2,14 +2,14 @@
 use Rattle.std.specs.Prelude.{ℕ}
 
 -- what pushes a value
-abbrev pub int32Op : ℕ
-int32Op = 1
+abbrev pub int32_op : ℕ
+int32_op = 1
 
-abbrev pub int64Op : ℕ
-int64Op = 2
+abbrev pub int64_op : ℕ
+int64_op = 2
 
-abbrev pub real64Op : ℕ
-real64Op = 3
+abbrev pub real64_op : ℕ
+real64_op = 3
 
 abbrev pub text_op : ℕ
 text_op = 4

@@ -6,7 +6,7 @@ use Rattle.std.specs.Float.Ieee.{to_bits}
 use Rattle.std.specs.Int.{w64}
 use Rattle.std.proofs.Common.{of_z}
 use Rattle.opcode.specs.declared.Edition.{Edition}
-use Rattle.opcode.specs.Number.{int32Op, int64Op, real64Op, text_op, name_op, and_op, or_op, skip_if_false_op, skip_if_true_op, begins_with_op}
+use Rattle.opcode.specs.Number.{int32_op, int64_op, real64_op, text_op, name_op, and_op, or_op, skip_if_false_op, skip_if_true_op, begins_with_op}
 use Rattle.lexer.specs.Token.{Token, name, int32, int64, real, text, symbol}
 use Rattle.grammar.specs.Tree.{Tree, leaf, group, unary, binary, call, Trees, none, ◌then◌}
 use Rattle.grammar.specs.Function.{function_of}
@@ -20,9 +20,9 @@ entry op a b = record { op = op; a = a; b = b }
 -- the entry that pushes a literal or a name; its bytes stand in the pool from `at` on. "b: two's complement or bits, int32 widened by sign"; "a length, b pool offset"
 abbrev pub leaf_entry : ℕ → Token → Entry
 leaf_entry at (name s escaped) = entry name_op (length s) at
-leaf_entry at (int32 z) = entry int32Op 0 (of_z w64 z)
-leaf_entry at (int64 z) = entry int64Op 0 (of_z w64 z)
-leaf_entry at (real x) = entry real64Op 0 (to_bits binary64 x)
+leaf_entry at (int32 z) = entry int32_op 0 (of_z w64 z)
+leaf_entry at (int64 z) = entry int64_op 0 (of_z w64 z)
+leaf_entry at (real x) = entry real64_op 0 (to_bits binary64 x)
 leaf_entry at (text s) = entry text_op (length s) at
 leaf_entry at (symbol k) = entry k 0 0
 

@@ -41,7 +41,7 @@ use Rattle.opcode.specs.declared.Binary.{Binary}
 use Rattle.opcode.specs.declared.Fit.{Fit}
 use Rattle.opcode.specs.declared.Many.{Many}
 use Rattle.number.specs.declared.Number.{Number}
-use Rattle.number.specs.Number.{int32Of, equal_of}
+use Rattle.number.specs.Number.{int32_of, equal_of}
 use Rattle.number.proofs.Theorems.{left_none, right_none, real_bits}
 use Rattle.notice.specs.declared.Found.{Found}
 use Rattle.notice.specs.Field.{Field}
@@ -148,7 +148,7 @@ combine_bottom edition o v w e = go (which_bottom v w e)
     go (inr m) = rw m (sym (bottom_combine edition o v).1)
 
 -- two values that are told to be int32, compared as such
-is_int32_lem : (v : Value) → eqb (type_of v) 1 ≡ true → int32 (int32Of (number_of v)) ≡ v
+is_int32_lem : (v : Value) → eqb (type_of v) 1 ≡ true → int32 (int32_of (number_of v)) ≡ v
 is_int32_lem bottom e = true_false (sym e)
 is_int32_lem (int32 z) e = refl
 is_int32_lem (int64 z) e = true_false (sym e)
@@ -156,7 +156,7 @@ is_int32_lem (real x) e = true_false (sym e)
 is_int32_lem (text s) e = true_false (sym e)
 is_int32_lem (opaque s) e = true_false (sym e)
 
-pub int32_equal : (v w : Value) {m n : ℕ} → m ≡ type_of v → n ≡ type_of w → (eqb m 1 && eqb n 1) ≡ true → equal_of (Number.Int32 (int32Of (number_of v))) (Number.Int32 (int32Of (number_of w))) ≡ equal_values v w
+pub int32_equal : (v w : Value) {m n : ℕ} → m ≡ type_of v → n ≡ type_of w → (eqb m 1 && eqb n 1) ≡ true → equal_of (Number.Int32 (int32_of (number_of v))) (Number.Int32 (int32_of (number_of w))) ≡ equal_values v w
 int32_equal v w d e h =
     let g = and_parts (eqb (type_of v) 1) (eqb (type_of w) 1) (rw (d, e) at h) in
     ap₂ equal_values (is_int32_lem v g.0) (is_int32_lem w g.1)

@@ -4,7 +4,7 @@ ghost use Rattle.truth.specs.declared.Truth.TheVariants.{False, Bottom};
 ghost use Rattle.utf8.specs.Scan.{count_of};
 ghost use Rattle.opcode.specs.Groups.{equality_by};
 ghost use Rattle.opcode.specs.declared.Compare.{Compare};
-ghost use Rattle.number.specs.Number.{int32Of};
+ghost use Rattle.number.specs.Number.{int32_of};
 ghost use Rattle.value.specs.Value.{number_of, value_of, type_of, is_text, text_in, fold_case_of, size_by, size_of, change_of, if_present, type_test, nan_of, test_of, combine_numbers, combine_of, equal_values, compare_of, fit_values, strict_or};
 ghost use Rattle.value.specs.Held.{pooled, folded_piece, text_of, typed_of};
 
@@ -214,7 +214,7 @@ pub fn combine(edition: Edition, op: Combine, v: Typed, w: Typed) -> Typed
 
 // The int32 that a value is, and 0 of what is none.
 fn int32_in(v: Typed) -> i32
-    ensures { (p : List ℕ) → (q : List ℕ) → result ≡ int32Of (number_of (typed_of p q v)) }
+    ensures { (p : List ℕ) → (q : List ℕ) → result ≡ int32_of (number_of (typed_of p q v)) }
 {
     match v {
         Typed::Bottom => 0,

@@ -1,7 +1,5 @@
-use Rattle.std.proofs.Common.{◌≡◌, sym, ap, ◌∙◌, rules}
+use Rattle.std.proofs.Common.{sym, ap, ◌∙◌}
 use Rattle.notice.specs.declared.Layout.{Layout}
-use Rattle.notice.specs.declared.Layout.TheVariants.{WellFormed}
-use Rattle.notice.specs.Layout.{check_of}
 use Rattle.notice.specs.Search.{find_by}
 use Rattle.notice.proofs.find.Goals as goal
 

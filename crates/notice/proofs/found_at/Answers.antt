@@ -1,4 +1,4 @@
-use Rattle.std.proofs.Common.{◌≡◌, ◌+◌, ◌-◌, arith, rules}
+use Rattle.std.proofs.Common.{◌≡◌, ◌+◌, ◌-◌, arith}
 use Rattle.notice.specs.Layout.{value_start, value_size_at}
 use Rattle.notice.proofs.Places.{Lies, right_lies}
 use Rattle.notice.proofs.Searches.{same_found}

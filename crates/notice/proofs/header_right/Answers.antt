@@ -1,4 +1,4 @@
-use Rattle.std.proofs.Common.{ℕ, ◌+◌, leb, sym, ap, ◌∙◌, rules}
+use Rattle.std.proofs.Common.{ℕ, ◌+◌, leb, sym, ap, ◌∙◌}
 use Rattle.notice.proofs.Checks.{short, long, other_length, other-kind, by_count}
 use Rattle.notice.proofs.header_right.Goals as goal
 

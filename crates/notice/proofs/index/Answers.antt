@@ -1,4 +1,4 @@
-use Rattle.std.proofs.Common.{◌≡◌, true, false, sym, ap, ◌∙◌, rules}
+use Rattle.std.proofs.Common.{◌≡◌, false, sym, ap, ◌∙◌}
 use lib.Seq.{sets}
 use Rattle.notice.specs.Layout.{header_right}
 use Rattle.notice.proofs.Checks.{by_fields, wrong_header}

@@ -1,4 +1,4 @@
-use Rattle.std.proofs.Common.{sym, ◌∙◌, rules}
+use Rattle.std.proofs.Common.{sym, ◌∙◌}
 use Rattle.word.specs.Word.{Bytes}
 use Rattle.notice.proofs.Renders.{well_header}
 use Rattle.notice.proofs.lookup_along.Lts as lts

@@ -1,4 +1,4 @@
-use Rattle.std.proofs.Common.{arith, rules}
+use Rattle.std.proofs.Common.{arith}
 use Rattle.notice.proofs.Places.{few_left, no_room, by_end}
 use Rattle.notice.proofs.field.lies.Goals as goal
 

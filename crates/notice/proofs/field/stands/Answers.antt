@@ -1,4 +1,4 @@
-use Rattle.std.proofs.Common.{◌≡◌, ℕ, ◌+◌, ◌-◌, take, drop, sym, ap, ◌∙◌, arith, rules}
+use Rattle.std.proofs.Common.{◌≡◌, ℕ, ◌+◌, ◌-◌, take, drop, sym, ap, ◌∙◌, arith}
 use Rattle.notice.specs.Layout.{size_at, name_size_at}
 use Rattle.notice.specs.Field.{size_right}
 use Rattle.notice.proofs.Places.{Lies, lies_true, lies_not, wrong_name, by_size}

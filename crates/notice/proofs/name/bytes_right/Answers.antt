@@ -1,5 +1,4 @@
-use Rattle.std.proofs.Common.{◌≡◌, ◌-◌, ◌≤◌, length, drop, refl, ◌∙◌, arith, rules}
-use Rattle.notice.specs.Field.{printable}
+use Rattle.std.proofs.Common.{refl, ◌∙◌, arith}
 use Rattle.notice.proofs.Names.{low_byte, high_byte, right_byte, all_right}
 use Rattle.notice.proofs.name.bytes_right.Goals as goal
 

@@ -1,6 +1,5 @@
-use Rattle.std.proofs.Common.{◌≡◌, ◌-◌, ◌≤◌, length, drop, refl, ◌∙◌, arith, rules}
+use Rattle.std.proofs.Common.{◌≡◌, ◌-◌, ◌≤◌, length, drop}
 use Rattle.notice.specs.Field.{printable}
-use Rattle.notice.proofs.Names.{low_byte, high_byte, right_byte, all_right}
 use Rattle.notice.proofs.name.bytes_right.Given as goal
 
 abbrev pub invariant-loop-i : goal.invariant-loop-i

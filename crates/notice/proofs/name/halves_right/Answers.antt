@@ -1,4 +1,4 @@
-use Rattle.std.proofs.Common.{◌≡◌, ℕ, ◌+◌, ◌*◌, ◌∙◌, ap₂, arith, rules}
+use Rattle.std.proofs.Common.{ℕ, ◌+◌, ◌*◌, ◌∙◌, ap₂, arith}
 use Rattle.word.specs.Word.{word_bytes}
 use Rattle.notice.specs.Field.{printable}
 use Rattle.notice.proofs.Names.{whole_word, by_halves}

@@ -1,4 +1,4 @@
-use Rattle.std.proofs.Common.{◌≡◌, ◌∙◌, rules}
+use Rattle.std.proofs.Common.{◌∙◌}
 use Rattle.notice.proofs.Names.{empty_wrong, long_wrong, by_bytes}
 use Rattle.notice.proofs.name.name_right.Goals as goal
 

@@ -1,4 +1,4 @@
-use Rattle.std.proofs.Common.{◌≡◌, ℕ, ◌+◌, ◌-◌, ◌≤◌, true, length, take, drop, sym, refl, ap, ◌∙◌, arith, rules}
+use Rattle.std.proofs.Common.{◌≡◌, ℕ, ◌+◌, ◌-◌, length, take, sym, refl, ap, ◌∙◌, arith}
 use Rattle.word.specs.Word.{word_bytes, Bytes}
 use Rattle.notice.specs.Field.{printable}
 use Rattle.notice.proofs.Names.{overlap, start_wrong, next_right, whole_word, word_bytes_lem, end_word}

@@ -1,4 +1,4 @@
-use Rattle.std.proofs.Common.{◌≡◌, ℕ, ◌+◌, ◌-◌, ◌<◌, true, take, drop, sym, ap, ◌∙◌, ap₂, arith, rules}
+use Rattle.std.proofs.Common.{◌≡◌, ℕ, ◌+◌, ◌-◌, ◌<◌, true, take, drop, sym, ap, ◌∙◌, ap₂, arith}
 use Rattle.octets.specs.Octets.{before_of}
 use Rattle.octets.proofs.Theorems.{not_folded}
 use Rattle.notice.specs.Layout.{name_size_at, name_at, right_at}

@@ -1,4 +1,4 @@
-use Rattle.std.proofs.Common.{◌≡◌, ℕ, ◌+◌, ◌-◌, true, take, drop, sym, ap, ◌∙◌, ap₂, arith, rules}
+use Rattle.std.proofs.Common.{◌≡◌, ℕ, ◌+◌, ◌-◌, true, take, drop, sym, ap, ◌∙◌, ap₂, arith}
 use Rattle.notice.specs.Field.{size_right}
 use Rattle.notice.specs.Layout.{kind_at, value_size_at, lies_at}
 use Rattle.notice.specs.Key.{right_key}

@@ -1,4 +1,4 @@
-use Rattle.std.proofs.Common.{◌≡◌, length, take, drop, refl, arith, length-drop, length-take-le, rules}
+use Rattle.std.proofs.Common.{◌≡◌, length, take, drop, arith, length-drop, length-take-le}
 use Rattle.notice.proofs.Names.{long_wrong}
 use Rattle.notice.proofs.Keys.{wrong_key}
 use Rattle.notice.proofs.order.key_of.Goals as goal

@@ -1,4 +1,4 @@
-use Rattle.std.proofs.Common.{◌≡◌, ℕ, ◌+◌, ◌-◌, List, length, take, drop, sym, ap, ◌∙◌, arith, length-drop, length-take-le, rules}
+use Rattle.std.proofs.Common.{◌≡◌, ℕ, ◌+◌, ◌-◌, List, length, take, drop, sym, ap, ◌∙◌, arith, length-drop, length-take-le}
 use Rattle.notice.specs.Field.{printable}
 use Rattle.notice.proofs.Names.{by_bytes}
 use Rattle.notice.proofs.Keys.{key_start, right_key_lem, wrong_key}

@@ -1,5 +1,4 @@
-use Rattle.std.proofs.Common.{◌≡◌, ℕ, ◌+◌, ◌-◌, ◌*◌, ◌%◌, ◌^◌, ◌≤◌, List, length, take, drop, sym, ap, ◌∙◌, arith, length-drop, length-take-le, rules}
-use Rattle.word.specs.Word.{Bytes}
+use Rattle.std.proofs.Common.{◌≡◌, ℕ, ◌-◌, ◌*◌, ◌%◌, ◌^◌, List, length, take, drop, sym, ap, ◌∙◌, arith, length-drop, length-take-le}
 use Rattle.notice.specs.Field.{printable}
 use Rattle.notice.specs.Key.{key_of}
 use Rattle.notice.proofs.Names.{by_bytes}

@@ -1,6 +1,5 @@
-use Rattle.std.proofs.Common.{◌≡◌, ◌-◌, ◌<◌, ◌≤◌, length, ◌∙◌, arith, rules}
-use Rattle.notice.specs.Layout.{starts_of}
-use Rattle.notice.proofs.Readings.{After, after_none, after_within, after_is, after_more}
+use Rattle.std.proofs.Common.{◌≡◌, ◌∙◌, arith}
+use Rattle.notice.proofs.Readings.{after_none, after_within, after_is, after_more}
 use Rattle.notice.proofs.reading.field_start.Goals as goal
 
 pub loop-i-init : goal.loop-i-init

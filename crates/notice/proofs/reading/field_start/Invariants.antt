@@ -1,6 +1,6 @@
-use Rattle.std.proofs.Common.{◌≡◌, ◌-◌, ◌<◌, ◌≤◌, length, ◌∙◌, arith, rules}
+use Rattle.std.proofs.Common.{◌-◌, ◌<◌, ◌≤◌, length}
 use Rattle.notice.specs.Layout.{starts_of}
-use Rattle.notice.proofs.Readings.{After, after_none, after_within, after_is, after_more}
+use Rattle.notice.proofs.Readings.{After}
 use Rattle.notice.proofs.reading.field_start.Given as goal
 
 abbrev pub invariant-loop-i : goal.invariant-loop-i

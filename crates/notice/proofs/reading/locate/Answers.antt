@@ -1,10 +1,6 @@
-use Rattle.std.proofs.Common.{◌≡◌, ℕ, ◌+◌, ◌-◌, ◌<◌, sym, ap, ◌∙◌, arith, rules}
-use Rattle.word.specs.Word.{Bytes}
-use Rattle.notice.specs.declared.Layout.{Layout}
-use Rattle.notice.specs.declared.Layout.TheVariants.{WellFormed}
-use Rattle.notice.specs.Layout.{count_of, check_of}
+use Rattle.std.proofs.Common.{ℕ, ◌+◌, sym, ap, ◌∙◌, arith}
 use Rattle.notice.specs.Read.{locate_at}
-use Rattle.notice.proofs.Places.{Lies, lies_true}
+use Rattle.notice.proofs.Places.{lies_true}
 use Rattle.notice.proofs.Renders.{well_header}
 use Rattle.notice.proofs.Readings.{at_fault, past_count, has-start, start_lies, located, same_place, is_located}
 use Rattle.notice.proofs.reading.locate.Goals as goal

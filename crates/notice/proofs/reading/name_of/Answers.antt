@@ -1,4 +1,4 @@
-use Rattle.std.proofs.Common.{◌∙◌, rules}
+use Rattle.std.proofs.Common.{◌∙◌}
 use Rattle.notice.proofs.reading.name_of.Goals as goal
 
 pub returns : goal.returns

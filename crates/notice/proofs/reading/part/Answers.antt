@@ -1,4 +1,4 @@
-use Rattle.std.proofs.Common.{⊎_elim, arith, rules}
+use Rattle.std.proofs.Common.{arith}
 use Rattle.notice.proofs.Readings.{is_part_lem, backwards, past_end}
 use Rattle.notice.proofs.reading.part.Goals as goal
 use Rattle.notice.proofs.reading.part.Goals.{then-a-e+else-e-s, else-a-e}

@@ -1,4 +1,4 @@
-use Rattle.std.proofs.Common.{◌≡◌, ℕ, ◌+◌, ◌-◌, false, take, drop, sym, ap, ◌∙◌, ap₂, arith, rules}
+use Rattle.std.proofs.Common.{◌≡◌, ℕ, ◌+◌, ◌-◌, false, take, drop, sym, ap, ◌∙◌, ap₂, arith}
 use Rattle.octets.specs.Octets.{folded, same_of, before_of}
 use Rattle.octets.proofs.Theorems.{same, not_folded}
 use Rattle.notice.specs.Layout.{name_size_at, name_at}

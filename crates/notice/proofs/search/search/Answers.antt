@@ -1,12 +1,7 @@
-use Rattle.std.proofs.Common.{◌≡◌, true, arith, drop-cons, rules}
-use Rattle.word.specs.Word.{Bytes}
-use Rattle.notice.specs.declared.search.Standing.{Standing}
-use Rattle.notice.specs.declared.search.Standing.TheVariants.{Below, Same, Above}
-use Rattle.notice.specs.Layout.{name_at, right_at}
-use Rattle.notice.specs.Search.{StandsTo}
-use Rattle.notice.proofs.Places.{Lies, right_lies}
+use Rattle.std.proofs.Common.{arith, drop-cons}
+use Rattle.notice.proofs.Places.{right_lies}
 use Rattle.notice.proofs.Renders.{well_header}
-use Rattle.notice.proofs.Searches.{Passed, none_yet, next_right, pass, stops_empty, stops_above, stops_same, stops_end}
+use Rattle.notice.proofs.Searches.{none_yet, next_right, pass, stops_empty, stops_above, stops_same, stops_end}
 use Rattle.notice.proofs.search.search.Goals as goal
 
 pub read_u16-left-requires : goal.read_u16-left-requires

@@ -1,5 +1,4 @@
-use Rattle.std.proofs.Common.{◌≡◌, ℕ, ◌+◌, ◌-◌, ap, ◌∙◌, ⊎_elim, arith, rules}
-use Rattle.word.specs.Word.{Bytes}
+use Rattle.std.proofs.Common.{◌≡◌, ℕ, ◌+◌, ◌-◌, ap, ◌∙◌, arith}
 use Rattle.notice.specs.Layout.{fields_of}
 use Rattle.notice.specs.Search.{index_of, index_number}
 use Rattle.notice.proofs.Renders.{well_header}

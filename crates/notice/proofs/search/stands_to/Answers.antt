@@ -1,4 +1,4 @@
-use Rattle.std.proofs.Common.{arith, rules}
+use Rattle.std.proofs.Common.{arith}
 use Rattle.notice.proofs.Places.{Lies, right_lies, right_name}
 use Rattle.notice.proofs.Searches.{head_below, head_above}
 use Rattle.notice.proofs.search.stands_to.Lts as lts

@@ -1,11 +1,10 @@
-use Rattle.std.proofs.Common.{◌≡◌, ℕ, ◌+◌, ◌-◌, List, length, take, drop, ap, ◌∙◌, ap₂, arith, rules}
+use Rattle.std.proofs.Common.{◌≡◌, ℕ, ◌+◌, ◌-◌, List, take, drop, ap, ◌∙◌, ap₂, arith}
 use lib.Seq.{sets}
-use Rattle.word.specs.Word.{word_bytes, Bytes}
+use Rattle.word.specs.Word.{word_bytes}
 use Rattle.notice.specs.Layout.{count_of}
-use Rattle.notice.specs.Field.{Field}
 use Rattle.notice.specs.Render.{field_bytes}
 use Rattle.notice.specs.Write.{field, field_size, place_for}
-use Rattle.notice.proofs.Inserts.{Known, known, long, inserted}
+use Rattle.notice.proofs.Inserts.{known, long, inserted}
 use Rattle.notice.proofs.writing.insert.Goals as goal
 
 pub overflow_add-size-2 : goal.overflow_add-size-2

@@ -1,10 +1,6 @@
-use Rattle.std.proofs.Common.{◌≡◌, ℕ, ◌+◌, ◌-◌, ◌≤◌, true, false, length, take, drop, sym, ap, ◌∙◌, ap₂, arith, rules}
-use Rattle.octets.specs.Octets.{before_of}
-use Rattle.octets.proofs.Theorems.{not_folded}
-use Rattle.notice.specs.Layout.{name_size_at, name_at, starts_from}
+use Rattle.std.proofs.Common.{◌≡◌, ◌≤◌, length}
+use Rattle.notice.specs.Layout.{starts_from}
 use Rattle.notice.specs.Write.{place_in, place_for}
-use Rattle.notice.proofs.Places.{Lies, lies_true}
-use Rattle.notice.proofs.Walks.{from_header, starts_end, here, further, no_further}
 use Rattle.notice.proofs.writing.place_for.Given as goal
 
 abbrev pub invariant-loop-left : goal.invariant-loop-left

@@ -1,4 +1,4 @@
-use Rattle.std.proofs.Common.{ℕ, ◌+◌, List, length, set, ap, ◌∙◌, arith, length-set, rules}
+use Rattle.std.proofs.Common.{ℕ, ◌+◌, List, length, set, ap, ◌∙◌, arith, length-set}
 use lib.Seq.{sets}
 use Rattle.word.specs.Word.{word_bytes}
 use Rattle.notice.specs.Write.{field}

@@ -1,6 +1,4 @@
-use Rattle.std.proofs.Common.{◌≡◌, ℕ, ◌+◌, true, length, sym, ap, ◌∙◌, arith, rules}
-use Rattle.word.specs.Word.{Bytes}
-use Rattle.notice.specs.Field.{name_right, size_right}
+use Rattle.std.proofs.Common.{ℕ, ◌+◌, length, sym, ap, ◌∙◌, arith}
 use Rattle.notice.specs.Write.{field, has_room}
 use Rattle.notice.proofs.Renders.{well_header}
 use Rattle.notice.proofs.Inserts.{wrong_name, wrong_size, small_parts, present, no_room, no_refusal}

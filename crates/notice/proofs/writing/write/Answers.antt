@@ -1,9 +1,6 @@
-use Rattle.std.proofs.Common.{◌≡◌, ℕ, ◌-◌, length, take, sym, ap, ◌∙◌, arith, rules}
-use Rattle.word.specs.Word.{Bytes}
-use Rattle.notice.specs.declared.Layout.TheVariants.{WellFormed}
+use Rattle.std.proofs.Common.{◌≡◌, ℕ, ◌-◌, length, take, sym, ap, ◌∙◌, arith}
 use Rattle.notice.specs.Layout.{check_of}
-use Rattle.notice.specs.Field.{Field}
-use Rattle.notice.specs.Write.{field, refusal_in, Insertable}
+use Rattle.notice.specs.Write.{field, refusal_in}
 use Rattle.notice.proofs.Inserts.{known}
 use Rattle.notice.proofs.Writes.{past_buffer, faulty, refused, added}
 use Rattle.notice.proofs.writing.write.Goals as goal
