@@ -2,10 +2,6 @@ use native.Mathlib.Omega.{arith}
 use mathlib.Core.Path.{subst}
 use Rattle.translator.specs.Emit.{Reads}
 use Rattle.translator.proofs.Answering.{front_as, ready}
-use borrow.Author.Rules.{rules}
-use Rattle.grammar_test.proofs.judge.Reads as judge-reads
-use Rattle.grammar_test.proofs.put_refusal.Reads as put-refusal-reads
-use Rattle.translator.proofs.read.read.Reads as read-reads
 use Rattle.grammar_test.proofs.lexed.Goals as goal
 
 pub slice_bounds-judge-end : goal.slice_bounds-judge-end

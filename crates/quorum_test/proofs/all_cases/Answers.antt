@@ -1,6 +1,5 @@
 -- `all_cases` of the test program meets its contract: the length that is lent lies within the buffer. Assumes nothing.
 use native.Mathlib.Omega.{arith}
-use borrow.Author.Rules.{rules}
 use mathlib.Core.Path.{refl}
 use Rattle.quorum_test.proofs.all_cases.Goals as goal
 

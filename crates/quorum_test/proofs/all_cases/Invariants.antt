@@ -1,7 +1,6 @@
 -- `all_cases` of the test program meets its contract: the length that is lent lies within the buffer. Assumes nothing.
 use lib.ListN.{length}
 use Prim.Native.Nat.{◌≤◌}
-use borrow.Author.Rules.{rules}
 use mathlib.Core.Path.{◌≡◌}
 use Rattle.quorum_test.proofs.all_cases.Given as goal
 

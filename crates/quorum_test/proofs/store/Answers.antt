@@ -1,9 +1,7 @@
 -- `store` of the test program meets its contract. Assumes nothing.
-use lib.ListN.{length, length-set}
-use Prim.Native.Nat.{◌≤◌, ◌-◌}
-use borrow.Author.Rules.{rules}
+use lib.ListN.{length-set}
 use native.Mathlib.Omega.{arith}
-use mathlib.Core.Path.{◌≡◌, refl}
+use mathlib.Core.Path.{refl}
 use Rattle.quorum_test.proofs.store.Goals as goal
 
 pub loop-i-init : goal.loop-i-init

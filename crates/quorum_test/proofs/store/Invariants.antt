@@ -1,9 +1,7 @@
 -- `store` of the test program meets its contract. Assumes nothing.
-use lib.ListN.{length, length-set}
+use lib.ListN.{length}
 use Prim.Native.Nat.{◌≤◌, ◌-◌}
-use borrow.Author.Rules.{rules}
-use native.Mathlib.Omega.{arith}
-use mathlib.Core.Path.{◌≡◌, refl}
+use mathlib.Core.Path.{◌≡◌}
 use Rattle.quorum_test.proofs.store.Given as goal
 
 abbrev pub invariant-loop-i : goal.invariant-loop-i

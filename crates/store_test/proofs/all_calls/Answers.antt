@@ -1,7 +1,6 @@
 -- The turns are counted down, and the buffer keeps its length. Assumes nothing.
-use borrow.Author.Rules.{rules}
 use Prim.Native.Nat.{ℕ}
-use lib.ListN.{length, length-replicate}
+use lib.ListN.{length-replicate}
 use Rattle.store_test.proofs.all_calls.Goals as goal
 
 pub loop-turns-init : goal.loop-turns-init

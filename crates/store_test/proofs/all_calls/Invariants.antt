@@ -1,5 +1,4 @@
 -- The turns are counted down, and the buffer keeps its length. Assumes nothing.
-use borrow.Author.Rules.{rules}
 use mathlib.Core.Path.{◌≡◌}
 use lib.ListN.{length}
 use Rattle.store_test.proofs.all_calls.Given as goal

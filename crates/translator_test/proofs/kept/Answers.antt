@@ -1,7 +1,4 @@
-use Prim.Native.Nat.{◌≤◌, ◌-◌}
 use native.Mathlib.Omega.{arith}
-use lib.ListN.{length}
-use borrow.Author.Rules.{rules}
 use Rattle.translator_test.proofs.kept.Goals as goal
 
 pub loop-i-smaller : goal.loop-i-smaller

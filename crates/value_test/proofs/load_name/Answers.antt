@@ -5,7 +5,6 @@ use Rattle.notice.specs.declared.Layout.TheVariants.{WellFormed}
 use Rattle.notice.specs.Layout.{check_of, count_of}
 use Rattle.notice.proofs.Stood.{stood_indexed}
 use Rattle.value.proofs.FieldValues.{found_right}
-use borrow.Author.Rules.{rules}
 use Rattle.value_test.proofs.load_name.Goals as goal
 
 pub find_name-found-requires : goal.find_name-found-requires

@@ -1,5 +1,3 @@
-use Prim.Native.Nat.{◌-◌}
-use borrow.Author.Rules.{rules}
 use Rattle.value_test.proofs.many.Goals as goal
 
 pub loop-i-init : goal.loop-i-init

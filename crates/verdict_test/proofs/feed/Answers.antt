@@ -1,11 +1,9 @@
 -- `verdict_test::feed` meets its contract: no byte before `end` is written. Assumes nothing.
-use mathlib.Core.Path.{◌≡◌, refl, ◌∙◌}
-use Prim.Native.Nat.{◌-◌, ◌≤◌}
+use mathlib.Core.Path.{refl, ◌∙◌}
 use native.Mathlib.Omega.{arith}
 use borrow.Author.Rules.{rules}
-use lib.ListN.{length, take, length-set}
+use lib.ListN.{length-set}
 use lib.Seq.{take-set-le}
-use Rattle.verdict_test.proofs.least.Reads as least-reads
 use Rattle.verdict_test.proofs.feed.Goals as goal
 
 pub loop-i-init : goal.loop-i-init

@@ -1,11 +1,7 @@
 -- `verdict_test::feed` meets its contract: no byte before `end` is written. Assumes nothing.
-use mathlib.Core.Path.{◌≡◌, refl, ◌∙◌}
+use mathlib.Core.Path.{◌≡◌}
 use Prim.Native.Nat.{◌-◌, ◌≤◌}
-use native.Mathlib.Omega.{arith}
-use borrow.Author.Rules.{rules}
-use lib.ListN.{length, take, length-set}
-use lib.Seq.{take-set-le}
-use Rattle.verdict_test.proofs.least.Reads as least-reads
+use lib.ListN.{length, take}
 use Rattle.verdict_test.proofs.feed.Given as goal
 
 abbrev pub invariant-loop-i : goal.invariant-loop-i

@@ -1,6 +1,5 @@
 -- `verdict_test::read_on` meets its contract. Assumes nothing.
 use Rattle.verdict_test.proofs.Laws.{fed_ready}
-use borrow.Author.Rules.{rules}
 use Rattle.verdict_test.proofs.read_on.Goals as goal
 
 pub returns : goal.returns

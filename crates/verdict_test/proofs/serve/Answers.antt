@@ -1,7 +1,6 @@
 -- `verdict_test::serve` meets its contract: the state always lies in its buffers. Assumes nothing.
 use Prim.Native.Nat.{ℕ}
 use native.Mathlib.Omega.{arith}
-use borrow.Author.Rules.{rules}
 use lib.ListN.{length-replicate}
 use Rattle.table.specs.Table.{most_bytes}
 use Rattle.verdict_test.proofs.Laws.{start_ready}

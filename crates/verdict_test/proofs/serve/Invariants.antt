@@ -1,7 +1,6 @@
 -- `verdict_test::serve` meets its contract: the state always lies in its buffers. Assumes nothing.
 use Prim.Native.Nat.{◌≤◌}
 use lib.ListN.{length}
-use borrow.Author.Rules.{rules}
 use Rattle.session.specs.State.{Ready}
 use Rattle.verdict_test.proofs.serve.Given as goal
 
