@@ -63,7 +63,7 @@ later_texts (◌then◌ (◌then◌ ts u) t) = later_texts (◌then◌ ts u) && 
 abbrev pub takes_name : Form → ℕ → Bool
 takes_name form count = eqb count 1 && is_name form
 
--- "`begins-with contains ends_with` take a name or a `fold-case` call, then 1..8 string literals."; `wildcard`: "Same argument forms as `begins-with`", `regex`: "Argument and bottom rules as for `begins-with`"
+-- "`begins-with contains ends-with` take a name or a `fold-case` call, then 1..8 string literals."; `wildcard`: "Same argument forms as `begins-with`", `regex`: "Argument and bottom rules as for `begins-with`"
 abbrev pub takes_texts : Form → ℕ → Bool → Bool
 takes_texts form count texts = (is_name form || is_folding form) && (leb 2 count && (leb count 9 && texts))
 

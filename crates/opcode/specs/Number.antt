@@ -123,7 +123,7 @@ is_nan_op = 53
 abbrev pub require_op : ℕ
 require_op = 54
 
--- `begins-with contains ends_with equals`, and of document 02 `wildcard`, `regex`
+-- `begins-with contains ends-with equals`, and of document 02 `wildcard`, `regex`
 abbrev pub begins_with_op : ℕ
 begins_with_op = 56
 

@@ -153,7 +153,7 @@ pub fn test_of(number: u16) -> Test
     }
 }
 
-// `begins-with contains ends_with equals wildcard regex`
+// `begins-with contains ends-with equals wildcard regex`
 pub fn many_of(number: u16) -> Many
     ensures { result ≡ many_in (op_of number) }
 {

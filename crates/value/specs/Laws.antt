@@ -29,7 +29,7 @@ abbrev pub TwoRises : Type 0
 TwoRises =
     (e : Edition) (o : Binary) (x x' y y' : Item) → ItemBelow x x' → ItemBelow y y' → ItemBelow (binary_of e o x y) (binary_of e o x' y')
 
--- Several operands rise, the first and the later ones: `begins-with contains ends_with equals wildcard regex`.
+-- Several operands rise, the first and the later ones: `begins-with contains ends-with equals wildcard regex`.
 abbrev pub ManyRises : Type 0
 ManyRises =
     (o : Many) (x x' : Item) (ys ys' : List Item) → ItemBelow x x' → EachBelow ItemBelow ys ys' → ItemBelow (many_items o x ys) (many_items o x' ys')

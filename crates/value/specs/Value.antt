@@ -160,7 +160,7 @@ connect_of Connective.And s t = and_of s t
 connect_of Connective.Xor s t = xor_of s t
 connect_of Connective.Or s t = or_of s t
 
--- whether a literal fits: "`begins-with contains ends_with`"; document 02, request 1: `wildcard`, "Same argument forms as `begins-with`, same bottom rule"; request 13: `regex`, "Argument and bottom rules as for `begins-with`"
+-- whether a literal fits: "`begins-with contains ends-with`"; document 02, request 1: `wildcard`, "Same argument forms as `begins-with`, same bottom rule"; request 13: `regex`, "Argument and bottom rules as for `begins-with`"
 abbrev pub fit_of : Fit → List ℕ → List ℕ → Bool
 fit_of Fit.BeginsWith s p = begins_of s p
 fit_of Fit.Contains s p = contains_of s p
@@ -185,7 +185,7 @@ abbrev pub any_equal : Value → List Value → Truth
 any_equal v [] = False
 any_equal v (w ∷ ws) = or_of (equal_values v w) (any_equal v ws)
 
--- "56..59: `begins-with contains ends_with equals`", 60: `wildcard`, 61: `regex`, of the first operand and the later ones in their order
+-- "56..59: `begins-with contains ends-with equals`", 60: `wildcard`, 61: `regex`, of the first operand and the later ones in their order
 abbrev pub many_of : Many → Value → List Value → Truth
 many_of (Many.Fit f) v ws = any_fit f v ws
 many_of Many.Equals v ws = any_equal v ws
