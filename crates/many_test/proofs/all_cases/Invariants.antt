@@ -1,5 +1,4 @@
 -- The turns are counted down. Assumes nothing.
-use borrow.Author.Rules.{rules}
 use Rattle.many_test.proofs.all_cases.Given as goal
 
 abbrev pub decreases-loop-turns : goal.decreases-loop-turns

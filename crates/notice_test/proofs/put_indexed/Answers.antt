@@ -3,7 +3,6 @@ use lib.ListN.{replicate}
 use Rattle.notice.specs.Layout.{check_of}
 use Rattle.notice.specs.declared.Layout.TheVariants.{WellFormed}
 use Rattle.notice.proofs.Stood.{stood_indexed}
-use borrow.Author.Rules.{rules}
 use Rattle.notice_test.proofs.put_indexed.Goals as goal
 
 pub put_halved-requires : goal.put_halved-requires
