@@ -49,8 +49,7 @@ fn sum<'a>(table: &'a [u8], notice: &'a [u8], starts: &[u16; 64], times: u32) ->
 }
 
 // The inner run so many times, table and notice checked once. It answers the sum of the runs' undecided entries, each 4,096 times, of their steps, each four times, and of their verdicts' ranks; 0 if the table fails the check or the notice is not well-formed.
-#[unsafe(no_mangle)]
-pub extern "C" fn repeat_run<'a>(table: &'a [u8], notice: &'a [u8], times: u32) -> u64
+pub fn repeat_run<'a>(table: &'a [u8], notice: &'a [u8], times: u32) -> u64
     ensures { result ≡ repeat_of table.now notice.now times }
 {
     if !table::check(table) {
