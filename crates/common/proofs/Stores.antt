@@ -1,11 +1,13 @@
--- Runs of stores: over two lists, before another store, and the turns of a copy and of a move up and down. Assumes nothing.
+-- Runs of stores: over two lists, before another store, what a copy of a part leaves, and the turns of a copy and of a move up. Assumes nothing.
 use mathlib.Core.Path.{◌≡◌, refl, sym, ap, ap₂, ◌∙◌}
 use mathlib.Core.List.{List, [], ◌∷◌, ◌++◌, append_assoc}
 use Prim.Native.Nat.{ℕ, suc, ◌+◌, ◌-◌, ◌≤◌, ◌<◌}
 use native.Mathlib.Omega.{arith}
 use native.Mathlib.Numerals.{add-one}
-use lib.ListN.{length, get_or, set, take, drop, length-append, length-drop}
-use lib.Seq.{sets, sets-eq, set_comm, get_or-set_other, drop-cons, take_at, drop-append-add, length-take-le, get_or-drop, get_or-take}
+use lib.ListN.{length, get_or, set, take, drop, length-append}
+use borrow.Rule.Slice.PartMut.{put_mid}
+use Rattle.std.proofs.lemmas.Slice.{put_mid-paste}
+use lib.Seq.{paste, take-length, sets, sets-eq, set_comm, get_or-set_other, drop-cons, take_at, drop-append-add, length-take-le}
 
 pub sets_append : (xs ys l : List ℕ) (i : ℕ) → sets l i (xs ++ ys) ≡ sets (sets l i xs) (i + length xs) ys
 sets_append [] ys l i = let e : i ≡ i + 0 = omega arith in ap (λ (n : ℕ). sets l n ys) e
@@ -36,13 +38,23 @@ sets_between p x y q i e l =
     drop_seam [] b = refl
     drop_seam (z ∷ zs) b = drop_seam zs b
 
--- a turn of `copy_to`
+-- a part of a list is copied into another, as `copy_within` and `copy_from_slice` leave it
+pub paste_sets : (d s : List ℕ) (at n : ℕ) → n ≤ length s → at + n ≤ length d → paste d at s n ≡ sets d at (take n s)
+paste_sets d s at n h r =
+    let l : length (take n s) ≡ n = length-take-le n s h in
+    sym (sets-eq (take n s) d at (omega arith) ∙ ap (λ (k : ℕ). take at d ++ take n s ++ drop (at + k) d) l)
+
+pub put_mid_sets : (d s : List ℕ) (at k : ℕ) → k ≡ length s → at + length s ≤ length d → put_mid at k d s ≡ sets d at s
+put_mid_sets d s at k e h =
+    put_mid-paste at k d s s (length s) refl (sym e) refl ∙ (paste_sets d s at (length s) (omega arith) h ∙ ap (sets d at) (take-length s))
+
+-- a turn of a copy byte by byte
 pub copied_one : (d s : List ℕ) (at i : ℕ) → i < length s → sets (set d (at + i) (get_or s i 0)) (at + (i + 1)) (drop (i + 1) s) ≡ sets d (at + i) (drop i s)
 copied_one d s at i h =
     let e : at + (i + 1) ≡ suc (at + i) = omega arith in
     rw (e, add-one, drop-cons s i 0 h)
 
--- a turn of `move_up`: the byte before those that have moved
+-- a turn of a move up: the byte before those that have moved
 module _ (d : List ℕ) (by end i : ℕ) (p : 0 < i) (q : i ≤ end) (r : end ≤ length d) where
   abbrev moved : ℕ → List ℕ
   moved j = sets d (j + by) (take (end - j) (drop j d))
@@ -59,14 +71,3 @@ module _ (d : List ℕ) (by end i : ℕ) (p : 0 < i) (q : i ≤ end) (r : end �
       ∙ (set_sets (take (end - i) (drop i d)) d (i + by) (i - 1 + by) (get_or d (i - 1) 0) (omega arith)
       ∙ (ap (λ (j : ℕ). sets (set d (i - 1 + by) (get_or d (i - 1) 0)) j (take (end - i) (drop i d))) m
       ∙ ap (sets d (i - 1 + by)) (sym t)))
-
--- a turn of `move_down`: the bytes that are still to be read are as they were
-pub lowered_one : (d d₀ : List ℕ) (at from n i : ℕ) → i < n → at ≤ from → from + n ≤ length d₀ → ((j : ℕ) → at + i ≤ j → get_or d j 0 ≡ get_or d₀ j 0)
-    → sets (set d (at + i) (get_or d (from + i) 0)) (at + (i + 1)) (drop (i + 1) (take n (drop from d₀))) ≡ sets d (at + i) (drop i (take n (drop from d₀)))
-lowered_one d d₀ at from n i h a f same =
-    let x : List ℕ = take n (drop from d₀) in
-    let l = length-drop from d₀ in
-    let m : n ≤ length (drop from d₀) = omega arith in
-    let k : i < length x = omega (arith, length-take-le n (drop from d₀) m) in
-    let g : get_or d (from + i) 0 ≡ get_or x i 0 = same (from + i) (omega arith) ∙ sym (get_or-drop from d₀ i 0) ∙ sym (get_or-take n (drop from d₀) i 0 h) in
-    ap (λ (v : ℕ). sets (set d (at + i) v) (at + (i + 1)) (drop (i + 1) x)) g ∙ copied_one d x at i k

@@ -9,11 +9,7 @@ pub fn copy_to(buffer: &mut [u8], at: usize, s: &[u8])
     requires { at + length s.now ≤ length buffer.old }
     ensures { buffer.new ≡ sets buffer.old at s.now }
 {
-    let mut i = 0;
-    while i < s.len() {
-        buffer[at + i] = s[i];
-        i += 1;
-    }
+    buffer[at..at + s.len()].copy_from_slice(s);
 }
 
 // Moves the bytes from `at` to `end` up by `by`.
@@ -21,11 +17,7 @@ pub fn move_up(buffer: &mut [u8], at: usize, end: usize, by: usize)
     requires { (at ≤ end) × (end + by ≤ length buffer.old) }
     ensures { buffer.new ≡ sets buffer.old (at + by) (take (end - at) (drop at buffer.old)) }
 {
-    let mut i = end;
-    while at < i {
-        i -= 1;
-        buffer[i + by] = buffer[i];
-    }
+    buffer.copy_within(at..end, at + by);
 }
 
 // Moves the bytes from `from` to `end` down to `at`.
@@ -33,10 +25,5 @@ pub fn move_down(buffer: &mut [u8], at: usize, from: usize, end: usize)
     requires { (at ≤ from) × (from ≤ end) × (end ≤ length buffer.old) }
     ensures { buffer.new ≡ sets buffer.old at (take (end - from) (drop from buffer.old)) }
 {
-    let n = end - from;
-    let mut i = 0;
-    while i < n {
-        buffer[at + i] = buffer[from + i];
-        i += 1;
-    }
+    buffer.copy_within(from..end, at);
 }
