@@ -1,4 +1,5 @@
 -- The guarded run's answers: the refusals, and the last machine's slot, steps and undecided entry. Assumes nothing.
+use Rattle.std.specs.Prelude.{Ok, Err}
 use mathlib.Core.Path.{◌≡◌, refl, sym, ap, ◌∙◌}
 use mathlib.Core.Bool.{Bool, true, false}
 use mathlib.Core.List.{List}
@@ -8,7 +9,10 @@ use lib.ListN.{length, get_or}
 use lib.Seq.{sets}
 use Rattle.common.specs.Choice.{pick}
 use Rattle.truth.specs.declared.Truth.{Truth}
-use Rattle.notice.specs.declared.Layout.{Layout}
+use Rattle.refusal.specs.declared.Refusal.{Refusal}
+use Rattle.refusal.specs.Refusal.{number_of as refusal_number, place_of as refusal_place}
+use Rattle.refusal.proofs.Numbers.{refuses}
+use Rattle.notice.specs.Layout.{Layout}
 use Rattle.notice.specs.Layout.{check_of as noticeCheck, number_of, stood_of, Indexed}
 use Rattle.notice.proofs.Stood.{stood_indexed}
 use Rattle.table.specs.Table.{count_of, pool_of, decode}
@@ -26,7 +30,7 @@ use Rattle.interpreter.proofs.Visits.{as_many}
 use Rattle.interpreter.proofs.Theorems.{run_ends}
 
 -- the array that an index of the notice leaves, where it was lent as a part that is the whole
-pub indexed : {left : List ℕ} (notice part starts : List ℕ) → part ≡ notice → noticeCheck notice ≡ Layout.WellFormed → left ≡ sets starts 0 (stood_of part) → length starts ≡ 64
+pub indexed : {left : List ℕ} (notice part starts : List ℕ) → part ≡ notice → noticeCheck notice ≡ Ok tt → left ≡ sets starts 0 (stood_of part) → length starts ≡ 64
     → Indexed notice left
 indexed notice part starts p well e long = rw (e, p) (stood_indexed notice well starts long)
 
@@ -34,19 +38,19 @@ module _ (table notice : List ℕ) where
   pub table_refused : tableCheck table ≡ false → refused (refusal_of false) 0 ≡ running_of table notice
   table_refused e = rw e
 
-  pub notice_refused : (place : ℕ) → tableCheck table ≡ true → noticeCheck notice ≡ Layout.Fault place → refused (number_of (Layout.Fault place)) place ≡ running_of table notice
-  notice_refused place e f = rw (e, f)
+  pub notice_refused : (r : Refusal) → tableCheck table ≡ true → noticeCheck notice ≡ Err r → refused (refusal_number r) (refusal_place r) ≡ running_of table notice
+  notice_refused r e f = rw (e, f)
 
-  pub neither_refused : tableCheck table ≡ true → noticeCheck notice ≡ Layout.WellFormed → answer_of (decode table) notice ≡ running_of table notice
+  pub neither_refused : tableCheck table ≡ true → noticeCheck notice ≡ Ok tt → answer_of (decode table) notice ≡ running_of table notice
   neither_refused e f = rw (e, f)
 
   -- a run that is not refused has found the notice well-formed
-  pub ran_well : (running_of table notice).number ≡ 0 → noticeCheck notice ≡ Layout.WellFormed
+  pub ran_well : (running_of table notice).number ≡ 0 → noticeCheck notice ≡ Ok tt
   ran_well = go (tableCheck table) (noticeCheck notice)
     where
-      go : (b : Bool) (l : Layout) → (pick b (λ _. on_layout l (λ _. answer_of (decode table) notice)) (λ _. refused (refusal_of false) 0)).number ≡ 0 → l ≡ Layout.WellFormed
-      go true Layout.WellFormed z = refl
-      go true (Layout.Fault place) z = absurd (omega arith)
+      go : (b : Bool) (l : Layout) → (pick b (λ _. on_layout l (λ _. answer_of (decode table) notice)) (λ _. refused (refusal_of false) 0)).number ≡ 0 → l ≡ Ok tt
+      go true (Ok u) z = refl
+      go true (Err r) z = refuses r z
       go false l z = absurd (omega arith)
 
   -- the last machine of the whole run

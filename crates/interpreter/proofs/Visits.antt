@@ -1,4 +1,5 @@
 -- One visit of the loop, by the group of the entry's operator: what there is room for, and that the loop's variables after it are the rule's. Assumes nothing.
+use Rattle.std.specs.Prelude.{Some, None, Option as Optional}
 use mathlib.Core.Path.{◌≡◌, refl, sym, ap, ap₂, ◌∙◌, subst}
 use mathlib.Core.Bool.{Bool, true, false, cond, ◌&&◌}
 use mathlib.Core.List.{List, ◌∷◌, ◌++◌, map, reverse}
@@ -20,8 +21,7 @@ use Rattle.opcode.specs.declared.Skip.{Skip}
 use Rattle.opcode.specs.declared.Op.{Op}
 use Rattle.notice.specs.Field.{size_right}
 use Rattle.notice.specs.Lookup.{lookup_of}
-use Rattle.notice.specs.declared.Found.{Found}
-use Rattle.notice.specs.declared.Found.TheVariants.{At, Nothing}
+use Rattle.notice.specs.declared.FoundField.{FoundField}
 use Rattle.table.specs.Table.{edition_of, count_of, entry_at, pool_of, decode}
 use Rattle.table.specs.Check.{part_right, skip_op, check_of}
 use Rattle.table.proofs.Tests.{both_true}
@@ -295,16 +295,16 @@ module _ {s pool notice : List ℕ} {n budget : ℕ} {stack : List Slot} {next d
       omega (arith, part, p, q, ap length v.going.strings)
 
   -- it gives the value of its field, which is not bottom, or bottom where no field has it
-  module _ (v : Visiting s pool notice n budget stack next depth passed end first (Op.Load Load.Name)) {a b : ℕ} {found : Found} (p : a ≡ (entry_at s next).a) (q : b ≡ (entry_at s next).b) (h : found ≡ lookup_of notice (in_pool pool a b)) where
-    named : {f : Found} → found ≡ f → load_of pool notice Load.Name a b ≡ value (found_value notice f)
-    named e = ap (λ (x : Found). value (found_value notice x)) (sym h ∙ e)
+  module _ (v : Visiting s pool notice n budget stack next depth passed end first (Op.Load Load.Name)) {a b : ℕ} {found : Optional FoundField} (p : a ≡ (entry_at s next).a) (q : b ≡ (entry_at s next).b) (h : found ≡ lookup_of notice (in_pool pool a b)) where
+    named : {f : Optional FoundField} → found ≡ f → load_of pool notice Load.Name a b ≡ value (found_value notice f)
+    named e = ap (λ (x : Optional FoundField). value (found_value notice x)) (sym h ∙ e)
 
-    pub name_found : {kind start len : ℕ} (r : Slot) → found ≡ At kind start len → size_right kind len ≡ true
+    pub name_found : {kind start len : ℕ} (r : Slot) → found ≡ Some (record { kind = kind; start = start; len = len }) → size_right kind len ≡ true
         → item_in pool notice r ≡ value (field_value kind (take len (drop start notice)))
         → Going s pool notice n budget (set stack depth r) (next + 1) (depth + 1) passed end first
     name_found {kind} {start} {len} r e z f = load_known v r p q (f ∙ sym (named e)) (ap is_bottom (named e) ∙ field_known kind len (take len (drop start notice)) z)
 
-    pub name_missing : {first' : ℕ} (r : Slot) → found ≡ Nothing → item_in pool notice r ≡ value bottom
+    pub name_missing : {first' : ℕ} (r : Slot) → found ≡ None → item_in pool notice r ≡ value bottom
         → first' ≡ with_next first next (is_bottom (item_in pool notice r))
         → Going s pool notice n budget (set stack depth r) (next + 1) (depth + 1) passed end first'
     name_missing r e f u = load_law v r p q (f ∙ sym (named e)) u

@@ -1,9 +1,9 @@
 -- The guarded run. Document 01, "Refusals by number": "Running: 12 before 11."; "Running answers number, place, verdict (bottom if refused) and steps (0 if refused)." Document 02, request 7: "A refused run .. give[s] 65535."
-use Rattle.std.specs.Prelude.{ℕ, false, List}
+use Rattle.std.specs.Prelude.{ℕ, false, List, Ok, Err}
 use Rattle.common.specs.Choice.{pick}
 use Rattle.truth.specs.declared.Truth.TheVariants.{Bottom}
 use Rattle.notice.specs.Layout.{check_of as noticeCheck, number_of, place_of}
-use Rattle.notice.specs.declared.Layout.{Layout}
+use Rattle.notice.specs.Layout.{Layout}
 use Rattle.table.specs.Table.{Program, decode}
 use Rattle.table.specs.Check.{check_of as tableCheck, refusal_of}
 use Rattle.interpreter.specs.declared.Ran.{Ran}
@@ -19,8 +19,8 @@ answer_of p notice = record { number = 0; place = 0; verdict = verdict_of (run_o
 
 -- a notice that fails its layout is refused by `number_of`'s 11, with its place
 abbrev pub on_layout : Layout → (Unit {0} → Ran) → Ran
-on_layout Layout.WellFormed answer = answer tt
-on_layout (Layout.Fault place) answer = refused (number_of (Layout.Fault place)) (place_of (Layout.Fault place))
+on_layout (Ok u) answer = answer tt
+on_layout (Err r) answer = refused (number_of (Err r)) (place_of (Err r))
 
 -- a table that fails its check is refused by `refusal_of`'s 12; then the notice is judged; then the whole run is answered
 abbrev pub running_of : List ℕ → List ℕ → Ran

@@ -3,7 +3,6 @@
 
 ghost use Rattle.std.specs.Prelude.{◌≡◌, true, cond, ◌&&◌, List, ℕ, ◌+◌, ◌-◌, ◌*◌, ◌/◌, ◌≤◌, ◌<◌, eqb, ltb};
 ghost use Rattle.notice.specs.Layout.{check_of as noticeCheck, Indexed};
-ghost use Rattle.notice.specs.declared.Layout.TheVariants.{WellFormed};
 ghost use Rattle.table.specs.Table.{decode};
 ghost use Rattle.table.specs.Check.{check_of};
 ghost use Rattle.value.specs.Value.{is_bottom};
@@ -12,7 +11,7 @@ ghost use Rattle.interpreter.specs.Run.{skips};
 ghost use Rattle.interpreter.specs.Machine.{limit_of, Visited};
 ghost use Rattle.interpreter.specs.Running.{refused as refusedWith, answer_of, running_of};
 
-use notice::{Found, Layout};
+use notice::FoundField;
 use opcode::groups::Group;
 use opcode::{Skip, groups};
 use truth::Truth;
@@ -83,7 +82,7 @@ pub fn run_indexed<'a>(
     starts: &[u16; 64],
     budget: usize,
 ) -> Machine
-    requires { (check_of table.now ≡ true) × (noticeCheck notice.now ≡ WellFormed) × Indexed notice.now starts.now }
+    requires { (check_of table.now ≡ true) × (noticeCheck notice.now ≡ Ok tt) × Indexed notice.now starts.now }
     ensures { Visited table.now notice.now budget result }
 {
     let n = table::count(table);
@@ -129,10 +128,10 @@ pub fn run_indexed<'a>(
                 let i = depth;
                 depth = depth + 1;
                 match found {
-                    Found::At { kind, start, len } => {
+                    Some(FoundField { kind, start, len }) => {
                         stack[i] = value::field(notice, kind, start, len);
                     }
-                    Found::Nothing => {
+                    None => {
                         let r = value::missing();
                         stack[i] = r;
                         first = noted(first, next, r);
@@ -277,7 +276,7 @@ fn refused(number: u8, place: usize) -> Ran
 
 // The same for a caller who has no starts: it makes them.
 pub fn run_checked<'a>(table: &'a [u8], notice: &'a [u8], budget: usize) -> Machine
-    requires { (check_of table.now ≡ true) × (noticeCheck notice.now ≡ WellFormed) }
+    requires { (check_of table.now ≡ true) × (noticeCheck notice.now ≡ Ok tt) }
     ensures { Visited table.now notice.now budget result }
 {
     let mut starts: [u16; 64] = [0; 64];
@@ -287,7 +286,7 @@ pub fn run_checked<'a>(table: &'a [u8], notice: &'a [u8], budget: usize) -> Mach
 
 // The whole run, with what `run_indexed` asks: "At N it ends and the one slot is the verdict."
 pub fn run_whole<'a>(table: &'a [u8], notice: &'a [u8], starts: &[u16; 64]) -> Ran
-    requires { (check_of table.now ≡ true) × (noticeCheck notice.now ≡ WellFormed) × Indexed notice.now starts.now }
+    requires { (check_of table.now ≡ true) × (noticeCheck notice.now ≡ Ok tt) × Indexed notice.now starts.now }
     ensures { result ≡ answer_of (decode table.now) notice.now }
 {
     let n = table::count(table);
@@ -312,8 +311,8 @@ pub fn run_kept<'a>(table: &'a [u8], notice: &'a [u8]) -> Ran
     let mut starts: [u16; 64] = [0; 64];
     let layout = notice::index(&notice[0..], &mut starts);
     match layout {
-        Layout::WellFormed => run_whole(table, notice, &starts),
-        Layout::Fault(place) => refused(11, place),
+        Ok(()) => run_whole(table, notice, &starts),
+        Err(r) => refused(r.number(), r.place()),
     }
 }
 

@@ -1,4 +1,5 @@
 -- The byte of one place, the turns over the 64 places, and what is answered, refusal by refusal. Assumes nothing.
+use Rattle.std.specs.Prelude.{Ok, Err}
 use mathlib.Core.Path.{◌≡◌, refl, sym, ap, ap₂, ◌∙◌}
 use mathlib.Core.Bool.{true, false}
 use mathlib.Core.List.{List, []}
@@ -9,8 +10,10 @@ use lib.ListN.{length, get_or, set, drop, length-set, length-map, drop_of_length
 use lib.Seq.{sets}
 use borrow.Author.Tests.{le-leb, lt-leb}
 use Rattle.common.proofs.Stores.{copied_one}
+use Rattle.refusal.specs.declared.Refusal.{Refusal}
+use Rattle.refusal.specs.Refusal.{number_of as refusal_number, place_of as refusal_place}
+use Rattle.refusal.proofs.Numbers.{not_zero}
 use Rattle.notice.specs.Layout.{check_of as noticeCheck}
-use Rattle.notice.specs.declared.Layout.TheVariants.{WellFormed, Fault}
 use Rattle.interpreter.specs.Running.{running_of}
 use Rattle.store.specs.Layout.{right_of, places_in}
 use Rattle.store.specs.Calls.{held_refusal, fetched_of}
@@ -72,10 +75,10 @@ module _ (store notice verdicts : List ℕ) (r : Matched) where
   match_broken b e = record { answer = e ∙ rw b; bytes = rw b }
 
   module _ (ok : right_of store ≡ true) where
-    pub match_faulty : (place : ℕ) → noticeCheck notice ≡ Fault place → r ≡ answered 11 place → Matches store notice verdicts verdicts r
-    match_faulty place f e = record { answer = e ∙ rw (ok, f); bytes = rw (ok, f) }
+    pub match_faulty : (f : Refusal) → noticeCheck notice ≡ Err f → r ≡ answered (refusal_number f) (refusal_place f) → Matches store notice verdicts verdicts r
+    match_faulty f w e = record { answer = e ∙ rw (ok, w); bytes = rw (ok, w, not_zero f) }
 
-    module _ (well : noticeCheck notice ≡ WellFormed) where
+    module _ (well : noticeCheck notice ≡ Ok tt) where
       pub match-short : length verdicts < 64 → r ≡ answered 9 0 → Matches store notice verdicts verdicts r
       match-short h e = let l = lt-leb 64 (length verdicts) h in record { answer = e ∙ rw (ok, well, l); bytes = rw (ok, well, l) }
 

@@ -1,4 +1,5 @@
 -- The theorems that specs/Theorems.antt states. Assumes nothing.
+use Rattle.std.specs.Prelude.{Ok, Err}
 use mathlib.Core.Path.{◌≡◌, refl, sym, ap, ◌∙◌}
 use mathlib.Core.Bool.{Bool, true, false, cond}
 use mathlib.Core.List.{List, [], ◌∷◌, ◌++◌}
@@ -11,9 +12,9 @@ use lib.ListN.{length, get_or, take, drop, length-drop, length-map, take-append-
 use lib.Seq.{sets-eq, drop_at}
 use borrow.Author.Tests.{leb-true, eq-eqb, ne_eqb}
 use Rattle.common.specs.Choice.{pick}
+use Rattle.refusal.proofs.Numbers.{refuses}
 use Rattle.notice.specs.Layout.{check_of as noticeCheck}
-use Rattle.notice.specs.declared.Layout.{Layout}
-use Rattle.notice.specs.declared.Layout.TheVariants.{WellFormed, Fault}
+use Rattle.notice.specs.Layout.{Layout}
 use Rattle.interpreter.specs.Running.{running_of}
 use Rattle.interpreter.specs.declared.Ran.{Ran}
 use Rattle.store.specs.declared.Part.{Part}
@@ -48,8 +49,8 @@ end_to_end tables = joined_from (length tables) tables (omega arith)
 -- ---- what is not refused
 
 not_refused : (l : Layout) (count room : ℕ) → refusal_of l count room ≡ 0 → (count ≤ 64) × (count ≤ room)
-not_refused (Fault place) count room z = absurd (omega arith)
-not_refused WellFormed count room z = go (leb count 64) (leb count room) refl refl z
+not_refused (Err r) count room z = refuses r z
+not_refused (Ok u) count room z = go (leb count 64) (leb count room) refl refl z
   where
     go : (a b : Bool) → leb count 64 ≡ a → leb count room ≡ b → ◌≡◌ {A = ℕ} (cond a (cond b 0 9) 24) 0 → (count ≤ 64) × (count ≤ room)
     go true true p q e = (leb-true count 64 p, leb-true count room q)
@@ -126,8 +127,8 @@ module _ (store notice verdicts after : List ℕ) (r : Matched) (m : Matches sto
 
         go : (b : Bool) → right_of store ≡ b → (l : Layout) → refused_by (pick b (λ _. some (places_in store)) (λ _. none)) l (length verdicts) ≡ 0 → (right_of store ≡ true) × (64 ≤ length verdicts)
         go false p l e = absurd (omega arith)
-        go true p (Fault place) e = absurd (omega arith)
-        go true p WellFormed e = (p, by_room (leb 64 (length verdicts)) refl e)
+        go true p (Err r) e = refuses r e
+        go true p (Ok u) e = (p, by_room (leb 64 (length verdicts)) refl e)
 
     match_accepted : eqb (match_refusal store notice (length verdicts)) 0 ≡ true
     match_accepted = eq-eqb (match_refusal store notice (length verdicts)) 0 (sym match_number ∙ z)

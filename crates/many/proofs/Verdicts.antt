@@ -1,4 +1,5 @@
 -- The verdict byte of one table, the walk that writes them, and what is answered, refusal by refusal. Assumes nothing.
+use Rattle.std.specs.Prelude.{Ok, Err}
 use mathlib.Core.Path.{◌≡◌, refl, sym, ap, ◌∙◌}
 use mathlib.Core.Bool.{false}
 use mathlib.Core.List.{List, ◌∷◌, map}
@@ -9,8 +10,10 @@ use lib.ListN.{length, get_or, set, take, drop, length-set}
 use lib.Seq.{sets, drop-cons}
 use borrow.Author.Tests.{le-leb, lt-leb, eq-eqb}
 use Rattle.truth.specs.Truth.{number_of as verdictNumber}
+use Rattle.refusal.specs.declared.Refusal.{Refusal}
+use Rattle.refusal.specs.Refusal.{number_of as refusal_number, place_of as refusal_place}
+use Rattle.refusal.proofs.Numbers.{not_zero}
 use Rattle.notice.specs.Layout.{check_of as noticeCheck}
-use Rattle.notice.specs.declared.Layout.TheVariants.{WellFormed, Fault}
 use Rattle.table.specs.Check.{check_of as tableCheck}
 use Rattle.interpreter.specs.declared.Ran.{Ran}
 use Rattle.interpreter.specs.Running.{running_of}
@@ -73,10 +76,10 @@ module _ (tables notice was now : List ℕ) (i at : ℕ) (g : Delivering tables 
 -- ---- what is answered: 11, 24, 9 in this order
 
 module _ (tables notice verdicts : List ℕ) (r : Delivered) where
-  pub many_faulty : (place : ℕ) → noticeCheck notice ≡ Fault place → r ≡ record { number = 11; place = place; count = 0 } → Delivers tables notice verdicts verdicts r
-  many_faulty place f e = record { answer = e ∙ rw f; bytes = rw f }
+  pub many_faulty : (f : Refusal) → noticeCheck notice ≡ Err f → r ≡ record { number = refusal_number f; place = refusal_place f; count = 0 } → Delivers tables notice verdicts verdicts r
+  many_faulty f w e = record { answer = e ∙ rw (w, not_zero f); bytes = rw (w, not_zero f) }
 
-  module _ (well : noticeCheck notice ≡ WellFormed) where
+  module _ (well : noticeCheck notice ≡ Ok tt) where
     pub many_over : 64 < length (stretches_of tables) → r ≡ record { number = 24; place = 0; count = 0 } → Delivers tables notice verdicts verdicts r
     many_over h e = let l = lt-leb (length (stretches_of tables)) 64 h in record { answer = e ∙ rw (well, l); bytes = rw (well, l) }
 

@@ -1,11 +1,10 @@
 -- One notice, the tables that a store holds: one call that runs each of them and writes 64 bytes, by number. Document 02, requests 8 and 12.
-use Rattle.std.specs.Prelude.{ℕ, ◌≡◌, cond, List, map, eqb, leb, length}
+use Rattle.std.specs.Prelude.{ℕ, ◌≡◌, cond, List, map, eqb, leb, length, Ok, Err}
 use Rattle.std.proofs.Math.Option.{Option, none, some}
 use Rattle.std.proofs.lemmas.List.Edits.{sets}
 use Rattle.common.specs.Choice.{pick}
 use Rattle.notice.specs.Layout.{check_of as noticeCheck, number_of, place_of}
-use Rattle.notice.specs.declared.Layout.{Layout}
-use Rattle.notice.specs.declared.Layout.TheVariants.{WellFormed, Fault}
+use Rattle.notice.specs.Layout.{Layout}
 use Rattle.interpreter.specs.Running.{running_of}
 use Rattle.store.specs.Layout.{Place, places_in, places_of}
 use Rattle.many.specs.Many.{verdict_byte}
@@ -23,8 +22,8 @@ held_verdicts store notice = map (place_byte notice) (places_in store)
 -- 26 for bytes that are no store, then 11, then 9 if the verdict buffer has under 64 bytes; 0 for none
 abbrev pub refused_by : Option (List Place) → Layout → ℕ → ℕ
 refused_by none layout room = 26
-refused_by (some ps) (Fault place) room = number_of (Fault place)
-refused_by (some ps) WellFormed room = cond (leb 64 room) 0 9
+refused_by (some ps) (Err r) room = number_of (Err r)
+refused_by (some ps) (Ok u) room = cond (leb 64 room) 0 9
 
 abbrev pub match_refusal : List ℕ → List ℕ → ℕ → ℕ
 match_refusal store notice room = refused_by (places_of store) (noticeCheck notice) room

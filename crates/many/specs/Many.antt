@@ -1,13 +1,12 @@
 -- One notice, many subscriptions. Document 02, request 8: "A single call shall take up to 64 tables laid end to end and one notice, and write per table one byte: 0 false, 1 true, 2 bottom, 3 table refused.
 -- The result must be the same as calling one by one, and the number of verdict bytes is returned, 0 if refused."
-use Rattle.std.specs.Prelude.{ℕ, zero, suc, ◌+◌, ◌≡◌, cond, ◌&&◌, List, [], ◌∷◌, map, eqb, leb, length, take, drop}
+use Rattle.std.specs.Prelude.{ℕ, zero, suc, ◌+◌, ◌≡◌, cond, ◌&&◌, List, [], ◌∷◌, map, eqb, leb, length, take, drop, Ok, Err}
 use Rattle.std.proofs.lemmas.List.Edits.{sets}
 use Rattle.common.specs.Choice.{pick}
 use Rattle.word.specs.Word.{word_at}
 use Rattle.truth.specs.Truth.{number_of as verdictNumber}
 use Rattle.notice.specs.Layout.{check_of as noticeCheck, number_of, place_of}
-use Rattle.notice.specs.declared.Layout.{Layout}
-use Rattle.notice.specs.declared.Layout.TheVariants.{WellFormed, Fault}
+use Rattle.notice.specs.Layout.{Layout}
 use Rattle.interpreter.specs.Running.{running_of}
 use Rattle.interpreter.specs.declared.Ran.{Ran}
 use Rattle.many.specs.declared.Delivered.{Delivered}
@@ -41,8 +40,8 @@ verdicts_of tables notice = map (λ t. verdict_byte (running_of t notice)) (stre
 
 -- "Refusals: 11, then 24 for over 64 tables, then 9 if the verdict buffer is short."; 0 for none
 abbrev pub refusal_of : Layout → ℕ → ℕ → ℕ
-refusal_of (Fault place) count room = number_of (Fault place)
-refusal_of WellFormed count room = cond (leb count 64) (cond (leb count room) 0 9) 24
+refusal_of (Err r) count room = number_of (Err r)
+refusal_of (Ok u) count room = cond (leb count 64) (cond (leb count room) 0 9) 24
 
 abbrev pub many_refusal : List ℕ → List ℕ → ℕ → ℕ
 many_refusal tables notice room = refusal_of (noticeCheck notice) (length (stretches_of tables)) room

@@ -3,13 +3,11 @@ ghost use Rattle.std.specs.Prelude.{◌≡◌, true, ◌≤◌, length, get_or};
 ghost use Rattle.std.proofs.Math.Option.{none};
 ghost use Rattle.std.proofs.lemmas.List.Edits.{sets};
 ghost use Rattle.notice.specs.Layout.{check_of as noticeCheck, Indexed};
-ghost use Rattle.notice.specs.declared.Layout.TheVariants.{WellFormed};
 ghost use Rattle.store.specs.Layout.{places_in};
 ghost use Rattle.store.specs.Calls.{Indexes};
 ghost use Rattle.many.specs.Held.{place_byte, held_verdicts, answered, Matches};
 
 use crate::{Matched, verdict};
-use notice::Layout;
 
 fn answer(number: u8, place: usize) -> Matched
     ensures { result ≡ answered number place }
@@ -25,7 +23,7 @@ fn byte_of<'a>(
     notice: &'a [u8],
     starts: &[u16; 64],
 ) -> u8
-    requires { Indexes store.now records.now × (noticeCheck notice.now ≡ WellFormed) × Indexed notice.now starts.now }
+    requires { Indexes store.now records.now × (noticeCheck notice.now ≡ Ok tt) × Indexed notice.now starts.now }
     ensures { result ≡ place_byte notice.now (get_or (places_in store.now) number none) }
 {
     let p = store::part_of(store, records, number);
@@ -45,7 +43,7 @@ fn deliver_held<'a>(
     starts: &[u16; 64],
     verdicts: &mut [u8],
 )
-    requires { Indexes store.now records.now × (noticeCheck notice.now ≡ WellFormed) × Indexed notice.now starts.now × (64 ≤ length verdicts.old) }
+    requires { Indexes store.now records.now × (noticeCheck notice.now ≡ Ok tt) × Indexed notice.now starts.now × (64 ≤ length verdicts.old) }
     ensures { verdicts.new ≡ sets verdicts.old 0 (held_verdicts store.now notice.now) }
 {
     let mut i = 0;
@@ -68,14 +66,14 @@ fn judge_held<'a>(
     let mut starts: [u16; 64] = [0; 64];
     let layout = notice::index(notice, &mut starts);
     match layout {
-        Layout::WellFormed => {
+        Ok(()) => {
             if verdicts.len() < 64 {
                 return answer(9, 0);
             }
             deliver_held(store, records, notice, &starts, verdicts);
             answer(0, 0)
         }
-        Layout::Fault(place) => answer(11, place),
+        Err(r) => answer(r.number(), r.place()),
     }
 }
 

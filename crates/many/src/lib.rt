@@ -4,11 +4,8 @@
 ghost use Rattle.std.specs.Prelude.{◌≡◌, cond, ◌+◌, ◌≤◌, ◌<◌, leb, length, drop};
 ghost use Rattle.std.proofs.lemmas.List.Edits.{sets};
 ghost use Rattle.notice.specs.Layout.{check_of as noticeCheck, Indexed};
-ghost use Rattle.notice.specs.declared.Layout.TheVariants.{WellFormed};
 ghost use Rattle.interpreter.specs.Running.{running_of};
 ghost use Rattle.many.specs.Many.{extent_of, stretches_of, verdict_byte, verdicts_of, Delivers};
-
-use notice::Layout;
 
 mod held;
 
@@ -70,7 +67,7 @@ fn count(tables: &[u8]) -> usize
 
 // The verdict byte of one table: 3 if it fails its check, else that of its run. It asks for a notice found well-formed and the starts of its fields.
 fn verdict<'a>(table: &'a [u8], notice: &'a [u8], starts: &[u16; 64]) -> u8
-    requires { (noticeCheck notice.now ≡ WellFormed) × Indexed notice.now starts.now }
+    requires { (noticeCheck notice.now ≡ Ok tt) × Indexed notice.now starts.now }
     ensures { result ≡ verdict_byte (running_of table.now notice.now) }
 {
     if !table::check(table) {
@@ -83,7 +80,7 @@ fn verdict<'a>(table: &'a [u8], notice: &'a [u8], starts: &[u16; 64]) -> u8
 
 // The verdicts of at most 64 tables, one after the other. It asks for room for them.
 fn deliver<'a>(tables: &'a [u8], notice: &'a [u8], starts: &[u16; 64], verdicts: &mut [u8])
-    requires { (noticeCheck notice.now ≡ WellFormed) × Indexed notice.now starts.now × (length (stretches_of tables.now) ≤ 64) × (length (stretches_of tables.now) ≤ length verdicts.old) }
+    requires { (noticeCheck notice.now ≡ Ok tt) × Indexed notice.now starts.now × (length (stretches_of tables.now) ≤ 64) × (length (stretches_of tables.now) ≤ length verdicts.old) }
     ensures { verdicts.new ≡ sets verdicts.old 0 (verdicts_of tables.now notice.now) }
 {
     let mut i = 0;
@@ -103,7 +100,7 @@ fn judge<'a>(
     starts: &[u16; 64],
     verdicts: &mut [u8],
 ) -> Delivered
-    requires { (noticeCheck notice.now ≡ WellFormed) × Indexed notice.now starts.now }
+    requires { (noticeCheck notice.now ≡ Ok tt) × Indexed notice.now starts.now }
     ensures { Delivers tables.now notice.now verdicts.old verdicts.new result }
 {
     let n = count(tables);
@@ -128,7 +125,7 @@ pub fn run_many<'a>(tables: &'a [u8], notice: &'a [u8], verdicts: &mut [u8]) -> 
     let mut starts: [u16; 64] = [0; 64];
     let layout = notice::index(notice, &mut starts);
     match layout {
-        Layout::WellFormed => judge(tables, notice, &starts, verdicts),
-        Layout::Fault(place) => refused(11, place),
+        Ok(()) => judge(tables, notice, &starts, verdicts),
+        Err(r) => refused(r.number(), r.place()),
     }
 }

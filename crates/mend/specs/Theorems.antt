@@ -1,9 +1,9 @@
 -- What holds of mending, of the code's own answers, by its promise. The proofs are in proofs/Theorems.antt, under the same names.
-use Rattle.std.specs.Prelude.{◌≡◌, Bool, true, not, ◌&&◌, ℕ, zero, suc, ◌+◌, ◌*◌, ◌≤◌, eqb, length, get_or, take, drop}
+use Rattle.std.specs.Prelude.{◌≡◌, Bool, true, not, ◌&&◌, ℕ, zero, suc, ◌+◌, ◌*◌, ◌≤◌, eqb, length, get_or, take, drop, Ok}
 use mathlib.Core.List.{List, [], ◌∷◌, map, Permᴰ}
 use Rattle.common.specs.Each.{Each}
 use Rattle.word.specs.Word.{word_at, Bytes}
-use Rattle.notice.specs.declared.Layout.{Layout}
+use Rattle.notice.specs.Layout.{Layout}
 use Rattle.notice.specs.Render.{field_bytes, fields_bytes}
 use Rattle.notice.specs.Layout.{size_at, field_at, count_of, check_of, starts_of, fields_of}
 use Rattle.mend.specs.declared.Mended.{Mended}
@@ -34,7 +34,7 @@ ListRead = (s list notice : List ℕ) (m : MendCall s list notice) → m.answer.
 
 -- "writes a well-formed notice"
 abbrev pub ResultWellFormed : Type 0
-ResultWellFormed = (s list notice : List ℕ) (m : MendCall s list notice) → m.answer.number ≡ 0 → check_of (result_of m) ≡ Layout.WellFormed
+ResultWellFormed = (s list notice : List ℕ) (m : MendCall s list notice) → m.answer.number ≡ 0 → check_of (result_of m) ≡ Ok tt
 
 -- "Kept and moved fields are exactly those of the result": those at the offsets that the list calls kept or moved, each as often, and no other. Their names rise, since the result is well-formed.
 abbrev pub SameFields : Type 0
@@ -60,7 +60,7 @@ pub record ComesOut (s list notice : List ℕ) (m : MendCall s list notice) : Ty
 -- "A well-formed notice comes out the same, with every field kept."
 abbrev pub Unchanged : Type 0
 Unchanged =
-    (s list notice : List ℕ) → Bytes s → check_of s ≡ Layout.WellFormed → 3 * count_of s ≤ length list → length s ≤ length notice
+    (s list notice : List ℕ) → Bytes s → check_of s ≡ Ok tt → 3 * count_of s ≤ length list → length s ≤ length notice
     → (m : MendCall s list notice) → ComesOut s list notice m
 
 -- Mending twice changes nothing more.

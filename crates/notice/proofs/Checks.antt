@@ -1,10 +1,11 @@
 -- The tests of the header, and the turns and ends of the walk over the fields. Assumes nothing.
+use Rattle.std.specs.Prelude.{Ok, Err}
 use Rattle.std.proofs.Common.{◌≡◌, ℕ, suc, ◌+◌, ◌-◌, ◌<◌, ◌≤◌, true, false, eqb, leb, List, [], length, sym, ap, ◌∙◌, arith, eq-eqb, ne_eqb, eqb-true, le-leb, leb-true}
 use borrow.Author.Tests.{lt-leb}
 use Rattle.word.specs.Word.{word_at}
 use Rattle.octets.specs.Octets.{before_of}
 use Rattle.octets.proofs.Theorems.{and_parts}
-use Rattle.notice.specs.declared.Layout.TheVariants.{WellFormed, Fault}
+use Rattle.refusal.specs.declared.Refusal.TheVariants.{Notice}
 use Rattle.notice.specs.Layout.{name_at, next_at, length_right, count_of, header_right, right_at, stands_at, check_from, check_of}
 
 module _ (s : List ℕ) where
@@ -28,15 +29,15 @@ module _ (s : List ℕ) where
 
 -- one turn of the walk, with n fields left, and its ends
 module _ (s : List ℕ) (at : ℕ) (last : List ℕ) where
-  pub no_more : at ≡ length s → WellFormed ≡ check_from 0 last s at
+  pub no_more : at ≡ length s → (Ok tt) ≡ check_from 0 last s at
   unfolding check_from
   no_more e = rw (eq-eqb at (length s) e)
 
-  pub spare : (at ≡ length s → ⊥) → Fault at ≡ check_from 0 last s at
+  pub spare : (at ≡ length s → ⊥) → Err (Notice at) ≡ check_from 0 last s at
   unfolding check_from
   spare e = rw (ne_eqb at (length s) e)
 
-  fault_suc : (n : ℕ) → stands_at last s at ≡ false → Fault at ≡ check_from (suc n) last s at
+  fault_suc : (n : ℕ) → stands_at last s at ≡ false → Err (Notice at) ≡ check_from (suc n) last s at
   unfolding check_from
   fault_suc n e = rw e
 
@@ -45,7 +46,7 @@ module _ (s : List ℕ) (at : ℕ) (last : List ℕ) where
   more_suc n e = rw e
 
   module _ (n : ℕ) (p : 0 < n) where
-    pub faulty : stands_at last s at ≡ false → Fault at ≡ check_from n last s at
+    pub faulty : stands_at last s at ≡ false → Err (Notice at) ≡ check_from n last s at
     faulty e =
         let z : n ≡ suc (n - 1) = omega arith in
         rw z (fault_suc (n - 1) e)
@@ -55,11 +56,11 @@ module _ (s : List ℕ) (at : ℕ) (last : List ℕ) where
         let z : n ≡ suc (n - 1) = omega arith in
         more_suc (n - 1) e ∙ ap (λ (k : ℕ). check_from k last s at) (sym z)
 
-    pub wrong_field : right_at s at ≡ false → Fault at ≡ check_from n last s at
+    pub wrong_field : right_at s at ≡ false → Err (Notice at) ≡ check_from n last s at
     wrong_field e = faulty (rw e)
 
     module _ (name : List ℕ) (q : name ≡ name_at s at) (r : right_at s at ≡ true) where
-      pub wrong-order : before_of last name ≡ false → Fault at ≡ check_from n last s at
+      pub wrong-order : before_of last name ≡ false → Err (Notice at) ≡ check_from n last s at
       wrong-order e = faulty (rw (r, ← q, e))
 
       pub right-field : before_of last name ≡ true → check_from (n - 1) name s (next_at s at) ≡ check_from n last s at
@@ -90,5 +91,5 @@ header_numbers s e =
 pub by_fields : (s : List ℕ) → header_right s ≡ true → check_from (count_of s) [] s 8 ≡ check_of s
 by_fields s e = rw e
 
-pub wrong_header : (s : List ℕ) → header_right s ≡ false → Fault 0 ≡ check_of s
+pub wrong_header : (s : List ℕ) → header_right s ≡ false → Err (Notice 0) ≡ check_of s
 wrong_header s e = rw e

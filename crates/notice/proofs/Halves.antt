@@ -1,10 +1,10 @@
 -- The search by halving and the walk by the starts, for a caller who has the fields' starts. Assumes nothing.
+use Rattle.std.specs.Prelude.{Ok}
 use Rattle.std.proofs.Common.{◌≡◌, ℕ, zero, suc, ◌+◌, ◌-◌, ◌<◌, ◌≤◌, Bool, true, false, ◌&&◌, List, [], ◌∷◌, map, length, get_or, take, drop, sym, refl, ap, ◌∙◌, ap₂, add-one, arith, take-append-drop, drop_of_length-le, length-take-le, drop-cons, get_or-take, take-suc}
 use lib.ListN.{length-map}
 use Rattle.word.specs.Word.{Bytes}
 use Rattle.octets.specs.Octets.{before_of}
 use Rattle.octets.proofs.Theorems.{and_parts, before_transitive}
-use Rattle.notice.specs.declared.Layout.TheVariants.{WellFormed}
 use Rattle.notice.specs.Field.{field_right, all_right, before_first, rising}
 use Rattle.notice.specs.Layout.{name_at, field_at, right_at, count_of, check_of, starts_of, Indexed}
 use Rattle.notice.specs.Search.{Stops}
@@ -54,7 +54,7 @@ pub record Between (s name : List ℕ) (low high : ℕ) : Type 0 where
   pub below : AllBelow s name (take low (starts_of s))
   pub above : before_first name (map (field_at s) (drop high (starts_of s))) ≡ true
 
-module _ (s name : List ℕ) (bytes : Bytes s) (well : check_of s ≡ WellFormed) where
+module _ (s name : List ℕ) (bytes : Bytes s) (well : check_of s ≡ Ok tt) where
   start_count : length (starts_of s) ≡ count_of s
   start_count = sym (length-map (starts_of s) (field_at s)) ∙ well_count s bytes well
 

@@ -1,11 +1,12 @@
 -- The theorems that specs/More.antt states. Assumes nothing.
+use Rattle.std.specs.Prelude.{Ok, Err}
 use Rattle.std.proofs.Common.{◌≡◌, ℕ, zero, suc, ◌-◌, Bool, true, false, cond, ◌&&◌, ◌⊎◌, List, [], ◌∷◌, length, take, sym, refl, ap, ◌∙◌, ap₂, inl, inr, arith, le-leb}
 use mathlib.Core.List.Memᴰ
 use mathlib.Core.List.{Memᴰ}
 use Rattle.common.specs.Choice.{pick}
 use Rattle.octets.specs.Octets.{before_of}
 use Rattle.octets.proofs.Theorems.{and_parts}
-use Rattle.notice.specs.declared.Layout.TheVariants.{WellFormed, Fault}
+use Rattle.refusal.specs.declared.Refusal.TheVariants.{Notice}
 use Rattle.notice.specs.declared.Written.{Written}
 use Rattle.notice.specs.Field.{Field, before_first, rising, field_right}
 use Rattle.notice.specs.Layout.{name_at, next_at, field_at, lies_at, right_at, count_of, header_right, check_from, check_of, starts_from, fields_of}
@@ -18,7 +19,7 @@ use Rattle.notice.proofs.Renders.{fault_well, fields_from, stands_suc}
 use Rattle.notice.proofs.Theorems.{named_field, each_found, number_zero, write_adds}
 
 -- n fields from `at` on whose walk finds no fault
-rise_from : (n : ℕ) (last s : List ℕ) (at : ℕ) → check_from n last s at ≡ WellFormed → (before_first last (fields_from n s at) ≡ true) × (rising (fields_from n s at) ≡ true)
+rise_from : (n : ℕ) (last s : List ℕ) (at : ℕ) → check_from n last s at ≡ Ok tt → (before_first last (fields_from n s at) ≡ true) × (rising (fields_from n s at) ≡ true)
 rise_from zero last s at e = rw (starts_end s at) (refl, refl)
 rise_from (suc n) last s at e =
     let c = stands_suc n last s at e in
@@ -32,7 +33,7 @@ rise_from (suc n) last s at e =
 pub names_rise : NamesRise
 names_rise s well = go (header_right s) refl well
   where
-    go : (b : Bool) → header_right s ≡ b → pick b (λ _. check_from (count_of s) [] s 8) (λ _. Fault 0) ≡ WellFormed → rising (fields_of s) ≡ true
+    go : (b : Bool) → header_right s ≡ b → pick b (λ _. check_from (count_of s) [] s 8) (λ _. Err (Notice 0)) ≡ Ok tt → rising (fields_of s) ≡ true
     go true p e =
         let h = header_numbers s p in
         rw (le-leb 8 (length s) h.long, le-leb (length s) 16384 h.short) (rise_from (count_of s) [] s 8 e).1

@@ -1,12 +1,15 @@
 -- Where field k of a notice lies, and its parts. Assumes nothing.
+use Rattle.std.specs.Prelude.{Ok, Err}
 use Rattle.std.proofs.Common.{◌≡◌, ℕ, zero, suc, ◌+◌, ◌-◌, ◌<◌, ◌≤◌, Bool, true, false, ltb, List, [], ◌∷◌, map, length, get_or, take, drop, sym, refl, ap, ◌∙◌, add-one, arith, length-drop, drop-cons, ltb-false, ltb-true, le-ltb, lt-ltb, le-leb}
 use mathlib.Core.Bool.{and-false}
 use lib.ListN.{length-map}
 use borrow.Author.Tests.{lt-leb}
 use Rattle.common.specs.Choice.{pick}
 use Rattle.word.specs.Word.{Bytes}
-use Rattle.notice.specs.declared.Layout.{Layout}
-use Rattle.notice.specs.declared.Layout.TheVariants.{WellFormed, Fault}
+use Rattle.refusal.specs.declared.Refusal.{Refusal}
+use Rattle.refusal.proofs.Numbers.{not_zero}
+use Rattle.refusal.specs.Refusal.{number_of as refusal_number, place_of as refusal_place}
+use Rattle.notice.specs.Layout.{Layout}
 use Rattle.notice.specs.declared.Place.{Place}
 use Rattle.notice.specs.Field.{Field}
 use Rattle.notice.specs.Layout.{kind_at, name_size_at, value_size_at, next_at, value_start, field_at, lies_at, length_right, count_of, check_of, starts_from, starts_of}
@@ -102,10 +105,10 @@ same_place s at kind value end p q r = λ i. record { number = 0; place = 0; kin
 
 -- what `locate` answers, case by case
 module _ (s : List ℕ) (bytes : Bytes s) (k : ℕ) where
-  pub at_fault : (place : ℕ) → check_of s ≡ Fault place → nowhere 11 place ≡ locate_of s k
-  at_fault place e = rw e
+  pub at_fault : (r : Refusal) → check_of s ≡ Err r → nowhere (refusal_number r) (refusal_place r) ≡ locate_of s k
+  at_fault r e = rw (e, not_zero r)
 
-  module _ (e : check_of s ≡ WellFormed) where
+  module _ (e : check_of s ≡ Ok tt) where
     pub past_count : count_of s ≤ k → nowhere 17 0 ≡ locate_of s k
     past_count h = rw (e, le-ltb k (count_of s) h)
 
@@ -153,7 +156,7 @@ module _ (s : List ℕ) (bytes : Bytes s) (k : ℕ) where
   parts : Located s k (locate_of s k)
   parts = by_layout (check_of s) refl
     where
-      by_count : check_of s ≡ WellFormed → (b : Bool) → ltb k (count_of s) ≡ b → Located s k (locate_of s k)
+      by_count : check_of s ≡ Ok tt → (b : Bool) → ltb k (count_of s) ≡ b → Located s k (locate_of s k)
       by_count e true p =
           let h : k < count_of s = ltb-true k (count_of s) p in
           some_parts (get_or (starts_of s) k 0) (lies_true s (get_or (starts_of s) k 0) (start_lies s k (has-start e h))) (located e h) (rw (e, p)) (rw e) (field_is e h)
@@ -162,8 +165,8 @@ module _ (s : List ℕ) (bytes : Bytes s) (k : ℕ) where
           no_parts_lem 17 0 (past_count e h) (rw (e, p)) (rw e) (rw (e, p))
 
       by_layout : (l : Layout) → check_of s ≡ l → Located s k (locate_of s k)
-      by_layout WellFormed e = by_count e (ltb k (count_of s)) refl
-      by_layout (Fault place) e = no_parts_lem 11 place (at_fault place e) (rw e) (rw e) (rw e)
+      by_layout (Ok u) e = by_count e (ltb k (count_of s)) refl
+      by_layout (Err r) e = no_parts_lem (refusal_number r) (refusal_place r) (at_fault r e) (rw e) (rw e) (rw (e, not_zero r))
 
   pub is_located : (p : Place) → p ≡ locate_of s k → Located s k p
   is_located p e = rw e parts

@@ -1,4 +1,5 @@
 -- A whole notice as bytes: the check accepts exactly what `render` gives. Assumes nothing.
+use Rattle.std.specs.Prelude.{Ok, Err}
 use Rattle.std.proofs.Common.{◌≡◌, ℕ, zero, suc, ◌+◌, ◌-◌, ◌^◌, ◌<◌, ◌≤◌, Bool, true, false, cond, ◌&&◌, eqb, List, [], ◌∷◌, ◌++◌, map, length, drop, sym, refl, ap, ◌∙◌, ap₂, append_assoc, append-nil, arith, length-append, length-drop, drop_of_length-le, eq-eqb, eqb-true, le-leb}
 use Rattle.common.specs.Choice.{pick}
 use Rattle.word.specs.Word.{word_at, word_bytes, Bytes}
@@ -6,8 +7,9 @@ use Rattle.word.proofs.Laws.{length_word_bytes}
 use Rattle.word.proofs.Theorems.{bytes_read, read_bytes_lem}
 use Rattle.octets.specs.Octets.{before_of}
 use Rattle.octets.proofs.Theorems.{and_parts}
-use Rattle.notice.specs.declared.Layout.{Layout}
-use Rattle.notice.specs.declared.Layout.TheVariants.{WellFormed, Fault}
+use Rattle.refusal.specs.declared.Refusal.{Refusal}
+use Rattle.refusal.specs.declared.Refusal.TheVariants.{Notice}
+use Rattle.notice.specs.Layout.{Layout}
 use Rattle.notice.specs.Field.{Field, field_right, all_right, before_first, rising}
 use Rattle.notice.specs.Render.{field_bytes, fields_bytes, header_bytes, render, NoticeFields}
 use Rattle.notice.specs.Layout.{next_at, name_at, field_at, lies_at, right_at, stands_at, length_right, count_of, header_right, check_from, check_of, starts_from, starts_of, fields_of}
@@ -18,10 +20,10 @@ use Rattle.notice.proofs.Fields.{right_small, split_drop, field_read, next_read,
 
 -- a faulty notice is not well-formed
 abbrev at_fault : Layout → ℕ
-at_fault WellFormed = 0
-at_fault (Fault p) = 1
+at_fault (Ok u) = 0
+at_fault (Err r) = 1
 
-pub fault_well : {A : Type 0} {p : ℕ} → Fault p ≡ WellFormed → A
+pub fault_well : {A : Type 0} {r : Refusal} → ◌≡◌ {A = Layout} (Err r) (Ok tt) → A
 fault_well e = let z : ◌≡◌ {A = ℕ} 1 0 = ap at_fault e in absurd (omega arith)
 
 -- n fields from `at` on
@@ -63,25 +65,25 @@ checked_more n last s at bytes e c =
     }
 
 -- a check that finds no fault: the first field stands, and the others pass
-pub stands_suc : (n : ℕ) (last s : List ℕ) (at : ℕ) → check_from (suc n) last s at ≡ WellFormed → (stands_at last s at ≡ true) × (check_from n (name_at s at) s (next_at s at) ≡ WellFormed)
+pub stands_suc : (n : ℕ) (last s : List ℕ) (at : ℕ) → check_from (suc n) last s at ≡ Ok tt → (stands_at last s at ≡ true) × (check_from n (name_at s at) s (next_at s at) ≡ Ok tt)
 unfolding check_from
 stands_suc n last s at e = go (stands_at last s at) refl e
   where
-    go : (b : Bool) → stands_at last s at ≡ b → pick b (λ _. check_from n (name_at s at) s (next_at s at)) (λ _. Fault at) ≡ WellFormed
-        → (stands_at last s at ≡ true) × (check_from n (name_at s at) s (next_at s at) ≡ WellFormed)
+    go : (b : Bool) → stands_at last s at ≡ b → pick b (λ _. check_from n (name_at s at) s (next_at s at)) (λ _. Err (Notice at)) ≡ Ok tt
+        → (stands_at last s at ≡ true) × (check_from n (name_at s at) s (next_at s at) ≡ Ok tt)
     go true p h = (p, h)
     go false p h = fault_well h
 
-pub first_stands : (n : ℕ) (last s : List ℕ) (at : ℕ) → 0 < n → check_from n last s at ≡ WellFormed → (stands_at last s at ≡ true) × (check_from (n - 1) (name_at s at) s (next_at s at) ≡ WellFormed)
+pub first_stands : (n : ℕ) (last s : List ℕ) (at : ℕ) → 0 < n → check_from n last s at ≡ Ok tt → (stands_at last s at ≡ true) × (check_from (n - 1) (name_at s at) s (next_at s at) ≡ Ok tt)
 first_stands n last s at p e =
     let z : n ≡ suc (n - 1) = omega arith in
     stands_suc (n - 1) last s at (ap (λ (k : ℕ). check_from k last s at) (sym z) ∙ e)
 
-pub check_sound : (n : ℕ) (last s : List ℕ) (at : ℕ) → Bytes s → check_from n last s at ≡ WellFormed → Checked n last s at
+pub check_sound : (n : ℕ) (last s : List ℕ) (at : ℕ) → Bytes s → check_from n last s at ≡ Ok tt → Checked n last s at
 unfolding check_from
 check_sound zero last s at bytes e = go (eqb at (length s)) refl e
   where
-    go : (b : Bool) → eqb at (length s) ≡ b → cond b WellFormed (Fault at) ≡ WellFormed → Checked 0 last s at
+    go : (b : Bool) → eqb at (length s) ≡ b → cond {A = Layout} b (Ok tt) (Err (Notice at)) ≡ Ok tt → Checked 0 last s at
     go true p h = let z : at ≡ length s = eqb-true at (length s) p in checked_end last s at (omega arith)
     go false p h = fault_well h
 check_sound (suc n) last s at bytes e =
@@ -108,7 +110,7 @@ fields_read (f ∷ fs) p r =
     (ap (λ (t : List ℕ). fields_from (length fs) t (length (p ++ field_bytes f))) again ∙ ih))
 
 pub fields_pass : (fs : List Field) (p last : List ℕ) → all_right fs ≡ true → before_first last fs ≡ true → rising fs ≡ true
-    → check_from (length fs) last (p ++ fields_bytes fs) (length p) ≡ WellFormed
+    → check_from (length fs) last (p ++ fields_bytes fs) (length p) ≡ Ok tt
 unfolding check_from
 fields_pass [] p last r b u =
     let e : length p ≡ length (p ++ []) = ap length (sym (append-nil p)) in
@@ -192,7 +194,7 @@ module _ (fs : List Field) (ok : NoticeFields fs) where
       (ap₂ (λ (x y : Bool). x && y) (eq-eqb (4 + word_at 4 (render fs) 0) (length (render fs)) n)
       (ap₂ (λ (x y : Bool). x && y) (eq-eqb (word_at 2 (render fs) 4) 1 k) (le-leb (count_of (render fs)) 64 c)))
 
-  pub render_passes : check_of (render fs) ≡ WellFormed
+  pub render_passes : check_of (render fs) ≡ Ok tt
   render_passes =
       let p = fields_pass fs (header_bytes size (length fs)) [] ok.right (after_none fs ok.right) ok.rises in
       let q = rw (length_header size (length fs) (fields_bytes fs)) at p in
@@ -205,11 +207,11 @@ module _ (fs : List Field) (ok : NoticeFields fs) where
       rw (rendered_length, rendered_count) q
 
 -- a well-formed notice is what `render` gives of its fields
-module _ (s : List ℕ) (bytes : Bytes s) (well : check_of s ≡ WellFormed) where
-  pub header_well : (header_right s ≡ true) × (check_from (count_of s) [] s 8 ≡ WellFormed)
+module _ (s : List ℕ) (bytes : Bytes s) (well : check_of s ≡ Ok tt) where
+  pub header_well : (header_right s ≡ true) × (check_from (count_of s) [] s 8 ≡ Ok tt)
   header_well = go (header_right s) refl well
     where
-      go : (b : Bool) → header_right s ≡ b → pick b (λ _. check_from (count_of s) [] s 8) (λ _. Fault 0) ≡ WellFormed → (header_right s ≡ true) × (check_from (count_of s) [] s 8 ≡ WellFormed)
+      go : (b : Bool) → header_right s ≡ b → pick b (λ _. check_from (count_of s) [] s 8) (λ _. Err (Notice 0)) ≡ Ok tt → (header_right s ≡ true) × (check_from (count_of s) [] s 8 ≡ Ok tt)
       go true p e = (p, e)
       go false p e = fault_well e
 

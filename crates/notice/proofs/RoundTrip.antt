@@ -1,10 +1,10 @@
 -- The theorems that specs/RoundTrip.antt states. Assumes nothing.
+use Rattle.std.specs.Prelude.{Ok}
 use Rattle.std.proofs.Common.{◌≡◌, ℕ, zero, suc, ◌+◌, ◌-◌, ◌<◌, ◌≤◌, List, [], ◌∷◌, ◌++◌, map, length, get_or, take, drop, sym, ap, ◌∙◌, ap₂, arith, length-append, drop-cons, get_or-append-add}
 use mathlib.Core.List.{Permᴰ}
 use lib.ListN.{get_or-append}
 use lib.Seq.{drop-length, get_or-append_seam}
 use Rattle.word.specs.Word.{Bytes}
-use Rattle.notice.specs.declared.Layout.TheVariants.{WellFormed}
 use Rattle.notice.specs.declared.Written.{Written}
 use Rattle.notice.specs.Field.{Field}
 use Rattle.notice.specs.Layout.{count_of, check_of, fields_of}
@@ -19,7 +19,7 @@ use Rattle.notice.proofs.Theorems.{count_fields, read_below, number_zero, left_b
 field_answered : {s : List ℕ} {k : ℕ} (r : ReadCall s k) → answered r ≡ read_field s k
 field_answered r = λ i. field (r.promise.kind_is i) (r.promise.name_is i) (r.promise.value_is i)
 
-gives : (s : List ℕ) (k : ℕ) → check_of s ≡ WellFormed → k < count_of s → (r : ReadCall s k) → Gives r (get_or (fields_of s) k blank)
+gives : (s : List ℕ) (k : ℕ) → check_of s ≡ Ok tt → k < count_of s → (r : ReadCall s k) → Gives r (get_or (fields_of s) k blank)
 gives s k well h r =
     let b = read_below s k well h in
     (r.promise.number_is ∙ b.0, field_answered r ∙ b.1)
@@ -42,7 +42,7 @@ from_below : (n k m : ℕ) → k + n ≡ m → AllBelow m (numbers_from n k)
 from_below zero k m e = tt
 from_below (suc n) k m e = (omega arith, from_below n (suc k) m (omega arith))
 
-module _ (s : List ℕ) (bytes : Bytes s) (well : check_of s ≡ WellFormed) where
+module _ (s : List ℕ) (bytes : Bytes s) (well : check_of s ≡ Ok tt) where
   -- what is read for them are the fields
   fields_from_lem : (n k : ℕ) → k + n ≡ count_of s → map (read_field s) (numbers_from n k) ≡ drop k (fields_of s)
   fields_from_lem zero k e =
@@ -90,7 +90,7 @@ module _ (pre post : List Field) (f : Field) where
       ap (λ (i : ℕ). get_or (pre ++ (f ∷ post)) i blank) m
       ∙ (get_or-append-add pre (f ∷ post) (suc (j - length pre)) blank ∙ (sym (get_or-append-add pre post (j - length pre) blank) ∙ ap (λ (i : ℕ). get_or (pre ++ post) i blank) (sym n)))
 
-reads_back : (old new : List ℕ) (f : Field) → Bytes old → check_of old ≡ WellFormed → check_of new ≡ WellFormed → count_of new ≡ length (fields_of new) → fields_of new ≡ insert_field f (fields_of old) → ReadsBack old new f
+reads_back : (old new : List ℕ) (f : Field) → Bytes old → check_of old ≡ Ok tt → check_of new ≡ Ok tt → count_of new ≡ length (fields_of new) → fields_of new ≡ insert_field f (fields_of old) → ReadsBack old new f
 reads_back old new f bytes well well' count e =
     let i = insert_adds f (fields_of old) in
     let pre = i.0 in

@@ -1,4 +1,5 @@
 -- The search for a name: how two names stand to each other, and the fields that the search has passed, where names rise. Assumes nothing.
+use Rattle.std.specs.Prelude.{Ok, Some, None}
 use Rattle.std.proofs.Common.{◌≡◌, ℕ, ◌+◌, ◌-◌, ◌<◌, Bool, true, false, ◌&&◌, ltb, List, [], ◌∷◌, ◌++◌, map, length, get_or, drop, sym, refl, ap, ◌∙◌, ap₂, inr, ⊎_elim, arith, length-append, get_or-drop, drop-cons, get_or-take, le-ltb, lt-ltb}
 use mathlib.Core.Option.{some, none}
 use lib.Seq.{append_snoc}
@@ -6,8 +7,7 @@ use Rattle.common.proofs.Choice.{true_false, false_true}
 use Rattle.word.specs.Word.{Bytes}
 use Rattle.octets.specs.Octets.{same_of, before_of}
 use Rattle.octets.proofs.Theorems.{and_parts, same, before, before_irreflexive, before_transitive, before_total}
-use Rattle.notice.specs.declared.Found.TheVariants.{At, Nothing}
-use Rattle.notice.specs.declared.Layout.TheVariants.{WellFormed}
+use Rattle.notice.specs.declared.FoundField.{FoundField}
 use Rattle.notice.specs.declared.Sought.{Sought}
 use Rattle.notice.specs.declared.search.Stop.{Stop}
 use Rattle.notice.specs.Field.{Field, field_right, before_first, rising}
@@ -110,7 +110,7 @@ module _ (s name : List ℕ) where
         rw (before_not_same (name_at s a) name p.0) (lookup_passed ats p.1)
 
   -- where the first is above, none is found
-  none_found : (ats : List ℕ) → before_first name (map (field_at s) ats) ≡ true → rising (map (field_at s) ats) ≡ true → lookup_in s name ats ≡ Nothing
+  none_found : (ats : List ℕ) → before_first name (map (field_at s) ats) ≡ true → rising (map (field_at s) ats) ≡ true → lookup_in s name ats ≡ None
   none_found [] a r = refl
   none_found (at ∷ ats) a r =
       let p = and_parts (before_first (name_at s at) (map (field_at s) ats)) (rising (map (field_at s) ats)) r in
@@ -148,7 +148,7 @@ module _ (s name : List ℕ) (n : ℕ) (rest : List ℕ) (p : Parted s name n re
         let here : index_of name (map (field_at s) rest) ≡ some 0 = rw (more, t) in
         let b : below_of name (fields_of s) ≡ length p.starts = rw fs (omega (arith, below_passed s name rest p.starts p.below)) in
         let i : index_of name (fields_of s) ≡ some (length p.starts) = rw fs (first_passed s name rest p.starts p.below here) in
-        let l : lookup_in s name rest ≡ found_at s at = rw (more, t) in
+        let l : lookup_in s name rest ≡ Some (found_at s at) = rw (more, t) in
         record {
           left = omega (arith, p.count);
           index = i ∙ ap some (sym b);
@@ -162,9 +162,9 @@ module _ (s name : List ℕ) (n : ℕ) (rest : List ℕ) (p : Parted s name n re
 pub record Passed (s name : List ℕ) (n at : ℕ) : Type 0 where
   pub parted : Parted s name n (starts_from n s at)
   pub last : List ℕ
-  pub rest : check_from n last s at ≡ WellFormed
+  pub rest : check_from n last s at ≡ Ok tt
 
-pub none_yet : (s name : List ℕ) → Bytes s → check_of s ≡ WellFormed → Passed s name (count_of s) 8
+pub none_yet : (s name : List ℕ) → Bytes s → check_of s ≡ Ok tt → Passed s name (count_of s) 8
 none_yet s name bytes well = record {
   parted = record { starts = []; all = well_starts s bytes well; below = refl; count = omega arith };
   last = [];
@@ -183,7 +183,7 @@ module _ (s name : List ℕ) (bytes : Bytes s) (n at : ℕ) (p : Passed s name n
 
   -- one field more
   module _ (h : 0 < n) where
-    stands : (stands_at p.last s at ≡ true) × (check_from (n - 1) (name_at s at) s (next_at s at) ≡ WellFormed)
+    stands : (stands_at p.last s at ≡ true) × (check_from (n - 1) (name_at s at) s (next_at s at) ≡ Ok tt)
     stands = first_stands n p.last s at h p.rest
 
     pub next_right : right_at s at ≡ true
@@ -213,7 +213,7 @@ module _ (s name : List ℕ) (bytes : Bytes s) (n at : ℕ) (p : Passed s name n
     stops_same = parted_same s name n (starts_from n s at) p.parted rises at (starts_from (n - 1) s (next_at s at)) more next_right
 
 -- no name is below the empty one
-pub stops_empty : (s name : List ℕ) → Bytes s → check_of s ≡ WellFormed → length name ≡ 0 → Stops s name (record { at = 8; left = count_of s; found = false })
+pub stops_empty : (s name : List ℕ) → Bytes s → check_of s ≡ Ok tt → length name ≡ 0 → Stops s name (record { at = 8; left = count_of s; found = false })
 stops_empty s name bytes well e = go name e
   where
     go : (t : List ℕ) → length t ≡ 0 → Stops s t (record { at = 8; left = count_of s; found = false })
@@ -222,7 +222,7 @@ stops_empty s name bytes well e = go name e
 
 -- ---- what finding a name answers
 
-module _ (s name : List ℕ) (bytes : Bytes s) (well : check_of s ≡ WellFormed) (r : Stop) (stops : Stops s name r) where
+module _ (s name : List ℕ) (bytes : Bytes s) (well : check_of s ≡ Ok tt) (r : Stop) (stops : Stops s name r) where
   pub index_found : r.found ≡ true → count_of s - r.left ≡ index_number (index_of name (fields_of s))
   index_found e = rw (stops.index, e) (omega (arith, stops.left))
 
@@ -241,8 +241,8 @@ module _ (s name : List ℕ) (bytes : Bytes s) (well : check_of s ≡ WellFormed
       let b : ltb (below_of name (fields_of s)) (length (fields_of s)) ≡ false = le-ltb (below_of name (fields_of s)) (length (fields_of s)) (omega (arith, well_count s bytes well)) in
       rw b (omega arith)
 
-pub same_found : {k k' a a' n n' : ℕ} → k ≡ k' → a ≡ a' → n ≡ n' → At k a n ≡ At k' a' n'
-same_found p q r = cc
+pub same_found : {k k' a a' n n' : ℕ} → k ≡ k' → a ≡ a' → n ≡ n' → ◌≡◌ {A = FoundField} (record { kind = k; start = a; len = n }) (record { kind = k'; start = a'; len = n' })
+same_found p q r = λ i. record { kind = p i; start = q i; len = r i }
 
 pub same_sought : {i i' k k' : ℕ} → i ≡ i' → k ≡ k' → ◌≡◌ {A = Sought} (record { number = 0; place = 0; index = i; looked = k }) (record { number = 0; place = 0; index = i'; looked = k' })
 same_sought p q = λ i. record { number = 0; place = 0; index = p i; looked = q i }

@@ -1,11 +1,12 @@
 -- The starts that the check leaves: the turns of its walk, and that of a notice it leaves an index. Assumes nothing.
+use Rattle.std.specs.Prelude.{Ok, Err}
 use Rattle.std.proofs.Common.{◌≡◌, ℕ, zero, suc, ◌+◌, ◌-◌, ◌<◌, ◌≤◌, Bool, true, false, List, [], ◌∷◌, length, take, drop, set, sym, refl, ap, ◌∙◌, add-one, arith, take_at}
 use lib.Seq.{sets, sets-eq}
 use Rattle.common.specs.Choice.{pick}
 use Rattle.octets.specs.Octets.{before_of}
 use Rattle.octets.proofs.Theorems.{and_parts}
-use Rattle.notice.specs.declared.Layout.{Layout}
-use Rattle.notice.specs.declared.Layout.TheVariants.{WellFormed, Fault}
+use Rattle.refusal.specs.declared.Refusal.TheVariants.{Notice}
+use Rattle.notice.specs.Layout.{Layout}
 use Rattle.notice.specs.Field.{field_right}
 use Rattle.notice.specs.Layout.{next_at, name_at, field_at, lies_at, right_at, stands_at, count_of, header_right, check_from, check_of, starts_from, starts_of, stood_from, stood_of, Indexed}
 use Rattle.notice.specs.Key.{key_at, last_name_at, Last}
@@ -73,7 +74,7 @@ module _ (s was now : List ℕ) (i at last key : ℕ) (g : Goes s was now i at l
     some_left : 0 < left
     some_left = omega arith
 
-    pub leaves_wrong : stands_at (last_name_at s last) s at ≡ false → Leaves s was now (Fault at)
+    pub leaves_wrong : stands_at (last_name_at s last) s at ≡ false → Leaves s was now (Err (Notice at))
     leaves_wrong e =
         (faulty s at (last_name_at s last) left some_left e ∙ g.layout, ap (sets now i) (sym (stood_stop s at (last_name_at s last) left some_left e)) ∙ g.starts)
 
@@ -101,10 +102,10 @@ module _ (s was now : List ℕ) (i at last key : ℕ) (g : Goes s was now i at l
     all_starts : now ≡ sets was 0 (stood_from (count_of s) [] s 8)
     all_starts = ap (sets now i) (sym (ap (λ (n : ℕ). stood_from n (last_name_at s last) s at) none_left ∙ stood_end s at (last_name_at s last))) ∙ g.starts
 
-    pub leaves_well : at ≡ length s → Leaves s was now WellFormed
+    pub leaves_well : at ≡ length s → Leaves s was now (Ok tt)
     leaves_well e = (no_more s at (last_name_at s last) e ∙ (rw none_left at g.layout), all_starts)
 
-    pub leaves_spare : (at ≡ length s → ⊥) → Leaves s was now (Fault at)
+    pub leaves_spare : (at ≡ length s → ⊥) → Leaves s was now (Err (Notice at))
     leaves_spare e = (spare s at (last_name_at s last) e ∙ (rw none_left at g.layout), all_starts)
 
 pub stood_whole : (s : List ℕ) → header_right s ≡ true → stood_from (count_of s) [] s 8 ≡ stood_of s
@@ -116,7 +117,7 @@ none_stood s e = rw e
 -- ---- of a notice, an index
 
 -- where the check finds no fault, every field stands
-all_stood : (n : ℕ) (last s : List ℕ) (at : ℕ) → check_from n last s at ≡ WellFormed → (stood_from n last s at ≡ starts_from n s at) × (length (stood_from n last s at) ≡ n)
+all_stood : (n : ℕ) (last s : List ℕ) (at : ℕ) → check_from n last s at ≡ Ok tt → (stood_from n last s at ≡ starts_from n s at) × (length (stood_from n last s at) ≡ n)
 all_stood zero last s at e = (stood_end s at last ∙ sym (starts_end s at), ap length (stood_end s at last))
 all_stood (suc n) last s at e =
     let i : suc n - 1 ≡ n = omega arith in
@@ -128,11 +129,11 @@ all_stood (suc n) last s at e =
     let ih = all_stood n (name_at s at) s (next_at s at) (rw i at t.1) in
     (m ∙ (ap (λ (ats : List ℕ). at ∷ ats) ih.0 ∙ sym k), ap length m ∙ ap suc ih.1)
 
-module _ (s : List ℕ) (well : check_of s ≡ WellFormed) where
+module _ (s : List ℕ) (well : check_of s ≡ Ok tt) where
   stood_all : (header_right s ≡ true) × (stood_of s ≡ starts_of s) × (length (stood_of s) ≡ count_of s)
   stood_all = go (header_right s) refl well
     where
-      go : (b : Bool) → header_right s ≡ b → pick b (λ _. check_from (count_of s) [] s 8) (λ _. Fault 0) ≡ WellFormed
+      go : (b : Bool) → header_right s ≡ b → pick b (λ _. check_from (count_of s) [] s 8) (λ _. Err (Notice 0)) ≡ Ok tt
           → (header_right s ≡ true) × (stood_of s ≡ starts_of s) × (length (stood_of s) ≡ count_of s)
       go true p e =
           let h = header_numbers s p in

@@ -1,4 +1,5 @@
 -- The theorems that specs/Theorems.antt states. Assumes nothing.
+use Rattle.std.specs.Prelude.{Ok, Err}
 use Rattle.std.proofs.Common.{◌≡◌, ℕ, zero, suc, ◌+◌, ◌-◌, ◌<◌, ◌≤◌, Bool, true, false, cond, ◌&&◌, ltb, leb, ◌⊎◌, List, [], ◌∷◌, ◌++◌, map, length, get_or, take, drop, sym, refl, ap, ◌∙◌, ap₂, inl, inr, arith, take-append-drop, length-take-le, take_at, lt-ltb, leb-true}
 use mathlib.Core.List.Memᴰ
 use mathlib.Core.List.{Memᴰ}
@@ -8,8 +9,9 @@ use Rattle.common.proofs.Choice.{true_false}
 use Rattle.word.specs.Word.{word_bytes, Bytes}
 use Rattle.octets.specs.Octets.{same_of, before_of}
 use Rattle.octets.proofs.Theorems.{and_parts, same, before_irreflexive, before_transitive}
-use Rattle.notice.specs.declared.Layout.{Layout}
-use Rattle.notice.specs.declared.Layout.TheVariants as layouts
+use Rattle.refusal.specs.declared.Refusal.TheVariants.{Notice}
+use Rattle.refusal.proofs.Numbers.{refuses}
+use Rattle.notice.specs.Layout.{Layout}
 use Rattle.notice.specs.declared.Written.{Written}
 use Rattle.notice.specs.Field.{Field, all_right, before_first, rising}
 use Rattle.notice.specs.Render.{fields_bytes, render, NoticeFields}
@@ -27,6 +29,7 @@ use Rattle.notice.proofs.Orders.{before_not_same, insert_splits, insert_all, fre
 use Rattle.notice.proofs.Searches.{first_above, none_same, not_below_lem}
 use Rattle.notice.proofs.Checks.{header_numbers}
 use Rattle.notice.proofs.Faults.{faulted}
+pub use Rattle.notice.proofs.Faults.{only_fault}
 use Rattle.notice.proofs.Trips.{Fitting, added_fields, added_length, over, writes_all}
 use Rattle.notice.proofs.Writes.{added}
 use Rattle.notice.proofs.Inserts.{accepted}
@@ -40,7 +43,7 @@ well_formed_exactly s bytes = (
 pub fault_place_lem : FaultPlace
 fault_place_lem s place bytes e = go (header_right s) refl e
   where
-    go : (b : Bool) → header_right s ≡ b → pick b (λ _. check_from (count_of s) [] s 8) (λ _. layouts.Fault 0) ≡ layouts.Fault place
+    go : (b : Bool) → header_right s ≡ b → pick b (λ _. check_from (count_of s) [] s 8) (λ _. Err (Notice 0)) ≡ Err (Notice place)
         → ((header_right s ≡ false) × (place ≡ 0))
         ⊎ ((fs : List Field) × (header_right s ≡ true) × (all_right fs ≡ true) × (rising fs ≡ true) × (drop 8 s ≡ fields_bytes fs ++ drop place s) × (place ≡ 8 + length (fields_bytes fs))
         × (((length fs < count_of s) × (stands_at (last_name [] fs) s place ≡ false)) ⊎ ((length fs ≡ count_of s) × (place < length s))))
@@ -58,7 +61,7 @@ one_list fs gs p q e = sym (fields_read fs p) ∙ (ap fields_of e ∙ fields_rea
 pub count_fields : CountFields
 count_fields s bytes well = sym (well_count s bytes well)
 
-pub read_below : (s : List ℕ) (k : ℕ) → check_of s ≡ layouts.WellFormed → k < count_of s → (read_number s k ≡ 0) × (read_field s k ≡ get_or (fields_of s) k blank)
+pub read_below : (s : List ℕ) (k : ℕ) → check_of s ≡ Ok tt → k < count_of s → (read_number s k ≡ 0) × (read_field s k ≡ get_or (fields_of s) k blank)
 read_below s k well h =
     let b : ltb k (count_of s) ≡ true = lt-ltb k (count_of s) h in
     (rw (well, b), rw (well, b))
@@ -234,10 +237,10 @@ pub number_zero : (b : List ℕ) (len : ℕ) (f : Field) → refusal_of b len f 
 number_zero b len f e = within (leb len (length b)) refl e
   where
     well : len ≤ length b → (l : Layout) → check_of (take len b) ≡ l → refusal_by l b len f ≡ 0 → Insertable b len f
-    well w layouts.WellFormed p h = record { within = w; well = p; accepted = h }
-    well w (layouts.Fault place) p h = absurd (omega arith)
+    well w (Ok u) p h = record { within = w; well = p; accepted = h }
+    well w (Err r) p h = refuses r h
 
-    within : (x : Bool) → leb len (length b) ≡ x → refusal_by (pick x (λ _. check_of (take len b)) (λ _. layouts.Fault 0)) b len f ≡ 0 → Insertable b len f
+    within : (x : Bool) → leb len (length b) ≡ x → refusal_by (pick x (λ _. check_of (take len b)) (λ _. Err (Notice 0))) b len f ≡ 0 → Insertable b len f
     within true p h = well (leb-true len (length b) p) (check_of (take len b)) refl h
     within false p h = absurd (omega arith)
 

@@ -1,9 +1,9 @@
 -- Writing into the notice of a list of fields, once and again and again. Assumes nothing.
+use Rattle.std.specs.Prelude.{Ok}
 use Rattle.std.proofs.Common.{◌≡◌, ℕ, ◌+◌, ◌<◌, ◌≤◌, true, false, not, ltb, List, [], ◌∷◌, ◌++◌, length, take, drop, sym, refl, ap, ◌∙◌, arith, length-append, length-drop, drop-drop, take_at, lt-ltb, le-leb}
 use lib.Seq.{drop-append-add}
 use borrow.Author.Tests.{not-true}
 use Rattle.octets.proofs.Theorems.{and_parts}
-use Rattle.notice.specs.declared.Layout.TheVariants.{WellFormed}
 use Rattle.notice.specs.declared.Written.{Written}
 use Rattle.notice.specs.Field.{Field, name_right, size_right, field_right, all_right}
 use Rattle.notice.specs.Render.{field_bytes, fields_bytes, render, NoticeFields}
@@ -45,7 +45,7 @@ module _ (fs : List Field) (f : Field) (b : List ℕ) (t : Fitting fs f (length 
   within : len ≤ length b
   within = omega (arith, t.fits)
 
-  well : check_of (take len b) ≡ WellFormed
+  well : check_of (take len b) ≡ Ok tt
   well = ap check_of e ∙ render_passes fs t.ok
 
   fitting : refusal_in (take len b) (length b) f ≡ 0

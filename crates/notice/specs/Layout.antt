@@ -1,12 +1,13 @@
 -- The layout of a notice, byte by byte: where a field's parts lie, the first fault and its place, and the fields. Document 01, "Notice" and "Refusals by number".
 -- Everything here is total: a byte past the end counts as 0.
-use Rattle.std.specs.Prelude.{◌≡◌, ℕ, zero, suc, ◌+◌, ◌-◌, Bool, true, false, cond, ◌&&◌, List, [], ◌∷◌, map, length, take, drop, ◌==◌, nat_le, slice_index}
+use Rattle.std.specs.Prelude.{◌≡◌, ℕ, zero, suc, ◌+◌, ◌-◌, Bool, true, false, cond, ◌&&◌, List, [], ◌∷◌, map, length, take, drop, ◌==◌, nat_le, slice_index, Result, Ok, Err}
 use Rattle.common.specs.Choice.{pick}
 use Rattle.word.specs.Word.{word_at}
 use Rattle.octets.specs.Octets.{before_of}
+use Rattle.refusal.specs.declared.Refusal.{Refusal}
+use Rattle.refusal.specs.declared.Refusal.TheVariants.{Notice}
+use Rattle.refusal.specs.Refusal.{number_of as refusal_number, place_of as refusal_place}
 use Rattle.notice.specs.Field.{Field, field_right}
-use Rattle.notice.specs.declared.Layout.{Layout}
-use Rattle.notice.specs.declared.Layout.TheVariants.{WellFormed, Fault}
 
 -- a refusal's number unless a test holds, and then the next one's
 abbrev pub unless : Bool → ℕ → ℕ → ℕ
@@ -65,23 +66,27 @@ right_at s at = lies_at s at && field_right (field_at s at)
 abbrev pub stands_at : List ℕ → List ℕ → ℕ → Bool
 stands_at last s at = right_at s at && before_of last (name_at s at)
 
+-- what is found of a notice's layout: nothing wrong, or the refusal with the place of its first fault
+abbrev pub Layout : Type 0
+Layout = Result (Unit {0}) Refusal
+
 -- n fields from `at` on, and nothing after them: "the faulty field's start, the first spare byte"
 unfoldable pub check_from : ℕ → List ℕ → List ℕ → ℕ → Layout
-check_from zero last s at = cond (at == length s) WellFormed (Fault at)
-check_from (suc n) last s at = pick (stands_at last s at) (λ _. check_from n (name_at s at) s (next_at s at)) (λ _. Fault at)
+check_from zero last s at = cond (at == length s) (Ok tt) (Err (Notice at))
+check_from (suc n) last s at = pick (stands_at last s at) (λ _. check_from n (name_at s at) s (next_at s at)) (λ _. Err (Notice at))
 
 -- the first fault: the header's, then the fields' in order, then what is spare. Every name is after the empty one.
 abbrev pub check_of : List ℕ → Layout
-check_of s = pick (header_right s) (λ _. check_from (count_of s) [] s 8) (λ _. Fault 0)
+check_of s = pick (header_right s) (λ _. check_from (count_of s) [] s 8) (λ _. Err (Notice 0))
 
 -- "11: notice fails layout", and its place
 abbrev pub number_of : Layout → ℕ
-number_of WellFormed = 0
-number_of (Fault place) = 11
+number_of (Ok u) = 0
+number_of (Err r) = refusal_number r
 
 abbrev pub place_of : Layout → ℕ
-place_of WellFormed = 0
-place_of (Fault place) = place
+place_of (Ok u) = 0
+place_of (Err r) = refusal_place r
 
 -- the starts of n fields from `at` on, as far as they lie within the notice
 unfoldable pub starts_from : ℕ → List ℕ → ℕ → List ℕ

@@ -1,9 +1,8 @@
 -- Document 02, request 10: "two well-formed notices, where the second holds every field of the first with the same kind and bytes and perhaps others". The proofs are in proofs/More.antt, under the same names.
-use Rattle.std.specs.Prelude.{◌≡◌, ℕ, true, List, take}
+use Rattle.std.specs.Prelude.{◌≡◌, ℕ, true, List, take, Ok}
 use mathlib.Core.List.{Memᴰ}
 use Rattle.std.proofs.Math.Option.{some}
 use Rattle.word.specs.Word.{Bytes}
-use Rattle.notice.specs.declared.Layout.TheVariants.{WellFormed}
 use Rattle.notice.specs.Field.{Field, rising}
 use Rattle.notice.specs.Layout.{check_of, fields_of}
 use Rattle.notice.specs.Lookup.{field_named}
@@ -15,13 +14,13 @@ Holds first second = (f : Field) → Memᴰ f (fields_of first) → Memᴰ f (fi
 
 -- "two well-formed notices, where the second holds .."
 pub record More (first second : List ℕ) : Type 0 where
-  pub first_right : check_of first ≡ WellFormed
-  pub second_right : check_of second ≡ WellFormed
+  pub first_right : check_of first ≡ Ok tt
+  pub second_right : check_of second ≡ Ok tt
   pub holds : Holds first second
 
 -- The names of a well-formed notice rise.
 abbrev pub NamesRise : Type 0
-NamesRise = (s : List ℕ) → check_of s ≡ WellFormed → rising (fields_of s) ≡ true
+NamesRise = (s : List ℕ) → check_of s ≡ Ok tt → rising (fields_of s) ≡ true
 
 -- A field that the first has under a name is the one that the second has under it.
 abbrev pub FoundStill : Type 0

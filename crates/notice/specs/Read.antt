@@ -1,10 +1,9 @@
 -- Reading: "Reading field k gives its kind and its name and value as parts of the lent notice."
-use Rattle.std.specs.Prelude.{◌≡◌, ℕ, ◌+◌, ◌&&◌, List, [], length, ◌==◌, nat_le, nat_lt, slice_index, slice_index_or, slice_range}
+use Rattle.std.specs.Prelude.{◌≡◌, ℕ, ◌+◌, ◌&&◌, List, [], length, ◌==◌, nat_le, nat_lt, slice_index, slice_index_or, slice_range, Ok, Err}
 use Rattle.common.specs.Choice.{pick}
 use Rattle.notice.specs.Field.{Field}
 use Rattle.notice.specs.Layout.{unless, kind_at, value_start, next_at, count_of, check_of, number_of, place_of, starts_of, fields_of}
-use Rattle.notice.specs.declared.Layout.{Layout}
-use Rattle.notice.specs.declared.Layout.TheVariants.{WellFormed, Fault}
+use Rattle.notice.specs.Layout.{Layout}
 use Rattle.notice.specs.declared.Place.{Place}
 
 -- the bytes from a to e, or none where they do not lie within the slice
@@ -13,8 +12,8 @@ part_of s a e = pick (nat_le a e && nat_le e (length s)) (λ _. slice_range s a 
 
 -- "Reading: 11, 17"; "17: field k not below the count"; 0 for none
 abbrev pub read_by : Layout → ℕ → ℕ → ℕ
-read_by (Fault place) count k = number_of (Fault place)
-read_by WellFormed count k = unless (nat_lt k count) 17 0
+read_by (Err r) count k = number_of (Err r)
+read_by (Ok u) count k = unless (nat_lt k count) 17 0
 
 abbrev pub read_number : List ℕ → ℕ → ℕ
 read_number s k = read_by (check_of s) (count_of s) k

@@ -1,9 +1,8 @@
 -- Demand 2 of the customer's letter: "A notice that is written reads back as the same fields, and one that is read and written again has the same bytes." Said of the answers of `read` and `write`, by their promises.
 -- The proofs are in proofs/RoundTrip.antt, under the same names.
-use Rattle.std.specs.Prelude.{◌≡◌, ℕ, zero, suc, ◌+◌, ◌<◌, ◌≤◌, List, [], ◌∷◌, ◌++◌, length, take, drop}
+use Rattle.std.specs.Prelude.{◌≡◌, ℕ, zero, suc, ◌+◌, ◌<◌, ◌≤◌, List, [], ◌∷◌, ◌++◌, length, take, drop, Ok}
 use mathlib.Core.List.{Permᴰ}
 use Rattle.word.specs.Word.{Bytes}
-use Rattle.notice.specs.declared.Layout.TheVariants.{WellFormed}
 use Rattle.notice.specs.declared.Written.{Written}
 use Rattle.notice.specs.Field.{Field}
 use Rattle.notice.specs.Render.{render}
@@ -48,7 +47,7 @@ numbers_from (suc n) k = k ∷ numbers_from n (suc k)
 -- What `read` answers for every k below the count, in any order, given to `write` one by one on the empty notice E in any buffer that has room: no call is refused, the notice's own bytes are left, and its length is answered; the bytes after them stay.
 abbrev pub ReadWrittenAgain : Type 0
 ReadWrittenAgain =
-    (s : List ℕ) → Bytes s → check_of s ≡ WellFormed → (ks : List ℕ) → Permᴰ ks (numbers_from (count_of s) 0) →
+    (s : List ℕ) → Bytes s → check_of s ≡ Ok tt → (ks : List ℕ) → Permᴰ ks (numbers_from (count_of s) 0) →
     (buffer : List ℕ) → take 8 buffer ≡ render [] → length s ≤ length buffer →
     (after : List ℕ) (after_len : ℕ) (c : Copies ks s buffer 8 after after_len) →
     NoneRefused ks s buffer 8 after after_len c × (after ≡ s ++ drop (length s) buffer) × (after_len ≡ length s)
@@ -65,7 +64,7 @@ Gives r f = (r.number ≡ 0) × (answered r ≡ f)
 
 -- A notice with one field more, by what `read` answers: the new field at one k, the old ones before it at their own k and the others at the next. The new notice is well-formed, so its names rise: the new field is at its name's place.
 pub record ReadsBack (old new : List ℕ) (f : Field) : Type 0 where
-  pub well : check_of new ≡ WellFormed
+  pub well : check_of new ≡ Ok tt
   pub one_more : count_of new ≡ count_of old + 1
   pub k : ℕ
   pub below : k < count_of new

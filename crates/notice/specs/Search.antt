@@ -1,15 +1,13 @@
 -- The search for a name. Document 02, request 11: "Names rise, so in a notice found well-formed the search for a field should stop at the first name not below the one sought; it finds what a walk over all fields finds.
 -- Beside that it answers how many names it looked at: those below the one sought, and one more if any is left."
-use Rattle.std.specs.Prelude.{◌≡◌, ℕ, suc, ◌+◌, true, cond, List, [], ◌∷◌, length, nat_lt}
+use Rattle.std.specs.Prelude.{◌≡◌, ℕ, suc, ◌+◌, true, cond, List, [], ◌∷◌, length, nat_lt, Ok, Err, Some, None}
 use Rattle.std.proofs.Math.Option.{Option, some, none}
 use Rattle.common.specs.Choice.{pick}
 use Rattle.octets.specs.Octets.{same_of, before_of}
 use Rattle.notice.specs.Field.{Field}
 use Rattle.notice.specs.Layout.{right_at, count_of, check_of, number_of, place_of, fields_of}
 use Rattle.notice.specs.Lookup.{found_at, lookup_of}
-use Rattle.notice.specs.declared.Found.TheVariants.{Nothing}
-use Rattle.notice.specs.declared.Layout.{Layout}
-use Rattle.notice.specs.declared.Layout.TheVariants.{WellFormed, Fault}
+use Rattle.notice.specs.Layout.{Layout}
 use Rattle.notice.specs.declared.Sought.{Sought}
 use Rattle.notice.specs.declared.search.Standing.{Standing}
 use Rattle.notice.specs.declared.search.Stop.{Stop}
@@ -59,7 +57,7 @@ StandsTo s name Standing.Above = before_of name s ≡ true
 pub record Stops (s name : List ℕ) (r : Stop) : Type 0 where
   pub left : below_of name (fields_of s) + r.left ≡ count_of s
   pub index : index_of name (fields_of s) ≡ cond r.found (some (below_of name (fields_of s))) none
-  pub lookup : lookup_of s name ≡ cond r.found (found_at s r.at) Nothing
+  pub lookup : lookup_of s name ≡ cond r.found (Some (found_at s r.at)) None
   pub right : r.found ≡ true → right_at s r.at ≡ true
 
 -- ---- what finding a name answers
@@ -74,8 +72,8 @@ sought_of s name = record { number = 0; place = 0; index = index_number (index_o
 
 -- "in a notice found well-formed": bytes that are none are refused by `number_of`'s 11, with its place, and no name is looked at
 abbrev pub find_by : Layout → List ℕ → List ℕ → Sought
-find_by WellFormed s name = sought_of s name
-find_by (Fault place) s name = record { number = number_of (Fault place); place = place_of (Fault place); index = 64; looked = 0 }
+find_by (Ok u) s name = sought_of s name
+find_by (Err r) s name = record { number = number_of (Err r); place = place_of (Err r); index = 64; looked = 0 }
 
 abbrev pub find_of : List ℕ → List ℕ → Sought
 find_of s name = find_by (check_of s) s name

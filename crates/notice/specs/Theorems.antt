@@ -1,9 +1,11 @@
 -- What holds of notices. The proofs are in proofs/Theorems.antt, under the same names.
-use Rattle.std.specs.Prelude.{◌≡◌, ℕ, ◌+◌, ◌<◌, ◌≤◌, true, false, ◌⊎◌, ◌↔◌, List, [], ◌∷◌, ◌++◌, length, take, drop, ◌≢◌, slice_index_or}
+use Rattle.std.specs.Prelude.{◌≡◌, ℕ, ◌+◌, ◌<◌, ◌≤◌, true, false, ◌⊎◌, ◌↔◌, List, [], ◌∷◌, ◌++◌, length, take, drop, ◌≢◌, slice_index_or, Ok, Err}
 use mathlib.Core.List.{Memᴰ, Permᴰ}
 use Rattle.std.proofs.Math.Option.{some, none}
 use Rattle.word.specs.Word.{Bytes}
-use Rattle.notice.specs.declared.Layout.{Layout}
+use Rattle.refusal.specs.declared.Refusal.{Refusal}
+use Rattle.refusal.specs.declared.Refusal.TheVariants.{Notice}
+use Rattle.notice.specs.Layout.{Layout}
 use Rattle.notice.specs.Field.{Field, all_right, rising}
 use Rattle.notice.specs.Render.{fields_bytes, render, NoticeFields}
 use Rattle.notice.specs.Layout.{count_of, header_right, stands_at, check_of, fields_of}
@@ -14,7 +16,7 @@ use Rattle.notice.specs.Write.{field, insert_field, written_of, written_bytes, W
 
 -- A slice is a well-formed notice exactly if it is the bytes of some list of at most 64 right fields with rising names, at most 16,384 bytes in all.
 abbrev pub WellFormedExactly : Type 0
-WellFormedExactly = (s : List ℕ) → Bytes s → (check_of s ≡ Layout.WellFormed) ↔ ((fs : List Field) × NoticeFields fs × (s ≡ render fs))
+WellFormedExactly = (s : List ℕ) → Bytes s → (check_of s ≡ Ok tt) ↔ ((fs : List Field) × NoticeFields fs × (s ≡ render fs))
 
 -- the last of some names, the first of which comes before the fields
 abbrev pub last_name : List ℕ → List Field → List ℕ
@@ -25,10 +27,14 @@ last_name name (f ∷ fs) = last_name f.name fs
 -- no field starts that is right and comes after them; or as many, and the place is the first byte after them.
 abbrev pub FaultPlace : Type 0
 FaultPlace =
-    (s : List ℕ) (place : ℕ) → Bytes s → check_of s ≡ Layout.Fault place →
+    (s : List ℕ) (place : ℕ) → Bytes s → check_of s ≡ Err (Notice place) →
     ((header_right s ≡ false) × (place ≡ 0))
     ⊎ ((fs : List Field) × (header_right s ≡ true) × (all_right fs ≡ true) × (rising fs ≡ true) × (drop 8 s ≡ fields_bytes fs ++ drop place s) × (place ≡ 8 + length (fields_bytes fs))
     × (((length fs < count_of s) × (stands_at (last_name [] fs) s place ≡ false)) ⊎ ((length fs ≡ count_of s) × (place < length s))))
+
+-- Bytes that are no notice are refused by 11, with a place, and by no other refusal.
+abbrev pub OnlyFault : Type 0
+OnlyFault = (s : List ℕ) (r : Refusal) → check_of s ≡ Err r → (place : ℕ) × (r ≡ Notice place)
 
 -- The list of a well-formed notice is unique, and is the one that the walk over the bytes gives.
 abbrev pub OneList : Type 0
@@ -39,12 +45,12 @@ FieldsRead = (fs : List Field) → NoticeFields fs → fields_of (render fs) ≡
 
 -- "u16 field count": the header's count is the number of fields.
 abbrev pub CountFields : Type 0
-CountFields = (s : List ℕ) → Bytes s → check_of s ≡ Layout.WellFormed → count_of s ≡ length (fields_of s)
+CountFields = (s : List ℕ) → Bytes s → check_of s ≡ Ok tt → count_of s ≡ length (fields_of s)
 
 -- Reading gives each of these fields and is not refused.
 abbrev pub ReadEach : Type 0
 ReadEach =
-    (s : List ℕ) (k : ℕ) → Bytes s → check_of s ≡ Layout.WellFormed → k < length (fields_of s) → (read_number s k ≡ 0) × (read_field s k ≡ slice_index_or (fields_of s) k blank)
+    (s : List ℕ) (k : ℕ) → Bytes s → check_of s ≡ Ok tt → k < length (fields_of s) → (read_number s k ≡ 0) × (read_field s k ≡ slice_index_or (fields_of s) k blank)
 
 -- Lookup finds what the list of fields has under the name: the field's kind, and its value as a part of the notice.
 abbrev pub Lookup : Type 0
@@ -83,7 +89,7 @@ NoIndex = (name : List ℕ) (fs : List Field) → (index_of name fs ≡ none) �
 abbrev pub WriteAdds : Type 0
 WriteAdds =
     (buffer : List ℕ) (len : ℕ) (f : Field) → Bytes buffer → (written_of buffer len f).number ≡ 0 →
-    (check_of (take (written_of buffer len f).len (written_bytes buffer len f)) ≡ Layout.WellFormed)
+    (check_of (take (written_of buffer len f).len (written_bytes buffer len f)) ≡ Ok tt)
     × (fields_of (take (written_of buffer len f).len (written_bytes buffer len f)) ≡ insert_field f (fields_of (take len buffer)))
 
 -- Insertion keeps every field and adds the new one.
@@ -93,7 +99,7 @@ InsertAdds = (f : Field) (fs : List Field) → (pre post : List Field) × (fs �
 -- All fields of a notice, written in any order from the empty notice in any buffer that has room, are not refused, leave the notice's own bytes, and the bytes after them stay.
 abbrev pub WrittenAgain : Type 0
 WrittenAgain =
-    (s : List ℕ) → Bytes s → check_of s ≡ Layout.WellFormed → (fs : List Field) → Permᴰ fs (fields_of s) →
+    (s : List ℕ) → Bytes s → check_of s ≡ Ok tt → (fs : List Field) → Permᴰ fs (fields_of s) →
     (buffer : List ℕ) → take 8 buffer ≡ render [] → length s ≤ length buffer →
     Writes fs buffer 8 (s ++ drop (length s) buffer) (length s)
 

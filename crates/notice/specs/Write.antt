@@ -1,12 +1,12 @@
 -- Writing: "Writing adds one field, at its name's place, to a notice at the start of a lent buffer whose length the caller names; the bytes after the new notice stay."
-use Rattle.std.specs.Prelude.{◌≡◌, ℕ, suc, ◌+◌, ◌≤◌, Bool, false, cond, not, ◌&&◌, ◌||◌, List, [], ◌∷◌, ◌++◌, length, take, drop, ◌==◌, nat_le, nat_lt}
+use Rattle.std.specs.Prelude.{◌≡◌, ℕ, suc, ◌+◌, ◌≤◌, Bool, false, cond, not, ◌&&◌, ◌||◌, List, [], ◌∷◌, ◌++◌, length, take, drop, ◌==◌, nat_le, nat_lt, Ok, Err}
 use Rattle.common.specs.Choice.{pick}
 use Rattle.octets.specs.Octets.{same_of, before_of}
+use Rattle.refusal.specs.declared.Refusal.TheVariants.{Notice}
 use Rattle.notice.specs.Field.{Field, name_right, size_right}
 use Rattle.notice.specs.Render.{render}
 use Rattle.notice.specs.Layout.{unless, name_at, count_of, check_of, number_of, place_of, starts_of, fields_of}
-use Rattle.notice.specs.declared.Layout.{Layout}
-use Rattle.notice.specs.declared.Layout.TheVariants.{WellFormed, Fault}
+use Rattle.notice.specs.Layout.{Layout}
 use Rattle.notice.specs.declared.Written.{Written}
 
 abbrev pub field : ℕ → List ℕ → List ℕ → Field
@@ -46,7 +46,7 @@ place_for s name = place_in s name (starts_of s)
 
 -- "11 (also if the named length passes the buffer, place 0)"
 abbrev pub layout_in : List ℕ → ℕ → Layout
-layout_in buffer len = pick (nat_le len (length buffer)) (λ _. check_of (take len buffer)) (λ _. Fault 0)
+layout_in buffer len = pick (nat_le len (length buffer)) (λ _. check_of (take len buffer)) (λ _. Err (Notice 0))
 
 -- "15: 65th field, over 16,384 bytes, or buffer too short"
 abbrev pub has_room : ℕ → ℕ → ℕ → Bool
@@ -63,8 +63,8 @@ refusal_in s room f =
 
 -- "Writing: 11, 13, 16, 14, 15"
 abbrev pub refusal_by : Layout → List ℕ → ℕ → Field → ℕ
-refusal_by (Fault place) buffer len f = number_of (Fault place)
-refusal_by WellFormed buffer len f = refusal_in (take len buffer) (length buffer) f
+refusal_by (Err r) buffer len f = number_of (Err r)
+refusal_by (Ok u) buffer len f = refusal_in (take len buffer) (length buffer) f
 
 abbrev pub refusal_of : List ℕ → ℕ → Field → ℕ
 refusal_of buffer len f = refusal_by (layout_in buffer len) buffer len f
@@ -72,7 +72,7 @@ refusal_of buffer len f = refusal_by (layout_in buffer len) buffer len f
 -- a field that no refusal meets
 pub record Insertable (buffer : List ℕ) (len : ℕ) (f : Field) : Type 0 where
   pub within : len ≤ length buffer
-  pub well : check_of (take len buffer) ≡ WellFormed
+  pub well : check_of (take len buffer) ≡ Ok tt
   pub accepted : refusal_in (take len buffer) (length buffer) f ≡ 0
 
 -- the new notice, and "the bytes after the new notice stay"

@@ -4,7 +4,6 @@
 ghost use Rattle.std.specs.Prelude.{◌≡◌, ◌≤◌, true, [], length};
 ghost use Rattle.std.proofs.lemmas.List.Edits.{sets};
 ghost use Rattle.notice.specs.Layout.{header_right, count_of, check_from, check_of, right_at, stood_from, stood_of, Indexed};
-ghost use Rattle.notice.specs.declared.Layout.TheVariants.{WellFormed};
 ghost use Rattle.notice.specs.Lookup.{found_at, lookup_of};
 ghost use Rattle.notice.specs.Search.{find_of};
 
@@ -19,21 +18,16 @@ pub use field::{field_size, name_size, size_right, stands};
 pub use name::name_right;
 use order::{follows, key_at};
 pub use reading::{kind_of, locate, name_of, part, read, value_of};
+use refusal::Refusal;
 use search::{halved, search, sought, walked};
 pub use writing::write;
 
-// A notice is well-formed, or its first fault is at a place.
-#[derive(Drop)]
-pub enum Layout {
-    WellFormed,
-    Fault(usize),
-}
-
-// A field's kind and where its value lies, or none.
-#[derive(Drop)]
-pub enum Found {
-    At { kind: u16, start: u16, len: u16 },
-    Nothing,
+// A field that was found: its kind, and where its value lies.
+#[derive(Clone, Copy)]
+pub struct FoundField {
+    pub kind: u16,
+    pub start: u16,
+    pub len: u16,
 }
 
 // What finding a name answers: document 01's number and place, the field's index, 64 if there is no such field, and how many names were looked at.
@@ -94,7 +88,7 @@ fn header_right(notice: &[u8]) -> bool
 }
 
 // The fields in order, each name after the last one, and nothing after them. It leaves the start of each field that stands.
-fn check_fields(notice: &[u8], starts: &mut [u16; 64]) -> Layout
+fn check_fields(notice: &[u8], starts: &mut [u16; 64]) -> Result<(), Refusal>
     requires { header_right notice.now ≡ true }
     ensures value { result ≡ check_from (count_of notice.now) [] notice.now 8 }
     ensures starts_after { starts.new ≡ sets starts.old 0 (stood_from (count_of notice.now) [] notice.now 8) }
@@ -113,29 +107,29 @@ fn check_fields(notice: &[u8], starts: &mut [u16; 64]) -> Layout
             at = at + 2 + field_size(notice, at);
             i += 1;
         } else {
-            return Layout::Fault(at);
+            return Err(Refusal::Notice(at));
         }
     }
     if at == notice.len() {
-        Layout::WellFormed
+        Ok(())
     } else {
-        Layout::Fault(at)
+        Err(Refusal::Notice(at))
     }
 }
 
 // Whether a slice is a notice, and the place of the first fault if it is none; with the starts of its fields, up to the first fault.
-pub fn index(notice: &[u8], starts: &mut [u16; 64]) -> Layout
+pub fn index(notice: &[u8], starts: &mut [u16; 64]) -> Result<(), Refusal>
     ensures value { result ≡ check_of notice.now }
     ensures starts_after { starts.new ≡ sets starts.old 0 (stood_of notice.now) }
 {
     if header_right(notice) {
         return check_fields(notice, starts);
     }
-    Layout::Fault(0)
+    Err(Refusal::Notice(0))
 }
 
 // The same for a caller who needs no starts.
-pub fn check(notice: &[u8]) -> Layout
+pub fn check(notice: &[u8]) -> Result<(), Refusal>
     ensures { result ≡ check_of notice.now }
 {
     let mut starts: [u16; 64] = [0; 64];
@@ -143,13 +137,13 @@ pub fn check(notice: &[u8]) -> Layout
 }
 
 // Where a field's kind and value lie.
-fn found_at(notice: &[u8], at: usize) -> Found
+fn found_at(notice: &[u8], at: usize) -> FoundField
     requires { (length notice.now ≤ 16384) × (right_at notice.now at ≡ true) }
     ensures { result ≡ found_at notice.now at }
 {
     let value = at + 5 + name_size(notice, at);
     let next = at + 2 + field_size(notice, at);
-    Found::At {
+    FoundField {
         kind: word::read_u16(notice, at + 2),
         start: value as u16,
         len: (next - value) as u16,
@@ -157,39 +151,39 @@ fn found_at(notice: &[u8], at: usize) -> Found
 }
 
 // The field of a name: "5 the field's or bottom". It asks for a notice found well-formed, in which the search may stop; it finds what a walk over all fields finds.
-pub fn lookup(notice: &[u8], name: &[u8]) -> Found
-    requires { check_of notice.now ≡ WellFormed }
+pub fn lookup(notice: &[u8], name: &[u8]) -> Option<FoundField>
+    requires { check_of notice.now ≡ Ok tt }
     ensures { result ≡ lookup_of notice.now name.now }
 {
     let stop = search(notice, name);
     if stop.found {
-        return found_at(notice, stop.at);
+        return Some(found_at(notice, stop.at));
     }
-    Found::Nothing
+    None
 }
 
 // The same for a caller who has the starts of its fields, by halving.
-pub fn lookup_in(notice: &[u8], starts: &[u16; 64], name: &[u8]) -> Found
-    requires { (check_of notice.now ≡ WellFormed) × Indexed notice.now starts.now }
+pub fn lookup_in(notice: &[u8], starts: &[u16; 64], name: &[u8]) -> Option<FoundField>
+    requires { (check_of notice.now ≡ Ok tt) × Indexed notice.now starts.now }
     ensures { result ≡ lookup_of notice.now name.now }
 {
     let stop = halved(notice, starts, name);
     if stop.found {
-        return found_at(notice, stop.at);
+        return Some(found_at(notice, stop.at));
     }
-    Found::Nothing
+    None
 }
 
 // The same for such a caller outside the run, in order: a second caller of `lookup_in` would make it a call in the run's loop.
-pub fn lookup_along(notice: &[u8], starts: &[u16; 64], name: &[u8]) -> Found
-    requires { (check_of notice.now ≡ WellFormed) × Indexed notice.now starts.now }
+pub fn lookup_along(notice: &[u8], starts: &[u16; 64], name: &[u8]) -> Option<FoundField>
+    requires { (check_of notice.now ≡ Ok tt) × Indexed notice.now starts.now }
     ensures { result ≡ lookup_of notice.now name.now }
 {
     let stop = walked(notice, starts, name);
     if stop.found {
-        return found_at(notice, stop.at);
+        return Some(found_at(notice, stop.at));
     }
-    Found::Nothing
+    None
 }
 
 // The index of a name's field and the names looked at, for any bytes: 11 with its place if they are no notice.
@@ -198,10 +192,10 @@ pub fn find(notice: &[u8], name: &[u8]) -> Sought
 {
     let layout = check(notice);
     match layout {
-        Layout::WellFormed => sought(notice, name),
-        Layout::Fault(place) => Sought {
-            number: 11,
-            place: place,
+        Ok(()) => sought(notice, name),
+        Err(r) => Sought {
+            number: r.number(),
+            place: r.place(),
             index: 64,
             looked: 0,
         },

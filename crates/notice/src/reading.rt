@@ -4,7 +4,7 @@ ghost use Rattle.notice.specs.Layout.{starts_of};
 ghost use Rattle.notice.specs.Read.{part_of, nowhere as nowhereOf, read_field, Located, ReadIs};
 
 use crate::field::{field_size, name_size};
-use crate::{FieldParts, Layout, Place, check};
+use crate::{FieldParts, Place, check};
 
 fn nowhere(number: u8, place: usize) -> Place
     ensures { result ≡ nowhereOf number place }
@@ -39,8 +39,8 @@ pub fn locate(notice: &[u8], k: usize) -> Place
 {
     let layout = check(notice);
     match layout {
-        Layout::Fault(place) => nowhere(11, place),
-        Layout::WellFormed => {
+        Err(r) => nowhere(r.number(), r.place()),
+        Ok(()) => {
             if word::read_u16(notice, 6) as usize <= k {
                 return nowhere(17, 0);
             }

@@ -1,7 +1,6 @@
 // The search for a name. Document 02, request 11: "Names rise, so in a notice found well-formed the search for a field should stop at the first name not below the one sought".
 ghost use Rattle.std.specs.Prelude.{◌≡◌, true, ◌∷◌, drop};
 ghost use Rattle.notice.specs.Layout.{name_at, right_at, check_of, Indexed};
-ghost use Rattle.notice.specs.declared.Layout.TheVariants.{WellFormed};
 ghost use Rattle.notice.specs.Search.{StandsTo, Stops, sought_of};
 
 use crate::Sought;
@@ -56,7 +55,7 @@ fn stands_to(notice: &[u8], at: usize, name: &[u8], first: u8) -> Standing
 
 // The fields in order, until one's name is not below the one sought. No name is below the empty one.
 pub(crate) fn search(notice: &[u8], name: &[u8]) -> Stop
-    requires { check_of notice.now ≡ WellFormed }
+    requires { check_of notice.now ≡ Ok tt }
     ensures { Stops notice.now name.now result }
 {
     let mut left = word::read_u16(notice, 6);
@@ -99,7 +98,7 @@ pub(crate) fn search(notice: &[u8], name: &[u8]) -> Stop
 
 // The same by halving, for a caller who has the fields' starts: the names before `low` are below the one sought, those from `high` on above it.
 pub(crate) fn halved(notice: &[u8], starts: &[u16; 64], name: &[u8]) -> Stop
-    requires { (check_of notice.now ≡ WellFormed) × Indexed notice.now starts.now }
+    requires { (check_of notice.now ≡ Ok tt) × Indexed notice.now starts.now }
     ensures { Stops notice.now name.now result }
 {
     let n = word::read_u16(notice, 6);
@@ -138,7 +137,7 @@ pub(crate) fn halved(notice: &[u8], starts: &[u16; 64], name: &[u8]) -> Stop
 
 // The same in order, by the starts: none of them waits for the length of the field before.
 pub(crate) fn walked(notice: &[u8], starts: &[u16; 64], name: &[u8]) -> Stop
-    requires { (check_of notice.now ≡ WellFormed) × Indexed notice.now starts.now }
+    requires { (check_of notice.now ≡ Ok tt) × Indexed notice.now starts.now }
     ensures { Stops notice.now name.now result }
 {
     let n = word::read_u16(notice, 6);
@@ -181,7 +180,7 @@ pub(crate) fn walked(notice: &[u8], starts: &[u16; 64], name: &[u8]) -> Stop
 
 // What finding a name in a notice answers: the names looked at are "those below the one sought, and one more if any is left".
 pub(crate) fn sought(notice: &[u8], name: &[u8]) -> Sought
-    requires { check_of notice.now ≡ WellFormed }
+    requires { check_of notice.now ≡ Ok tt }
     ensures { result ≡ sought_of notice.now name.now }
 {
     let stop = search(notice, name);

@@ -1,14 +1,13 @@
 // Writing: one field more, at its name's place, in a lent buffer.
 ghost use Rattle.std.specs.Prelude.{◌≡◌, ◌+◌, ◌≤◌, length};
 ghost use Rattle.std.proofs.lemmas.List.Edits.{sets};
-ghost use Rattle.notice.specs.declared.Layout.TheVariants.{WellFormed};
 ghost use Rattle.notice.specs.Layout.{check_of};
 ghost use Rattle.notice.specs.Render.{field_bytes};
 ghost use Rattle.notice.specs.Write.{field, place_for, has_room, refusal_in, Insertable, inserted_bytes, WriteIs};
 
 use crate::field::{field_size, lies, name_size, size_right};
 use crate::name::name_right;
-use crate::{Found, Layout, Written, check, lookup};
+use crate::{Written, check, lookup};
 
 // The start of the first field that a name is before, or the notice's end.
 fn place_for(notice: &[u8], name: &[u8]) -> usize
@@ -53,7 +52,7 @@ fn has_room(count: u16, size: usize, room: usize) -> bool
 
 // The refusals of a field for a notice in `room` bytes: 13, 16, 14, 15 in this order, and 0 for none.
 fn refusal(notice: &[u8], room: usize, name: &[u8], kind: u16, value: &[u8]) -> u8
-    requires { check_of notice.now ≡ WellFormed }
+    requires { check_of notice.now ≡ Ok tt }
     ensures { result ≡ refusal_in notice.now room (field kind name.now value.now) }
 {
     let named = name_right(name);
@@ -62,12 +61,8 @@ fn refusal(notice: &[u8], room: usize, name: &[u8], kind: u16, value: &[u8]) -> 
         if sized {
             let found = lookup(notice, name);
             match found {
-                Found::At {
-                    kind: _,
-                    start: _,
-                    len: _,
-                } => 14,
-                Found::Nothing => {
+                Some(_) => 14,
+                None => {
                     let size = notice.len() + (5 + name.len() + value.len());
                     if has_room(word::read_u16(notice, 6), size, room) {
                         0
@@ -112,12 +107,12 @@ pub fn write(buffer: &mut [u8], len: usize, name: &[u8], kind: u16, value: &[u8]
     let room = buffer.len();
     let layout = check(&buffer[0..len]);
     match layout {
-        Layout::Fault(place) => Written {
-            number: 11,
-            place,
+        Err(r) => Written {
+            number: r.number(),
+            place: r.place(),
             len,
         },
-        Layout::WellFormed => {
+        Ok(()) => {
             let number = refusal(&buffer[0..len], room, name, kind, value);
             if number != 0 {
                 return Written {

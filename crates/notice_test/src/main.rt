@@ -7,9 +7,8 @@
 ghost use Rattle.std.specs.Prelude.{◌≡◌, IfOk};
 ghost use Rattle.notice.specs.Layout.{check_of, Indexed};
 ghost use Rattle.notice.specs.Read.{read_number};
-ghost use Rattle.notice.specs.declared.Layout.TheVariants.{WellFormed};
 
-use notice::{Found, Layout};
+use notice::FoundField;
 use std::io;
 use std::io::{BufReader, BufWriter, Write};
 
@@ -54,17 +53,17 @@ fn put_field(to: &mut impl io::Write, s: &[u8], k: usize) -> io::Result<usize>
 }
 
 fn put_found(to: &mut impl io::Write, s: &[u8], name: &[u8]) -> io::Result<()>
-    requires { check_of s.now ≡ WellFormed }
+    requires { check_of s.now ≡ Ok tt }
 {
     let found = notice::lookup(s, name);
     match found {
-        Found::At { kind, start, len } => {
+        Some(FoundField { kind, start, len }) => {
             put_number(to, kind as u64)?;
             let a = start as usize;
             let e = a + len as usize;
             put_hex(to, notice::part(s, a, e))
         }
-        Found::Nothing => put(to, b"- - "),
+        None => put(to, b"- - "),
     }
 }
 
@@ -72,8 +71,8 @@ fn put_found(to: &mut impl io::Write, s: &[u8], name: &[u8]) -> io::Result<()>
 fn put_checked(to: &mut impl io::Write, s: &[u8], name: &[u8]) -> io::Result<()> {
     let layout = notice::check(s);
     match layout {
-        Layout::WellFormed => put_found(to, s, name),
-        Layout::Fault(_) => Ok(()),
+        Ok(()) => put_found(to, s, name),
+        Err(_) => Ok(()),
     }
 }
 
@@ -103,16 +102,16 @@ fn write_case(
 // What was found, as one number.
 fn packed(found: Found) -> u64 {
     match found {
-        Found::At { kind, start, len } => {
+        Some(FoundField { kind, start, len }) => {
             ((kind as u64) << 32) | ((start as u64) << 16) | (len as u64)
         }
-        Found::Nothing => 1 << 48,
+        None => 1 << 48,
     }
 }
 
 // Nothing is printed where halving and the walk by the starts find what lookup finds.
 fn put_halved(to: &mut impl io::Write, s: &[u8], starts: &[u16; 64], name: &[u8]) -> io::Result<()>
-    requires { (check_of s.now ≡ WellFormed) × Indexed s.now starts.now }
+    requires { (check_of s.now ≡ Ok tt) × Indexed s.now starts.now }
 {
     let found = packed(notice::lookup(s, name));
     if packed(notice::lookup_in(s, starts, name)) != found {
@@ -128,8 +127,8 @@ fn put_indexed(to: &mut impl io::Write, s: &[u8], name: &[u8]) -> io::Result<()>
     let mut starts: [u16; 64] = [0; 64];
     let layout = notice::index(s, &mut starts);
     match layout {
-        Layout::WellFormed => put_halved(to, s, &starts, name),
-        Layout::Fault(_) => Ok(()),
+        Ok(()) => put_halved(to, s, &starts, name),
+        Err(_) => Ok(()),
     }
 }
 

@@ -1,4 +1,5 @@
 -- The field Staff, as the lookup finds it. Assumes nothing.
+use Rattle.std.specs.Prelude.{Option as Optional, Some, None}
 use mathlib.Core.Path.{◌≡◌, refl, sym, ap, subst, ◌∙◌}
 use mathlib.Core.Bool.{Bool, true, false, ◌&&◌}
 use mathlib.Core.List.{List, [], ◌∷◌}
@@ -12,8 +13,7 @@ use borrow.Author.Tests.{leb-true}
 use Rattle.common.specs.Choice.{pick}
 use Rattle.octets.proofs.Theorems.{and_parts}
 use Rattle.notice.specs.Field.{Field}
-use Rattle.notice.specs.declared.Found.{Found}
-use Rattle.notice.specs.declared.Found.TheVariants.{At, Nothing}
+use Rattle.notice.specs.declared.FoundField.{FoundField}
 use Rattle.notice.specs.Lookup.{lookup_of, FoundIs}
 use Rattle.notice.proofs.Theorems.{lookup}
 use Rattle.quorum.specs.Showing.{staff_name, staff_field, staff_right, staff_in, staff_of}
@@ -21,31 +21,31 @@ use Rattle.quorum.specs.Theorems.{string_in, staffs_of}
 
 module _ (s : List ℕ) where
   -- what the lookup finds is what the list of fields has under the name
-  here : (f : Found) → lookup_of s staff_name ≡ f → FoundIs s f (staff_field s)
-  here f e = subst (λ (x : Found). FoundIs s x (staff_field s)) e (lookup s staff_name)
+  here : (f : Optional FoundField) → lookup_of s staff_name ≡ f → FoundIs s f (staff_field s)
+  here f e = subst (λ (x : Optional FoundField). FoundIs s x (staff_field s)) e (lookup s staff_name)
 
   -- absent
-  pub staff_none : lookup_of s staff_name ≡ Nothing → [] ≡ staff_of s
-  staff_none e = go (staff_field s) (here Nothing e)
+  pub staff_none : lookup_of s staff_name ≡ None → [] ≡ staff_of s
+  staff_none e = go (staff_field s) (here None e)
     where
-      go : (o : Option Field) → FoundIs s Nothing o → [] ≡ staff_in o
+      go : (o : Option Field) → FoundIs s None o → [] ≡ staff_in o
       go none f = refl
       go (some f) x = absurd x
 
-  module _ (kind start len : ℕ) (e : lookup_of s staff_name ≡ At kind start len) where
+  module _ (kind start len : ℕ) (e : lookup_of s staff_name ≡ Some (record { kind = kind; start = start; len = len })) where
     -- found: the value lies in the notice
     pub staff_lies : start + len ≤ length s
-    staff_lies = go (staff_field s) (here (At kind start len) e)
+    staff_lies = go (staff_field s) (here (Some (record { kind = kind; start = start; len = len })) e)
       where
-        go : (o : Option Field) → FoundIs s (At kind start len) o → start + len ≤ length s
+        go : (o : Option Field) → FoundIs s (Some (record { kind = kind; start = start; len = len })) o → start + len ≤ length s
         go none x = absurd x
         go (some f) x = x.1
 
     -- its kind and length decide
     is : pick (eqb kind 4 && (leb 1 len && leb len 64)) (λ _. take len (drop start s)) (λ _. []) ≡ staff_of s
-    is = go (staff_field s) (here (At kind start len) e)
+    is = go (staff_field s) (here (Some (record { kind = kind; start = start; len = len })) e)
       where
-        go : (o : Option Field) → FoundIs s (At kind start len) o → pick (eqb kind 4 && (leb 1 len && leb len 64)) (λ _. take len (drop start s)) (λ _. []) ≡ staff_in o
+        go : (o : Option Field) → FoundIs s (Some (record { kind = kind; start = start; len = len })) o → pick (eqb kind 4 && (leb 1 len && leb len 64)) (λ _. take len (drop start s)) (λ _. []) ≡ staff_in o
         go none x = absurd x
         go (some f) x =
             let l : start + len ≤ length s = x.1 in

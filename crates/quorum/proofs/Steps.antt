@@ -1,4 +1,5 @@
 -- What one notice does to a decision, and what the notices since an opening do. Assumes nothing.
+use Rattle.std.specs.Prelude.{Ok, Err}
 use mathlib.Core.Path.{◌≡◌, refl, sym, ap, subst, ◌∙◌}
 use mathlib.Core.Bool.{Bool, true, false, ◌&&◌, ◌||◌}
 use mathlib.Core.List.{List, [], ◌∷◌, ◌++◌, append_assoc}
@@ -9,7 +10,9 @@ use lib.ListN.{length, get_or, length-append}
 use borrow.Author.Tests.{lt-ltb, le-ltb, le-leb, lt-leb, ne_eqb, eq-eqb}
 use Rattle.common.proofs.Choice.{true_false}
 use Rattle.truth.specs.Truth.{is_true}
-use Rattle.notice.specs.declared.Layout.{Layout}
+use Rattle.refusal.specs.declared.Refusal.{Refusal}
+use Rattle.notice.specs.Layout.{Layout}
+use Rattle.notice.proofs.Faults.{fault_number}
 use Rattle.notice.specs.Layout.{check_of as noticeCheck}
 use Rattle.table.specs.Check.{check_of as tableCheck}
 use Rattle.interpreter.specs.declared.Ran.{Ran}
@@ -54,8 +57,8 @@ run_number : (table notice : List ℕ) → tableCheck table ≡ true → 1 ≤ (
 run_number table notice e h = go (noticeCheck notice) refl
   where
     go : (l : Layout) → noticeCheck notice ≡ l → (running_of table notice).number ≡ 11
-    go Layout.WellFormed q = let z : (running_of table notice).number ≡ 0 = ap (λ (r : Ran). r.number) (sym (neither_refused table notice e q)) in absurd (omega arith)
-    go (Layout.Fault place) q = ap (λ (r : Ran). r.number) (sym (notice_refused table notice place e q))
+    go (Ok u) q = let z : (running_of table notice).number ≡ 0 = ap (λ (r : Ran). r.number) (sym (neither_refused table notice e q)) in absurd (omega arith)
+    go (Err r) q = ap (λ (a : Ran). a.number) (sym (notice_refused table notice r e q)) ∙ fault_number notice r q
 
 module _ (s notice after : List ℕ) (a : Shown) (h : Holding s) (w : Shows s notice after a) where
   abbrev event : Event

@@ -1,4 +1,5 @@
 -- What a notice is to a decision, case by case, and what is answered. Assumes nothing.
+use Rattle.std.specs.Prelude.{Ok}
 use mathlib.Core.Path.{◌≡◌, refl, sym, ap, subst, ◌∙◌}
 use mathlib.Core.Bool.{Bool, true, false, cond}
 use mathlib.Core.List.{List, ◌∷◌}
@@ -12,7 +13,6 @@ use Rattle.common.specs.Choice.{pick}
 use Rattle.common.proofs.Choice.{true_false}
 use Rattle.truth.specs.Truth.{is_true}
 use Rattle.notice.specs.Layout.{check_of as noticeCheck}
-use Rattle.notice.specs.declared.Layout.TheVariants.{WellFormed}
 use Rattle.interpreter.specs.declared.Ran.{Ran}
 use Rattle.interpreter.specs.Running.{running_of}
 use Rattle.interpreter.proofs.Answers.{ran_well}
@@ -130,7 +130,7 @@ module _ (s notice : List ℕ) where
       added : adds t ≡ true → Delivered (kept s) notice × (length (kept s).values < 8)
       added a = adding (kept s) notice (turn_of (kept s) notice) (told (kept s) notice) (rw e at a)
 
-      pub added-well : adds t ≡ true → noticeCheck notice ≡ WellFormed
+      pub added-well : adds t ≡ true → noticeCheck notice ≡ Ok tt
       added-well a = ran_well (kept s).table notice (added a).0.accepted
 
       pub free-place : adds t ≡ true → count_of s < 8

@@ -1,10 +1,9 @@
 -- What opening and showing answer, and every byte of the buffer afterwards. Document 02, request 3.
-use Rattle.std.specs.Prelude.{ℕ, ◌+◌, ◌≡◌, Bool, true, false, cond, ◌&&◌, List, [], ◌∷◌, eqb, leb, ltb, length}
+use Rattle.std.specs.Prelude.{ℕ, ◌+◌, ◌≡◌, Bool, true, false, cond, ◌&&◌, List, [], ◌∷◌, eqb, leb, ltb, length, Ok}
 use Rattle.std.proofs.Math.Option.{Option, some, none}
 use Rattle.common.specs.Choice.{pick}
 use Rattle.truth.specs.Truth.{is_true}
 use Rattle.notice.specs.Field.{Field}
-use Rattle.notice.specs.declared.Layout.TheVariants.{WellFormed}
 use Rattle.notice.specs.Layout.{unless, check_of as noticeCheck, fields_of, Indexed}
 use Rattle.notice.specs.Lookup.{field_named}
 use Rattle.table.specs.Check.{check_of as tableCheck, refusal_of}
@@ -53,7 +52,7 @@ pub record Opens (s table : List ℕ) (needed : ℕ) (after : List ℕ) (r : Sho
 
 -- what the run of a notice leaves, so that Staff need not be sought field by field: the starts of its fields, if the notice is well-formed
 abbrev pub Marks : List ℕ → List ℕ → Type 0
-Marks notice starts = noticeCheck notice ≡ WellFormed → Indexed notice starts
+Marks notice starts = noticeCheck notice ≡ Ok tt → Indexed notice starts
 
 -- its name
 abbrev pub staff_name : List ℕ

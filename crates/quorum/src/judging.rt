@@ -1,7 +1,6 @@
 // What a notice is to a decision.
 ghost use Rattle.std.specs.Prelude.{◌≡◌, true, length};
 ghost use Rattle.notice.specs.Layout.{check_of as noticeCheck, Indexed};
-ghost use Rattle.notice.specs.declared.Layout.TheVariants.{WellFormed};
 ghost use Rattle.table.specs.Check.{check_of as tableCheck};
 ghost use Rattle.interpreter.specs.Running.{running_of};
 ghost use Rattle.quorum.specs.Decision.{table_of, values_of, kept, holds_of};
@@ -10,18 +9,18 @@ ghost use Rattle.quorum.specs.Showing.{Marks, staff_of, staff_turn, turn_of};
 use crate::Turn;
 use crate::state::{has, size_of};
 use interpreter::Ran;
-use notice::{Found, Layout};
+use notice::FoundField;
 use truth::Truth;
 
 // The value of the field Staff, or no bytes if it is absent, no string or not 1..64 bytes. It asks for a notice found well-formed, so that the search may stop (document 02, request 11).
 pub fn staff<'a>(notice: &'a [u8], starts: &[u16; 64]) -> &'a [u8]
-    requires { (noticeCheck notice.now ≡ WellFormed) × Indexed notice.now starts.now }
+    requires { (noticeCheck notice.now ≡ Ok tt) × Indexed notice.now starts.now }
     ensures { result.now ≡ staff_of notice.now }
 {
     let found = notice::lookup_along(notice, starts, b"Staff");
     match found {
-        Found::Nothing => &notice[0..0],
-        Found::At { kind, start, len } => {
+        None => &notice[0..0],
+        Some(FoundField { kind, start, len }) => {
             if (kind == 4) & ((1 <= len) & (len <= 64)) {
                 let a = start as usize;
                 let e = a + len as usize;
@@ -64,10 +63,10 @@ fn run_by<'a>(table: &'a [u8], notice: &'a [u8], starts: &mut [u16; 64]) -> Ran
 {
     let layout = notice::index(&notice[0..], starts);
     match layout {
-        Layout::WellFormed => interpreter::run_whole(table, notice, starts),
-        Layout::Fault(place) => Ran {
-            number: 11,
-            place,
+        Ok(()) => interpreter::run_whole(table, notice, starts),
+        Err(r) => Ran {
+            number: r.number(),
+            place: r.place(),
             verdict: Truth::Bottom,
             steps: 0,
             undecided: 65535,

@@ -1,4 +1,5 @@
 -- What one run adds, and that it is small. Assumes nothing.
+use Rattle.std.specs.Prelude.{Ok, Err}
 use mathlib.Core.Path.{◌≡◌, sym, ap, ◌∙◌}
 use mathlib.Core.Bool.{true, false}
 use mathlib.Core.List.{List}
@@ -7,8 +8,8 @@ use native.Mathlib.Nat.{suc-mul}
 use native.Mathlib.Numerals.{add-one}
 use native.Mathlib.Omega.{arith}
 use Rattle.truth.specs.Truth.{rank}
+use Rattle.refusal.specs.declared.Refusal.{Refusal}
 use Rattle.notice.specs.Layout.{check_of as noticeCheck}
-use Rattle.notice.specs.declared.Layout.TheVariants.{WellFormed, Fault}
 use Rattle.table.specs.Table.{count_of, decode}
 use Rattle.table.specs.Check.{check_of as tableCheck}
 use Rattle.table.proofs.Theorems.{checked_layout}
@@ -39,8 +40,8 @@ module _ (table notice : List ℕ) (times : ℕ) where
   pub nothing : tableCheck table ≡ false → 0 ≡ repeat_of table notice times
   nothing e = rw e
 
-  pub no_notice : (place : ℕ) → tableCheck table ≡ true → noticeCheck notice ≡ Fault place → 0 ≡ repeat_of table notice times
-  no_notice place e f = rw (e, f)
+  pub no_notice : (r : Refusal) → tableCheck table ≡ true → noticeCheck notice ≡ Err r → 0 ≡ repeat_of table notice times
+  no_notice r e f = rw (e, f)
 
-  pub whole : tableCheck table ≡ true → noticeCheck notice ≡ WellFormed → times * weight_of (answer_of (decode table) notice) ≡ repeat_of table notice times
+  pub whole : tableCheck table ≡ true → noticeCheck notice ≡ Ok tt → times * weight_of (answer_of (decode table) notice) ≡ repeat_of table notice times
   whole e f = rw (e, f)

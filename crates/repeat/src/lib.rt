@@ -4,13 +4,11 @@
 ghost use Rattle.std.specs.Prelude.{◌≡◌, true, ◌+◌, ◌*◌, ◌≤◌};
 ghost use Rattle.truth.specs.Truth.{rank as rank_of};
 ghost use Rattle.notice.specs.Layout.{check_of as noticeCheck, Indexed};
-ghost use Rattle.notice.specs.declared.Layout.TheVariants.{WellFormed};
 ghost use Rattle.table.specs.Table.{decode};
 ghost use Rattle.table.specs.Check.{check_of as tableCheck};
 ghost use Rattle.interpreter.specs.Running.{answer_of};
 ghost use Rattle.repeat.specs.Repeat.{weight_of, repeat_of};
 
-use notice::Layout;
 use truth::Truth;
 
 // The verdict's rank among the truth values.
@@ -26,7 +24,7 @@ fn rank(t: Truth) -> u64
 
 // What one run adds to the sum. It asks for a table that passes the check, a notice found well-formed and the starts of its fields.
 fn weight<'a>(table: &'a [u8], notice: &'a [u8], starts: &[u16; 64]) -> u64
-    requires { (tableCheck table.now ≡ true) × (noticeCheck notice.now ≡ WellFormed) × Indexed notice.now starts.now }
+    requires { (tableCheck table.now ≡ true) × (noticeCheck notice.now ≡ Ok tt) × Indexed notice.now starts.now }
     ensures { (result ≡ weight_of (answer_of (decode table.now) notice.now)) × (result ≤ 268433410) }
 {
     let a = interpreter::run_whole(table, notice, starts);
@@ -36,7 +34,7 @@ fn weight<'a>(table: &'a [u8], notice: &'a [u8], starts: &[u16; 64]) -> u64
 
 // The sum over so many runs. It asks for a table that passes the check, a notice found well-formed and the starts of its fields.
 fn sum<'a>(table: &'a [u8], notice: &'a [u8], starts: &[u16; 64], times: u32) -> u64
-    requires { (tableCheck table.now ≡ true) × (noticeCheck notice.now ≡ WellFormed) × Indexed notice.now starts.now }
+    requires { (tableCheck table.now ≡ true) × (noticeCheck notice.now ≡ Ok tt) × Indexed notice.now starts.now }
     ensures { result ≡ times * weight_of (answer_of (decode table.now) notice.now) }
 {
     let mut total: u64 = 0;
@@ -58,7 +56,7 @@ pub fn repeat_run<'a>(table: &'a [u8], notice: &'a [u8], times: u32) -> u64
     let mut starts: [u16; 64] = [0; 64];
     let layout = notice::index(notice, &mut starts);
     match layout {
-        Layout::WellFormed => sum(table, notice, &starts, times),
-        Layout::Fault(_) => 0,
+        Ok(()) => sum(table, notice, &starts, times),
+        Err(_) => 0,
     }
 }

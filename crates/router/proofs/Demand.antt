@@ -1,4 +1,5 @@
 -- Demand 3, as specs/Demand.antt states it. Assumes nothing.
+use Rattle.std.specs.Prelude.{Ok, Err}
 use Prim.Native.Nat.{ℕ, ◌≤◌}
 use native.Mathlib.Omega.{arith}
 use mathlib.Core.Path.{◌≡◌, refl, sym, ap, ◌∙◌, subst}
@@ -14,9 +15,11 @@ use borrow.Author.Tests.{ne_eqb}
 use Rattle.common.specs.Choice.{pick}
 use Rattle.common.proofs.Choice.{false_true}
 use Rattle.word.specs.Word.{Bytes}
+use Rattle.refusal.specs.declared.Refusal.{Refusal}
+use Rattle.refusal.specs.Refusal.{number_of as refusal_number, place_of as refusal_place}
+use Rattle.refusal.proofs.Numbers.{refuses}
 use Rattle.notice.specs.Layout.{check_of as noticeCheck, number_of}
-use Rattle.notice.specs.declared.Layout.TheVariants.{WellFormed, Fault}
-use Rattle.notice.specs.declared.Layout.{Layout}
+use Rattle.notice.specs.Layout.{Layout}
 use Rattle.notice.specs.Field.{Field}
 use Rattle.notice.specs.Write.{written_of, written_bytes, refusal_of as refusal_in}
 use Rattle.lexer.proofs.Theorems.{stored}
@@ -64,7 +67,7 @@ module _ (edition : Edition) (text notice : List ℕ) (tree : Tree) (b : Bytes t
   whole = let h = pool_small text tree b a in runs_whole edition tree notice (omega arith) made
 
   -- the accepted text's own table, by the definitions, and a machine of the runner on it
-  met : noticeCheck notice ≡ WellFormed → {visits : ℕ} {m : Machine} → Visited (encode (compile edition tree)) notice visits m
+  met : noticeCheck notice ≡ Ok tt → {visits : ℕ} {m : Machine} → Visited (encode (compile edition tree)) notice visits m
       → Met edition text notice (encode (compile edition tree)) (running_of (encode (compile edition tree)) notice).number (running_of (encode (compile edition tree)) notice).verdict (running_of (encode (compile edition tree)) notice).steps visits m
   met w {visits} {m} v =
       let table = encode (compile edition tree) in
@@ -192,28 +195,28 @@ module _ (number : ℕ) (text buffer notice written : List ℕ) (visits : ℕ) (
 
 module _ (number : ℕ) (text buffer notice written : List ℕ) (visits : ℕ) (r : Matched) where
   -- a faulty notice: the buffer stays
-  pub fault_matches : (layout : Layout) (place : ℕ) → layout ≡ noticeCheck notice → layout ≡ Fault place → written ≡ buffer → r ≡ refusedWith (number_of (Fault place)) place → Matches number text buffer notice written visits r
-  fault_matches layout place e f b q =
-      let g : noticeCheck notice ≡ Fault place = sym e ∙ f in
+  pub fault_matches : (layout : Layout) (f : Refusal) → layout ≡ noticeCheck notice → layout ≡ Err f → written ≡ buffer → r ≡ refusedWith (refusal_number f) (refusal_place f) → Matches number text buffer notice written visits r
+  fault_matches layout f e w b q =
+      let g : noticeCheck notice ≡ Err f = sym e ∙ w in
       record {
         determined = record {
           answer = rw g q;
           bytes = rw g b;
-          runner = λ z. let n : (outcome_of number text (length buffer) notice).number ≡ number_of (Fault place) = rw g in let q : ⊥ = omega (arith, sym n ∙ z) in absurd q;
+          runner = λ z. let n : (outcome_of number text (length buffer) notice).number ≡ refusal_number f = rw g in refuses f (sym n ∙ z);
         };
         demand = λ edition tree is acc room w. no_way (sym w ∙ g);
       }
     where
       isFault : Layout → Bool
-      isFault WellFormed = false
-      isFault (Fault p) = true
+      isFault (Ok u) = false
+      isFault (Err r) = true
 
-      no_way : {A : Type 0} → WellFormed ≡ Fault place → A
+      no_way : {A : Type 0} → ◌≡◌ {A = Layout} (Ok tt) (Err f) → A
       no_way h = let z : ◌≡◌ {A = Bool} false true = ap isFault h in false_true z
 
-  pub run_matches : (layout : Layout) → layout ≡ noticeCheck notice → layout ≡ WellFormed → Bytes text → RunsTable (translation_of number text (length buffer)) buffer notice written visits r → Matches number text buffer notice written visits r
+  pub run_matches : (layout : Layout) → layout ≡ noticeCheck notice → layout ≡ Ok tt → Bytes text → RunsTable (translation_of number text (length buffer)) buffer notice written visits r → Matches number text buffer notice written visits r
   run_matches layout e f b a =
-      let g : noticeCheck notice ≡ WellFormed = sym e ∙ f in
+      let g : noticeCheck notice ≡ Ok tt = sym e ∙ f in
       record {
         determined = rw g a;
         demand = λ edition tree is acc room w.

@@ -6,7 +6,7 @@
 -- runner ever holds more than 32 values on its stack.
 --
 -- `DemandThree` says it of the answers of `translate`, `check`, `run` and `run_checked`, by their promises; `Matches` is the promise of `match_text`, which calls all four and carries it as well. The proofs are in proofs/Demand.antt.
-use Rattle.std.specs.Prelude.{ℕ, ◌≤◌, ◌≡◌, Bool, true, false, List, ◌↔◌, eqb, length, take}
+use Rattle.std.specs.Prelude.{ℕ, ◌≤◌, ◌≡◌, Bool, true, false, List, ◌↔◌, eqb, length, take, Ok, Err}
 use Rattle.std.proofs.Math.Option.{some}
 use Rattle.std.proofs.lemmas.List.Edits.{sets}
 use Rattle.common.specs.Choice.{pick}
@@ -14,8 +14,7 @@ use Rattle.word.specs.Word.{Bytes}
 use Rattle.truth.specs.declared.Truth.{Truth}
 use Rattle.truth.specs.declared.Truth.TheVariants.{Bottom}
 use Rattle.notice.specs.Layout.{check_of as noticeCheck, number_of, place_of}
-use Rattle.notice.specs.declared.Layout.TheVariants.{WellFormed, Fault}
-use Rattle.notice.specs.declared.Layout.{Layout}
+use Rattle.notice.specs.Layout.{Layout}
 use Rattle.notice.specs.Field.{Field}
 use Rattle.notice.specs.Write.{written_of, written_bytes}
 use Rattle.opcode.specs.declared.Edition.{Edition}
@@ -67,13 +66,13 @@ pub record Calls (edition : Edition) (text buffer notice : List ℕ) (visits : �
   pub runs : ran ≡ running_of (take translated.length written) notice
   -- `run_checked(table, notice, visits)`, by which `run` makes its visits: the runner's machine after that many; it asks for a table that passes the check and a notice found well-formed
   pub machine : Machine
-  pub runner : tableCheck (take translated.length written) ≡ true → noticeCheck notice ≡ WellFormed → Visited (take translated.length written) notice visits machine
+  pub runner : tableCheck (take translated.length written) ≡ true → noticeCheck notice ≡ Ok tt → Visited (take translated.length written) notice visits machine
 
 -- Demand 3, for every number of visits: a run has at most 512, and a larger number makes as many as there are, so that a `usize` names them all.
 abbrev pub DemandThree : Type 0
 DemandThree =
     (edition : Edition) (text buffer notice : List ℕ) (visits : ℕ) (tree : Tree) (c : Calls edition text buffer notice visits)
-    → Bytes text → Accepted text tree → length (encode (compile edition tree)) ≤ length buffer → noticeCheck notice ≡ WellFormed
+    → Bytes text → Accepted text tree → length (encode (compile edition tree)) ≤ length buffer → noticeCheck notice ≡ Ok tt
     → (c.translated.number ≡ 0) × (c.passed ≡ true)
     × Met edition text notice (take c.translated.length c.written) c.ran.number c.ran.verdict c.ran.steps visits c.machine
 
@@ -91,8 +90,8 @@ RefusalKeeps =
 
 -- the refusal of the notice, or translation's answer
 abbrev pub outcome_by : Layout → Outcome → Outcome
-outcome_by WellFormed o = o
-outcome_by (Fault place) o = refusal (number_of (Fault place)) (place_of (Fault place))
+outcome_by (Ok u) o = o
+outcome_by (Err r) o = refusal (number_of (Err r)) (place_of (Err r))
 
 abbrev pub outcome_of : ℕ → List ℕ → ℕ → List ℕ → Outcome
 outcome_of edition text room notice = outcome_by (noticeCheck notice) (translation_of edition text room)
@@ -130,5 +129,5 @@ pub record RunsTable (o : Outcome) (buffer notice written : List ℕ) (visits : 
 -- The promise of `match_text`, for the number of an edition: its answer and every byte of the buffer for all inputs, and demand 3.
 pub record Matches (number : ℕ) (text buffer notice written : List ℕ) (visits : ℕ) (r : Matched) : Type 0 where
   pub determined : RunsTable (outcome_of number text (length buffer) notice) buffer notice written visits r
-  pub demand : (edition : Edition) (tree : Tree) → number ≡ edition_number edition → Accepted text tree → length (encode (compile edition tree)) ≤ length buffer → noticeCheck notice ≡ WellFormed
+  pub demand : (edition : Edition) (tree : Tree) → number ≡ edition_number edition → Accepted text tree → length (encode (compile edition tree)) ≤ length buffer → noticeCheck notice ≡ Ok tt
       → Met edition text notice (take r.length written) r.number r.verdict r.steps visits r.machine

@@ -20,8 +20,6 @@ ghost use Rattle.ubf.specs.Answer.{read_answer, read_bytes, write_answer, write_
 ghost use Rattle.mend.specs.Mend.{mended_of, list_after, notice_after};
 ghost use Rattle.store.specs.Calls.{make_refusal, made_bytes, added_of, added_bytes, held_refusal, removed_bytes, part_of};
 
-use notice::Layout;
-
 pub mod matching;
 
 // "Translation answers number, place and table length, 0 if refused.", in the edition that the caller names. A table stands at the buffer's start; a refusal changes no byte.
@@ -54,13 +52,13 @@ pub fn virentolex_check_notice(notice: &[u8], place: &mut usize) -> u8
 {
     let layout = notice::check(notice);
     match layout {
-        Layout::WellFormed => {
+        Ok(()) => {
             *place = 0;
             0
         }
-        Layout::Fault(at) => {
-            *place = at;
-            11
+        Err(r) => {
+            *place = r.place();
+            r.number()
         }
     }
 }

@@ -2,11 +2,9 @@
 ghost use Rattle.router.specs.Demand.{RunsChecked, RunsTable, Matches, refused as refusedWith};
 ghost use Rattle.translator.specs.Translation.{translation_of};
 ghost use Rattle.notice.specs.Layout.{check_of as noticeCheck};
-ghost use Rattle.notice.specs.declared.Layout.TheVariants.{WellFormed};
 ghost use Rattle.std.specs.Prelude.{◌≡◌, length};
 
 use interpreter::Machine;
-use notice::Layout;
 use truth::Truth;
 use value::{Held, Slot};
 
@@ -49,7 +47,7 @@ fn refused(number: u8, place: usize) -> Matched
 
 // Checks a table and runs it on the notice; beside the whole run's answer stands the runner's machine after `visits` visits. It asks for a notice found well-formed, as `run_checked` does.
 fn check_and_run<'a>(table: &'a [u8], notice: &'a [u8], visits: usize) -> Matched
-    requires { noticeCheck notice.now ≡ WellFormed }
+    requires { noticeCheck notice.now ≡ Ok tt }
     ensures { RunsChecked table.now notice.now visits result }
 {
     if !table::check(table) {
@@ -77,7 +75,7 @@ fn translate_and_run(
     notice: &[u8],
     visits: usize,
 ) -> Matched
-    requires { noticeCheck notice.now ≡ WellFormed }
+    requires { noticeCheck notice.now ≡ Ok tt }
     ensures { RunsTable (translation_of edition text.now (length buffer.old)) buffer.old notice.now buffer.new visits result }
 {
     let t = translator::translate(edition, text, buffer);
@@ -101,7 +99,7 @@ pub fn match_text(
 {
     let layout = notice::check(notice);
     match layout {
-        Layout::WellFormed => translate_and_run(edition, text, buffer, notice, visits),
-        Layout::Fault(place) => refused(11, place),
+        Ok(()) => translate_and_run(edition, text, buffer, notice, visits),
+        Err(r) => refused(r.number(), r.place()),
     }
 }

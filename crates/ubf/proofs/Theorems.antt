@@ -1,4 +1,5 @@
 -- The theorems that specs/Theorems.antt states. Assumes nothing.
+use Rattle.std.specs.Prelude.{Ok, Err}
 use mathlib.Core.Path.{◌≡◌, refl, sym, ap, ap₂, ◌∙◌}
 use mathlib.Core.Bool.{Bool, true, false, not, ◌&&◌, ◌||◌}
 use mathlib.Core.List.{List, [], ◌∷◌, ◌++◌, map}
@@ -11,8 +12,8 @@ use lib.Seq.{take-append_seam}
 use Rattle.word.specs.Word.{Bytes}
 use Rattle.octets.specs.Octets.{same_of, before_of}
 use Rattle.octets.proofs.Theorems.{and_parts, before_transitive}
-use Rattle.notice.specs.declared.Layout.{Layout}
-use Rattle.notice.specs.declared.Layout.TheVariants as layouts
+use Rattle.refusal.proofs.Numbers.{refuses}
+use Rattle.notice.specs.Layout.{Layout}
 use Rattle.notice.specs.Field.{Field, name_right, size_right, field_right, all_right, before_first, rising}
 use Rattle.notice.specs.Render.{fields_bytes, render, NoticeFields}
 use Rattle.common.proofs.Choice.{true_false, false_true}
@@ -100,7 +101,7 @@ read_zero fs room n h =
 -- ---- writing, then reading
 
 record Wrote (s : List ℕ) (room : ℕ) : Type 0 where
-  well : check_of s ≡ layouts.WellFormed
+  well : check_of s ≡ Ok tt
   no_real : has_real (fields_of s) ≡ false
   fits : length (text_of (fields_of s)) ≤ room
 
@@ -110,14 +111,14 @@ some_zero e = absurd (omega arith)
 wrote : (s : List ℕ) (room : ℕ) → write_number s room ≡ 0 → Wrote s room
 wrote s room z = go (check_of s) refl z
   where
-    tests : check_of s ≡ layouts.WellFormed → (a : Bool) → has_real (fields_of s) ≡ a → (b : Bool) → leb (length (text_of (fields_of s))) room ≡ b → unless (not a) 23 (unless b 15 0) ≡ 0 → Wrote s room
+    tests : check_of s ≡ Ok tt → (a : Bool) → has_real (fields_of s) ≡ a → (b : Bool) → leb (length (text_of (fields_of s))) room ≡ b → unless (not a) 23 (unless b 15 0) ≡ 0 → Wrote s room
     tests w true p b q e = some_zero e
     tests w false p true q e = record { well = w; no_real = p; fits = leb-true (length (text_of (fields_of s))) room q }
     tests w false p false q e = some_zero e
 
     go : (l : Layout) → check_of s ≡ l → write_by l (fields_of s) room ≡ 0 → Wrote s room
-    go layouts.WellFormed w e = tests w (has_real (fields_of s)) refl (leb (length (text_of (fields_of s))) room) refl e
-    go (layouts.Fault place) w e = some_zero e
+    go (Ok u) w e = tests w (has_real (fields_of s)) refl (leb (length (text_of (fields_of s))) room) refl e
+    go (Err r) w e = refuses r e
 
 -- the text that a write leaves
 left : (s buffer : List ℕ) → Wrote s (length buffer) → (w : Answer) (written : List ℕ) → WriteIs s buffer w written → take w.len written ≡ text_of (fields_of s)

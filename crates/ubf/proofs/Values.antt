@@ -1,4 +1,5 @@
 -- The sizes of values by kind, the texts of values by kind, and the parts of a field of a notice. Assumes nothing.
+use Rattle.std.specs.Prelude.{Ok}
 use mathlib.Core.Path.{◌≡◌, refl, sym, ap, ap₂, ◌∙◌}
 use mathlib.Core.Bool.{Bool, true, false, ◌||◌}
 use mathlib.Core.List.{List, [], ◌∷◌, ◌++◌, map}
@@ -12,7 +13,6 @@ use Rattle.word.specs.Word.{word_at, Bytes}
 use Rattle.word.proofs.Theorems.{bounded}
 use Rattle.decimal.specs.Decimal.{Put}
 use Rattle.octets.proofs.Theorems.{and_parts}
-use Rattle.notice.specs.declared.Layout.TheVariants.{WellFormed}
 use Rattle.notice.specs.Field.{Field, name_right, size_right, field_right}
 use Rattle.notice.specs.Layout.{size_at, kind_at, name_size_at, value_size_at, value_start, next_at, name_at, value_at, field_at, lies_at, right_at, count_of, header_right, check_from, check_of}
 use Rattle.notice.proofs.Keys.{bytes_take}
@@ -101,9 +101,9 @@ length_field f = let e = length-append (string_text f.name) (value_text f.kind f
 
 pub record Rest (n : ℕ) (s : List ℕ) (at : ℕ) : Type 0 where
   pub last : List ℕ
-  pub checked : check_from n last s at ≡ WellFormed
+  pub checked : check_from n last s at ≡ Ok tt
 
-pub rest_start : (s : List ℕ) → check_of s ≡ WellFormed → Rest (count_of s) s 8
+pub rest_start : (s : List ℕ) → check_of s ≡ Ok tt → Rest (count_of s) s 8
 rest_start s w = go (header_right s) refl
   where
     go : (b : Bool) → header_right s ≡ b → Rest (count_of s) s 8

@@ -1,4 +1,5 @@
 -- What writing answers and leaves, by its tests. Assumes nothing.
+use Rattle.std.specs.Prelude.{Ok, Err}
 use mathlib.Core.Path.{◌≡◌, ap, ◌∙◌}
 use mathlib.Core.Bool.{true, false}
 use mathlib.Core.List.{List, [], ◌∷◌, ◌++◌, map}
@@ -7,7 +8,9 @@ use native.Mathlib.Omega.{arith}
 use borrow.Author.Tests.{le-leb, lt-leb}
 use lib.ListN.{length, drop, length-append}
 use lib.Seq.{sets, sets-eq}
-use Rattle.notice.specs.declared.Layout.TheVariants.{WellFormed, Fault}
+use Rattle.refusal.specs.declared.Refusal.{Refusal}
+use Rattle.refusal.specs.Refusal.{number_of as refusal_number, place_of as refusal_place}
+use Rattle.refusal.proofs.Numbers.{not_zero}
 use Rattle.notice.specs.Layout.{count_of, field_at, check_of, fields_of}
 use Rattle.notice.specs.Field.{Field}
 use Rattle.notice.proofs.Renders.{well_header, well_starts}
@@ -27,10 +30,10 @@ pub stored_leaves : (d xs : List ℕ) → length xs ≤ length d → sets d 0 xs
 stored_leaves d xs h = sets-eq xs d 0 (omega arith) ∙ ap (λ (n : ℕ). xs ++ drop n d) (let z : 0 + length xs ≡ length xs = omega arith in z)
 
 module _ (s b : List ℕ) where
-  pub faulted : (place : ℕ) → check_of s ≡ Fault place → (answer 11 place 0 ≡ write_answer s b) × (b ≡ write_bytes s b)
-  faulted place e = (rw e, rw e)
+  pub faulted : (r : Refusal) → check_of s ≡ Err r → (answer (refusal_number r) (refusal_place r) 0 ≡ write_answer s b) × (b ≡ write_bytes s b)
+  faulted r e = (rw (e, not_zero r), rw (e, not_zero r))
 
-  module _ (w : check_of s ≡ WellFormed) where
+  module _ (w : check_of s ≡ Ok tt) where
     pub real_field : has_real (fields_of s) ≡ true → (answer 23 0 0 ≡ write_answer s b) × (b ≡ write_bytes s b)
     real_field e = (rw (w, e), rw (w, e))
 
@@ -42,7 +45,7 @@ module _ (s b : List ℕ) where
       written h = let l = le-leb (length (text_of (fields_of s))) (length b) h in (rw (w, e, l), rw (w, e, l))
 
 -- no text is longer than twice its notice and 5 bytes for each of 64 fields
-pub text_room : (s : List ℕ) → Bytes s → check_of s ≡ WellFormed → length (text_of (fields_of s)) ≤ 2 * length s + 320
+pub text_room : (s : List ℕ) → Bytes s → check_of s ≡ Ok tt → length (text_of (fields_of s)) ≤ 2 * length s + 320
 text_room s b w =
     let h = well_header s b w in
     let e = ap (λ (l : List ℕ). length (fields_text (map (field_at s) l))) (well_starts s b w) in

@@ -1,7 +1,6 @@
 -- What reading and writing answer, and what they leave in the lent buffer. Document 02, request 5.
-use Rattle.std.specs.Prelude.{ℕ, ◌+◌, ◌≡◌, Bool, true, false, cond, not, ◌&&◌, ◌||◌, List, [], ◌∷◌, ◌++◌, eqb, leb, length, drop}
-use Rattle.notice.specs.declared.Layout.{Layout}
-use Rattle.notice.specs.declared.Layout.TheVariants.{WellFormed, Fault}
+use Rattle.std.specs.Prelude.{ℕ, ◌+◌, ◌≡◌, Bool, true, false, cond, not, ◌&&◌, ◌||◌, List, [], ◌∷◌, ◌++◌, eqb, leb, length, drop, Ok, Err}
+use Rattle.notice.specs.Layout.{Layout}
 use Rattle.notice.specs.Field.{Field, name_right, size_right}
 use Rattle.notice.specs.Render.{fields_bytes, render}
 use Rattle.common.specs.Choice.{pick}
@@ -71,8 +70,8 @@ has_real [] = false
 has_real (f ∷ fs) = eqb f.kind 3 || has_real fs
 
 abbrev pub write_by : Layout → List Field → ℕ → ℕ
-write_by (Fault place) fs room = number_of (Fault place)
-write_by WellFormed fs room = unless (not (has_real fs)) 23 (unless (leb (length (text_of fs)) room) 15 0)
+write_by (Err r) fs room = number_of (Err r)
+write_by (Ok u) fs room = unless (not (has_real fs)) 23 (unless (leb (length (text_of fs)) room) 15 0)
 
 abbrev pub write_number : List ℕ → ℕ → ℕ
 write_number s room = write_by (check_of s) (fields_of s) room

@@ -1,8 +1,8 @@
 -- What holds of reading and writing. The proofs are in proofs/Theorems.antt, under the same names.
-use Rattle.std.specs.Prelude.{◌≡◌, true, false, ◌↔◌, ℕ, ◌≤◌, length, take, drop}
+use Rattle.std.specs.Prelude.{◌≡◌, true, false, ◌↔◌, ℕ, ◌≤◌, length, take, drop, Ok}
 use mathlib.Core.List.{List, [], ◌++◌, Permᴰ}
 use Rattle.word.specs.Word.{Bytes}
-use Rattle.notice.specs.declared.Layout.{Layout}
+use Rattle.notice.specs.Layout.{Layout}
 use Rattle.notice.specs.Field.{Field}
 use Rattle.notice.specs.Layout.{check_of, fields_of}
 use Rattle.notice.specs.Write.{sorted}
@@ -13,7 +13,7 @@ use Rattle.ubf.specs.Answer.{has_real, written_text, ReadIs, WriteIs}
 
 -- The fixed form of a notice's fields says these fields, in their order.
 abbrev pub WrittenSays : Type 0
-WrittenSays = (s : List ℕ) → Bytes s → check_of s ≡ Layout.WellFormed → has_real (fields_of s) ≡ false → said (written_text s) ≡ says (fields_of s)
+WrittenSays = (s : List ℕ) → Bytes s → check_of s ≡ Ok tt → has_real (fields_of s) ≡ false → said (written_text s) ≡ says (fields_of s)
 
 -- What a write that is not refused leaves is in the syntax, and says the notice's fields.
 abbrev pub WrittenInput : Type 0
@@ -30,14 +30,14 @@ WriteRead =
 -- A write of a well-formed notice without a real64 field is refused for room alone.
 abbrev pub WriteAccepts : Type 0
 WriteAccepts =
-    (s buffer : List ℕ) (w : Answer) (written : List ℕ) → WriteIs s buffer w written → check_of s ≡ Layout.WellFormed → has_real (fields_of s) ≡ false →
+    (s buffer : List ℕ) (w : Answer) (written : List ℕ) → WriteIs s buffer w written → check_of s ≡ Ok tt → has_real (fields_of s) ≡ false →
     length (written_text s) ≤ length buffer → w.number ≡ 0
 
 -- What a read that is not refused leaves is a well-formed notice, which has the fields that the text says, in name order.
 abbrev pub ReadHolds : Type 0
 ReadHolds =
     (text buffer : List ℕ) (r : Answer) (after : List ℕ) → ReadIs text buffer r after → r.number ≡ 0 →
-    (fs : List Field) × (said text ≡ says fs) × (check_of (take r.len after) ≡ Layout.WellFormed) × (fields_of (take r.len after) ≡ sorted fs)
+    (fs : List Field) × (said text ≡ says fs) × (check_of (take r.len after) ≡ Ok tt) × (fields_of (take r.len after) ≡ sorted fs)
 
 -- Name order leaves every field, and adds none.
 abbrev pub SortedSame : Type 0

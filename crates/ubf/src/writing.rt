@@ -1,7 +1,6 @@
 // Writing: the fields of a notice as a text, in the one fixed form.
 ghost use Rattle.std.specs.Prelude.{◌≡◌, true, ◌+◌, ◌≤◌, leb, length};
 ghost use Rattle.decimal.specs.Decimal.{Put};
-ghost use Rattle.notice.specs.declared.Layout.TheVariants.{WellFormed};
 ghost use Rattle.notice.specs.Field.{size_right};
 ghost use Rattle.notice.specs.Layout.{right_at, field_at, size_at, name_size_at, check_of, fields_of};
 ghost use Rattle.ubf.specs.Text.{value_text, binary_text, field_text, fields_text, text_of};
@@ -12,7 +11,6 @@ use crate::put::{
     escaped_length, put_signed, put_string, put_tag, signed_length, signed4, signed8,
 };
 use decimal::{places, put_byte, put_bytes, put_decimal};
-use notice::Layout;
 
 fn binary_length(value: &[u8]) -> usize
     requires { length value.now ≤ 1024 }
@@ -108,7 +106,7 @@ fn put_field(out: &mut [u8], p: usize, notice: &[u8], at: usize) -> usize
 
 // Whether a field is a real64.
 fn has_real(notice: &[u8]) -> bool
-    requires { check_of notice.now ≡ WellFormed }
+    requires { check_of notice.now ≡ Ok tt }
     ensures { result ≡ has_real (fields_of notice.now) }
 {
     let mut real = false;
@@ -124,7 +122,7 @@ fn has_real(notice: &[u8]) -> bool
 
 // The length of the fields' texts.
 fn measure(notice: &[u8]) -> usize
-    requires { check_of notice.now ≡ WellFormed }
+    requires { check_of notice.now ≡ Ok tt }
     ensures { (result ≡ length (fields_text (fields_of notice.now))) × (result ≤ 262144) }
 {
     let mut len = 0;
@@ -140,7 +138,7 @@ fn measure(notice: &[u8]) -> usize
 
 // Whether the text has room. None is longer than twice its notice and 5 bytes a field: one that surely fits is not measured.
 fn has_room(notice: &[u8], room: usize) -> bool
-    requires { check_of notice.now ≡ WellFormed }
+    requires { check_of notice.now ≡ Ok tt }
     ensures { result ≡ leb (length (text_of (fields_of notice.now))) room }
 {
     if 2 * notice.len() + 320 <= room {
@@ -150,7 +148,7 @@ fn has_room(notice: &[u8], room: usize) -> bool
 }
 
 fn put_fields(out: &mut [u8], from: usize, notice: &[u8]) -> usize
-    requires { (check_of notice.now ≡ WellFormed) × (from + length (fields_text (fields_of notice.now)) ≤ length out.old) }
+    requires { (check_of notice.now ≡ Ok tt) × (from + length (fields_text (fields_of notice.now)) ≤ length out.old) }
     ensures { Put out.old from (fields_text (fields_of notice.now)) out.new result }
 {
     let mut p = from;
@@ -165,7 +163,7 @@ fn put_fields(out: &mut [u8], from: usize, notice: &[u8]) -> usize
 }
 
 fn put_text(out: &mut [u8], notice: &[u8]) -> usize
-    requires { (check_of notice.now ≡ WellFormed) × (length (text_of (fields_of notice.now)) ≤ length out.old) }
+    requires { (check_of notice.now ≡ Ok tt) × (length (text_of (fields_of notice.now)) ≤ length out.old) }
     ensures { (out.new ≡ leaves 0 (text_of (fields_of notice.now)) out.old) × (result ≡ length (text_of (fields_of notice.now))) }
 {
     let a = put_byte(out, 0, b'{');
@@ -180,12 +178,12 @@ pub fn write(notice: &[u8], buffer: &mut [u8]) -> Answer
 {
     let layout = notice::check(notice);
     match layout {
-        Layout::Fault(place) => Answer {
-            number: 11,
-            place,
+        Err(r) => Answer {
+            number: r.number(),
+            place: r.place(),
             len: 0,
         },
-        Layout::WellFormed => {
+        Ok(()) => {
             if has_real(notice) {
                 return Answer {
                     number: 23,

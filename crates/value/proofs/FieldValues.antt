@@ -1,4 +1,5 @@
 -- The value of a field of a well-formed notice: it has its kind's size, lies in the notice and is not bottom, and a number's word stands there. Assumes nothing.
+use Rattle.std.specs.Prelude.{Ok, Some, Option as Optional}
 use mathlib.Core.Path.{◌≡◌, refl, sym, ap, ap₂, ◌∙◌}
 use mathlib.Core.Logic.{⊎_elim}
 use mathlib.Core.Bool.{Bool, true, false, cond, ◌||◌}
@@ -18,8 +19,6 @@ use Rattle.common.proofs.Choice.{false_true}
 use Rattle.word.specs.Word.{word_at, word_bytes, Bytes}
 use Rattle.word.proofs.Theorems.{bytes_read, read_bytes_lem, bounded}
 use Rattle.octets.proofs.Theorems.{and_parts}
-use Rattle.notice.specs.declared.Found.TheVariants.{At}
-use Rattle.notice.specs.declared.Layout.TheVariants.{WellFormed}
 use Rattle.notice.specs.Field.{Field, name_right, size_right, field_right, all_right}
 use Rattle.notice.specs.Layout.{check_of, fields_of}
 use Rattle.notice.specs.Lookup.{field_named, lookup_of, FoundIs}
@@ -41,11 +40,11 @@ each_right (g ∷ gs) f r m =
     let p = and_parts (field_right g) (all_right gs) r in
     ⊎_elim (λ e. ap field_right e ∙ p.0) (each_right gs f p.1) (Memᴰ.cases_cons m)
 
-pub found_right : (s name : List ℕ) (kind start len : ℕ) → Bytes s → check_of s ≡ WellFormed → lookup_of s name ≡ At kind start len
+pub found_right : (s name : List ℕ) (kind start len : ℕ) → Bytes s → check_of s ≡ Ok tt → lookup_of s name ≡ Some (record { kind = kind; start = start; len = len })
     → (size_right kind len ≡ true) × (start + len ≤ length s)
 found_right s name kind start len bytes well e = go (field_named name (fields_of s)) refl (rw e at (lookup s name))
   where
-    go : (o : Option Field) → field_named name (fields_of s) ≡ o → FoundIs s (At kind start len) o → (size_right kind len ≡ true) × (start + len ≤ length s)
+    go : (o : Option Field) → field_named name (fields_of s) ≡ o → FoundIs s (Some (record { kind = kind; start = start; len = len })) o → (size_right kind len ≡ true) × (start + len ≤ length s)
     go none p h = absurd h
     go (some f) p h =
         let r = each_right (fields_of s) f (well_fields s bytes well).right (named_field name (fields_of s) f p).0 in

@@ -1,4 +1,5 @@
 -- The theorems that specs/Theorems.antt states. Assumes nothing.
+use Rattle.std.specs.Prelude.{Option as Optional, Some, None}
 use mathlib.Core.Path.{◌≡◌, refl, sym, ap, ap₂, ◌∙◌}
 use mathlib.Core.Logic.{◌⊎◌, inl, inr}
 use mathlib.Core.Bool.{Bool, true, false, cond, ◌&&◌, ◌||◌}
@@ -43,7 +44,7 @@ use Rattle.opcode.specs.declared.Many.{Many}
 use Rattle.number.specs.declared.Number.{Number}
 use Rattle.number.specs.Number.{int32_of, equal_of}
 use Rattle.number.proofs.Theorems.{left_none, right_none, real_bits}
-use Rattle.notice.specs.declared.Found.{Found}
+use Rattle.notice.specs.declared.FoundField.{FoundField}
 use Rattle.notice.specs.Field.{Field}
 use Rattle.notice.specs.Layout.{fields_of}
 use Rattle.notice.specs.Lookup.{lookup_of, field_named, FoundIs}
@@ -389,11 +390,11 @@ known_connect e o (logic s) (value w) j k c d = cc
 known_connect e o (value v) y j k c d = cc
 
 -- names and loads
-found : (s : List ℕ) (r : Found) (o : Option Field) → FoundIs s r o → found_value s r ≡ named_value o
-found s Found.Nothing none h = refl
-found s Found.Nothing (some f) h = absurd h
-found s (Found.At kind start len) none h = absurd h
-found s (Found.At kind start len) (some f) h = rw (h.0, h.2)
+found : (s : List ℕ) (r : Optional FoundField) (o : Option Field) → FoundIs s r o → found_value s r ≡ named_value o
+found s None none h = refl
+found s None (some f) h = absurd h
+found s (Some r) none h = absurd h
+found s (Some r) (some f) h = rw (h.0, h.2)
 
 pub value_named_lem : ValueNamed
 value_named_lem notice name = found notice (lookup_of notice name) (field_named name (fields_of notice)) (lookup notice name)

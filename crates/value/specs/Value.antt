@@ -1,6 +1,6 @@
 -- Values and items, and what each operator and function gives on them. Document 01, "Meaning" and "Table"; document 02, requests 1 and 2.
 -- `bottom` stands for a name that is missing and for every value that there is not. A text is its bytes, a folded one already folded.
-use Rattle.std.specs.Prelude.{ℕ, ◌%◌, ◌^◌, Bool, true, false, cond, ◌&&◌, ◌||◌, List, [], ◌∷◌, map, eqb, ℤ, pos, length, take, drop, Float}
+use Rattle.std.specs.Prelude.{ℕ, ◌%◌, ◌^◌, Bool, true, false, cond, ◌&&◌, ◌||◌, List, [], ◌∷◌, map, eqb, ℤ, pos, length, take, drop, Float, Option as Optional, Some, None}
 use Rattle.std.proofs.Math.Option.{Option, some, none}
 use Rattle.std.specs.Float.{binary64}
 use Rattle.std.specs.Float.Ieee.{is_nan, of_bits}
@@ -31,7 +31,7 @@ use Rattle.opcode.specs.declared.Fit.{Fit}
 use Rattle.opcode.specs.declared.Many.{Many}
 use Rattle.number.specs.declared.Number.{Number}
 use Rattle.number.specs.Number.{arithmetic_of, bitwise_of, complement_of, shift_of, equal_of, order_of}
-use Rattle.notice.specs.declared.Found.{Found}
+use Rattle.notice.specs.declared.FoundField.{FoundField}
 use Rattle.notice.specs.Field.{Field}
 use Rattle.notice.specs.Lookup.{lookup_of}
 
@@ -286,9 +286,9 @@ field_value kind bytes =
     (λ _. pick (eqb kind 4) (λ _. text bytes)
     (λ _. pick (eqb kind 5) (λ _. opaque bytes) (λ _. bottom)))))
 
-abbrev pub found_value : List ℕ → Found → Value
-found_value notice (Found.At kind start len) = field_value kind (take len (drop start notice))
-found_value notice Found.Nothing = bottom
+abbrev pub found_value : List ℕ → Optional FoundField → Value
+found_value notice (Some f) = field_value f.kind (take f.len (drop f.start notice))
+found_value notice None = bottom
 
 -- "5 the field's or bottom"; "A missing name is bottom"
 abbrev pub value_named : List ℕ → List ℕ → Value

@@ -8,7 +8,6 @@ ghost use Rattle.std.specs.Prelude.{◌≡◌, true, List, ℕ, ◌+◌, ◌%◌
 ghost use Rattle.notice.specs.Field.{size_right};
 ghost use Rattle.notice.specs.Layout.{check_of as noticeCheck, Indexed};
 ghost use Rattle.notice.specs.Lookup.{lookup_of};
-ghost use Rattle.notice.specs.declared.Layout.TheVariants.{WellFormed};
 ghost use Rattle.opcode.specs.Groups.{equality_by};
 ghost use Rattle.opcode.specs.declared.Edition.{Edition};
 ghost use Rattle.opcode.specs.declared.Load.{Load};
@@ -23,7 +22,7 @@ mod fields;
 mod texts;
 mod values;
 
-use notice::Found;
+use notice::FoundField;
 use opcode::{Change, Combine, Edition, Many, Order, Test};
 pub use texts::fetch;
 use truth::Truth;
@@ -320,8 +319,14 @@ pub fn load_text(a: u16, b: u64) -> Slot
 }
 
 // A name in two steps, so that a run looks for bottom only where no field has the name. Where its field's value lies: it asks for a notice found well-formed and the starts of its fields, and that the name lies in the pool, as the table check has found.
-pub fn find_name<'a>(pool: &'a [u8], notice: &'a [u8], starts: &[u16; 64], a: u16, b: u64) -> Found
-    requires { (noticeCheck notice.now ≡ WellFormed) × Indexed notice.now starts.now × (b % 65536 + a ≤ length pool.now) }
+pub fn find_name<'a>(
+    pool: &'a [u8],
+    notice: &'a [u8],
+    starts: &[u16; 64],
+    a: u16,
+    b: u64,
+) -> Option<FoundField>
+    requires { (noticeCheck notice.now ≡ Ok tt) × Indexed notice.now starts.now × (b % 65536 + a ≤ length pool.now) }
     ensures { result ≡ lookup_of notice.now (in_pool pool.now a b) }
 {
     let start = (b % 65536) as usize;

@@ -3,7 +3,7 @@
 // The last is the op to run; 0 gives its one operand. An answer is a truth value, or a type and its bits or bytes in hex.
 #![tactic(auto)]
 
-use notice::{Found, Layout};
+use notice::FoundField;
 use opcode::groups::Group;
 use opcode::{Change, Edition, Many, groups};
 use std::io;
@@ -117,14 +117,14 @@ fn load_name<'a>(pool: &'a [u8], notice: &'a [u8], a: u16, b: u64) -> Slot {
     let mut starts: [u16; 64] = [0; 64];
     let layout = notice::index(notice, &mut starts);
     match layout {
-        Layout::WellFormed => {
+        Ok(()) => {
             let found = value::find_name(pool, notice, &starts, a, b);
             match found {
-                Found::At { kind, start, len } => value::field(notice, kind, start, len),
-                Found::Nothing => missing,
+                Some(FoundField { kind, start, len }) => value::field(notice, kind, start, len),
+                None => missing,
             }
         }
-        Layout::Fault(_) => missing,
+        Err(_) => missing,
     }
 }
 

@@ -176,7 +176,7 @@ pub overflow_add-depth-in-Name : goal.overflow_add-depth-in-Name
 overflow_add-depth-in-Name c = omega (arith, load_fits (visit c.loop-next.invariant c.loop-next-test.true c.op_from-number.ensures c.group_of-group.ensures c.in-Name.is))
 
 pub field-requires : goal.field-requires
-field-requires c = found_right c.args.notice.now _ _ _ _ (λ i. search rules) c.requires.1 (sym c.find_name-found.ensures ∙ c.in-At.is)
+field-requires c = found_right c.args.notice.now _ _ _ _ (λ i. search rules) c.requires.1 (sym c.find_name-found.ensures ∙ c.in-Some.is)
 
 pub offset_bounds-stack-i : goal.offset_bounds-stack-i
 offset_bounds-stack-i c = omega (arith, load_fits (visit c.loop-next.invariant c.loop-next-test.true c.op_from-number.ensures c.group_of-group.ensures c.in-Name.is))
@@ -184,31 +184,31 @@ offset_bounds-stack-i c = omega (arith, load_fits (visit c.loop-next.invariant c
 pub bounds-stack-i : goal.bounds-stack-i
 bounds-stack-i c = omega (arith, load_fits (visit c.loop-next.invariant c.loop-next-test.true c.op_from-number.ensures c.group_of-group.ensures c.in-Name.is))
 
-pub loop-next-smaller-in-At : goal.loop-next-smaller-in-At
-loop-next-smaller-in-At c = omega (arith, early_at c.loop-next.invariant c.loop-next-test.true)
+pub loop-next-smaller-in-Some : goal.loop-next-smaller-in-Some
+loop-next-smaller-in-Some c = omega (arith, early_at c.loop-next.invariant c.loop-next-test.true)
 
-pub loop-next-preserved-in-At : goal.loop-next-preserved-in-At
-loop-next-preserved-in-At c =
-    onward c.loop-next.invariant (name_found (visit c.loop-next.invariant c.loop-next-test.true c.op_from-number.ensures c.group_of-group.ensures c.in-Name.is) (c.a_to-in-Name.ensures _ (behind c.loop-next.invariant)) (c.b_to-in-Name.ensures _ (behind c.loop-next.invariant)) c.find_name-found.ensures c.field.result c.in-At.is (found_right c.args.notice.now _ _ _ _ (λ i. search rules) c.requires.1 (sym c.find_name-found.ensures ∙ c.in-At.is)).0 (c.field.ensures _))
+pub loop-next-preserved-in-Some : goal.loop-next-preserved-in-Some
+loop-next-preserved-in-Some c =
+    onward c.loop-next.invariant (name_found (visit c.loop-next.invariant c.loop-next-test.true c.op_from-number.ensures c.group_of-group.ensures c.in-Name.is) (c.a_to-in-Name.ensures _ (behind c.loop-next.invariant)) (c.b_to-in-Name.ensures _ (behind c.loop-next.invariant)) c.find_name-found.ensures c.field.result c.in-Some.is (found_right c.args.notice.now _ _ _ _ (λ i. search rules) c.requires.1 (sym c.find_name-found.ensures ∙ c.in-Some.is)).0 (c.field.ensures _))
 
 pub missing-r-requires : goal.missing-r-requires
 missing-r-requires c = tt
 
-pub offset_bounds-stack-i-in-Nothing : goal.offset_bounds-stack-i-in-Nothing
-offset_bounds-stack-i-in-Nothing c = omega (arith, load_fits (visit c.loop-next.invariant c.loop-next-test.true c.op_from-number.ensures c.group_of-group.ensures c.in-Name.is))
+pub offset_bounds-stack-i-in-None : goal.offset_bounds-stack-i-in-None
+offset_bounds-stack-i-in-None c = omega (arith, load_fits (visit c.loop-next.invariant c.loop-next-test.true c.op_from-number.ensures c.group_of-group.ensures c.in-Name.is))
 
-pub bounds-stack-i-in-Nothing : goal.bounds-stack-i-in-Nothing
-bounds-stack-i-in-Nothing c = omega (arith, load_fits (visit c.loop-next.invariant c.loop-next-test.true c.op_from-number.ensures c.group_of-group.ensures c.in-Name.is))
+pub bounds-stack-i-in-None : goal.bounds-stack-i-in-None
+bounds-stack-i-in-None c = omega (arith, load_fits (visit c.loop-next.invariant c.loop-next-test.true c.op_from-number.ensures c.group_of-group.ensures c.in-Name.is))
 
 pub noted-first-requires : goal.noted-first-requires
 noted-first-requires c = omega (arith, early_at c.loop-next.invariant c.loop-next-test.true)
 
-pub loop-next-smaller-in-Nothing : goal.loop-next-smaller-in-Nothing
-loop-next-smaller-in-Nothing c = omega (arith, early_at c.loop-next.invariant c.loop-next-test.true)
+pub loop-next-smaller-in-None : goal.loop-next-smaller-in-None
+loop-next-smaller-in-None c = omega (arith, early_at c.loop-next.invariant c.loop-next-test.true)
 
-pub loop-next-preserved-in-Nothing : goal.loop-next-preserved-in-Nothing
-loop-next-preserved-in-Nothing c =
-    noting c.loop-next.invariant c.loop-next-test.true _ (c.noted-first.ensures _ _) (name_missing (visit c.loop-next.invariant c.loop-next-test.true c.op_from-number.ensures c.group_of-group.ensures c.in-Name.is) (c.a_to-in-Name.ensures _ (behind c.loop-next.invariant)) (c.b_to-in-Name.ensures _ (behind c.loop-next.invariant)) c.find_name-found.ensures c.missing-r.result c.in-Nothing.is (c.missing-r.ensures _ _) refl)
+pub loop-next-preserved-in-None : goal.loop-next-preserved-in-None
+loop-next-preserved-in-None c =
+    noting c.loop-next.invariant c.loop-next-test.true _ (c.noted-first.ensures _ _) (name_missing (visit c.loop-next.invariant c.loop-next-test.true c.op_from-number.ensures c.group_of-group.ensures c.in-Name.is) (c.a_to-in-Name.ensures _ (behind c.loop-next.invariant)) (c.b_to-in-Name.ensures _ (behind c.loop-next.invariant)) c.find_name-found.ensures c.missing-r.result c.in-None.is (c.missing-r.ensures _ _) refl)
 
 pub overflow_sub-i : goal.overflow_sub-i
 overflow_sub-i c = omega (arith, unary_fits_lem (visit c.loop-next.invariant c.loop-next-test.true c.op_from-number.ensures c.group_of-group.ensures c.in-Change.is))

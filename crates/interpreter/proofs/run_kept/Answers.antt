@@ -6,7 +6,7 @@ use lib.ListN.{length, take}
 use lib.Seq.{take_all}
 use native.Mathlib.Omega.{arith}
 use Rattle.notice.specs.Layout.{check_of}
-use Rattle.notice.specs.declared.Layout.{Layout}
+use Rattle.notice.specs.Layout.{Layout}
 use Rattle.interpreter.proofs.Answers.{indexed, notice_refused, neither_refused}
 use Rattle.interpreter.proofs.run_kept.Goals as goal
 
@@ -20,15 +20,15 @@ layout_is s t e = sym (ap check_of (whole s)) ∙ sym t ∙ e
 pub run_whole-requires : goal.run_whole-requires
 run_whole-requires c =
     let s = c.args.notice.now in
-    let well = layout_is s c.index-layout.ensures.value c.in-WellFormed.is in
+    let well = layout_is s c.index-layout.ensures.value c.in-Ok.is in
     (c.requires, well, indexed _ _ _ (whole s) well c.index-layout.ensures.starts_after refl)
 
-pub returns-in-WellFormed : goal.returns-in-WellFormed
-returns-in-WellFormed c =
+pub returns-in-Ok : goal.returns-in-Ok
+returns-in-Ok c =
     let a = c.args in
-    c.run_whole.ensures ∙ neither_refused a.table.now a.notice.now c.requires (layout_is a.notice.now c.index-layout.ensures.value c.in-WellFormed.is)
+    c.run_whole.ensures ∙ neither_refused a.table.now a.notice.now c.requires (layout_is a.notice.now c.index-layout.ensures.value c.in-Ok.is)
 
-pub returns-in-Fault : goal.returns-in-Fault
-returns-in-Fault c =
+pub returns-in-Err : goal.returns-in-Err
+returns-in-Err c =
     let a = c.args in
-    c.refused.ensures ∙ notice_refused a.table.now a.notice.now _ c.requires (layout_is a.notice.now c.index-layout.ensures.value c.in-Fault.is)
+    c.refused.ensures ∙ rw (c.number.ensures, c.place.ensures) (notice_refused a.table.now a.notice.now _ c.requires (layout_is a.notice.now c.index-layout.ensures.value c.in-Err.is))

@@ -11,10 +11,10 @@ pub judge-requires : goal.judge-requires
 judge-requires c =
     let a = c.args in
     let i = c.index-layout in
-    let well = sym i.ensures.value ∙ c.in-WellFormed.is in
+    let well = sym i.ensures.value ∙ c.in-Ok.is in
     (well, subst (λ (t : List ℕ). Indexed a.notice.now t) (sym i.ensures.starts_after) (stood_indexed a.notice.now well _ refl))
 
-pub returns-in-Fault : goal.returns-in-Fault
-returns-in-Fault c =
+pub returns-in-Err : goal.returns-in-Err
+returns-in-Err c =
     let a = c.args in
-    many_faulty a.tables.now a.notice.now a.verdicts.now c.refused.result c.in-Fault.place (sym c.index-layout.ensures.value ∙ c.in-Fault.is) c.refused.ensures
+    many_faulty a.tables.now a.notice.now a.verdicts.now c.refused.result c.in-Err.r (sym c.index-layout.ensures.value ∙ c.in-Err.is) (rw (← c.number.ensures, ← c.place.ensures) c.refused.ensures)

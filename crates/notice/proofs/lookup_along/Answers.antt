@@ -16,7 +16,7 @@ found_at-requires c =
 pub returns-then-stop : goal.returns-then-stop
 returns-then-stop c =
     let l = c.walked-stop.ensures.lookup in
-    c.found_at.ensures ∙ sym (rw c.if-stop.true at l)
+    rw c.found_at.ensures (sym (rw c.if-stop.true at l))
 
 pub returns : goal.returns
 returns c =

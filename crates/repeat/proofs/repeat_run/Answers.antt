@@ -11,13 +11,13 @@ returns-then-not-check c =
 
 pub sum-requires : goal.sum-requires
 sum-requires c =
-    let well = sym c.index-layout.ensures.value ∙ c.in-WellFormed.is in
+    let well = sym c.index-layout.ensures.value ∙ c.in-Ok.is in
     (sym c.check.ensures ∙ c.if-not-check.false, well, indexed _ _ _ refl well c.index-layout.ensures.starts_after refl)
 
-pub returns-in-WellFormed : goal.returns-in-WellFormed
-returns-in-WellFormed c =
-    c.sum.ensures ∙ whole c.args.table.now c.args.notice.now c.args.times (sym c.check.ensures ∙ c.if-not-check.false) (sym c.index-layout.ensures.value ∙ c.in-WellFormed.is)
+pub returns-in-Ok : goal.returns-in-Ok
+returns-in-Ok c =
+    c.sum.ensures ∙ whole c.args.table.now c.args.notice.now c.args.times (sym c.check.ensures ∙ c.if-not-check.false) (sym c.index-layout.ensures.value ∙ c.in-Ok.is)
 
-pub returns-in-Fault : goal.returns-in-Fault
-returns-in-Fault c =
-    no_notice c.args.table.now c.args.notice.now c.args.times _ (sym c.check.ensures ∙ c.if-not-check.false) (sym c.index-layout.ensures.value ∙ c.in-Fault.is)
+pub returns-in-Err : goal.returns-in-Err
+returns-in-Err c =
+    no_notice c.args.table.now c.args.notice.now c.args.times _ (sym c.check.ensures ∙ c.if-not-check.false) (sym c.index-layout.ensures.value ∙ c.in-Err.is)

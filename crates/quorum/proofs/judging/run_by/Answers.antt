@@ -6,7 +6,7 @@ use lib.ListN.{length, take}
 use lib.Seq.{take_all}
 use native.Mathlib.Omega.{arith}
 use Rattle.notice.specs.Layout.{check_of}
-use Rattle.notice.specs.declared.Layout.{Layout}
+use Rattle.notice.specs.Layout.{Layout}
 use Rattle.interpreter.proofs.Answers.{indexed, notice_refused, neither_refused}
 use Rattle.quorum.proofs.judging.run_by.Goals as goal
 
@@ -21,17 +21,17 @@ pub run_whole-requires : goal.run_whole-requires
 run_whole-requires c =
     let s = c.args.notice.now in
     let i = c.index-layout.ensures in
-    let well = layout_is s i.value c.in-WellFormed.is in
+    let well = layout_is s i.value c.in-Ok.is in
     (c.requires.0, well, indexed _ _ _ (whole s) well i.starts_after c.requires.1)
 
-pub returns-in-WellFormed : goal.returns-in-WellFormed
-returns-in-WellFormed c =
+pub returns-in-Ok : goal.returns-in-Ok
+returns-in-Ok c =
     let a = c.args in
     let i = c.index-layout.ensures in
-    record { value = c.run_whole.ensures ∙ neither_refused a.table.now a.notice.now c.requires.0 (layout_is a.notice.now i.value c.in-WellFormed.is); marks = λ well. indexed _ _ _ (whole a.notice.now) well i.starts_after c.requires.1 }
+    record { value = c.run_whole.ensures ∙ neither_refused a.table.now a.notice.now c.requires.0 (layout_is a.notice.now i.value c.in-Ok.is); marks = λ well. indexed _ _ _ (whole a.notice.now) well i.starts_after c.requires.1 }
 
-pub returns-in-Fault : goal.returns-in-Fault
-returns-in-Fault c =
+pub returns-in-Err : goal.returns-in-Err
+returns-in-Err c =
     let a = c.args in
     let i = c.index-layout.ensures in
-    record { value = notice_refused a.table.now a.notice.now _ c.requires.0 (layout_is a.notice.now i.value c.in-Fault.is); marks = λ well. indexed _ _ _ (whole a.notice.now) well i.starts_after c.requires.1 }
+    record { value = rw (c.number.ensures, c.place.ensures) (notice_refused a.table.now a.notice.now _ c.requires.0 (layout_is a.notice.now i.value c.in-Err.is)); marks = λ well. indexed _ _ _ (whole a.notice.now) well i.starts_after c.requires.1 }
