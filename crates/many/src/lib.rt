@@ -75,7 +75,7 @@ fn verdict<'a>(table: &'a [u8], notice: &'a [u8], starts: &[u16; 64]) -> u8
     }
     let ran = interpreter::run_whole(table, notice, starts);
     let t = ran.verdict;
-    truth::number(t)
+    u8::from(t)
 }
 
 // The verdicts of at most 64 tables, one after the other. It asks for room for them.

@@ -294,16 +294,16 @@ pub fn equal(a: Number, b: Number) -> Truth
 pub fn equal_int32(x: i32, y: i32) -> Truth
     ensures { result ≡ equal_of (Number.Int32 x) (Number.Int32 y) }
 {
-    truth::of_bool(mixed::equal_i64(x as i64, y as i64))
+    Truth::from(mixed::equal_i64(x as i64, y as i64))
 }
 
 fn int32_equal(x: i32, b: Number) -> Truth
     ensures { result ≡ equal_of (Number.Int32 x) b }
 {
     match b {
-        Number::Int32(y) => truth::of_bool(mixed::equal_i64(x as i64, y as i64)),
-        Number::Int64(y) => truth::of_bool(mixed::equal_i64(x as i64, y)),
-        Number::Real(y) => truth::of_bool((x as f64) == y),
+        Number::Int32(y) => Truth::from(mixed::equal_i64(x as i64, y as i64)),
+        Number::Int64(y) => Truth::from(mixed::equal_i64(x as i64, y)),
+        Number::Real(y) => Truth::from((x as f64) == y),
         Number::None => Truth::Bottom,
     }
 }
@@ -312,9 +312,9 @@ fn int64_equal(x: i64, b: Number) -> Truth
     ensures { result ≡ equal_of (Number.Int64 x) b }
 {
     match b {
-        Number::Int32(y) => truth::of_bool(mixed::equal_i64(x, y as i64)),
-        Number::Int64(y) => truth::of_bool(mixed::equal_i64(x, y)),
-        Number::Real(y) => truth::of_bool(mixed::equal(x, y)),
+        Number::Int32(y) => Truth::from(mixed::equal_i64(x, y as i64)),
+        Number::Int64(y) => Truth::from(mixed::equal_i64(x, y)),
+        Number::Real(y) => Truth::from(mixed::equal(x, y)),
         Number::None => Truth::Bottom,
     }
 }
@@ -323,9 +323,9 @@ fn real_equal(x: f64, b: Number) -> Truth
     ensures { result ≡ equal_of (Number.Real x) b }
 {
     match b {
-        Number::Int32(y) => truth::of_bool(x == (y as f64)),
-        Number::Int64(y) => truth::of_bool(mixed::equal(y, x)),
-        Number::Real(y) => truth::of_bool(x == y),
+        Number::Int32(y) => Truth::from(x == (y as f64)),
+        Number::Int64(y) => Truth::from(mixed::equal(y, x)),
+        Number::Real(y) => Truth::from(x == y),
         Number::None => Truth::Bottom,
     }
 }
@@ -335,7 +335,7 @@ pub fn order(op: Order, a: Number, b: Number) -> Truth
     ensures { result ≡ order_of op a b }
 {
     if is_int32(a) & is_int32(b) {
-        return truth::of_bool(mixed::order_i64(op, int32_of(a) as i64, int32_of(b) as i64));
+        return Truth::from(mixed::order_i64(op, int32_of(a) as i64, int32_of(b) as i64));
     }
     match a {
         Number::Int32(x) => int32_order(op, x, b),
@@ -349,9 +349,9 @@ fn int32_order(op: Order, x: i32, b: Number) -> Truth
     ensures { result ≡ order_of op (Number.Int32 x) b }
 {
     match b {
-        Number::Int32(y) => truth::of_bool(mixed::order_i64(op, x as i64, y as i64)),
-        Number::Int64(y) => truth::of_bool(mixed::order_i64(op, x as i64, y)),
-        Number::Real(y) => truth::of_bool(mixed::order_real(op, x as f64, y)),
+        Number::Int32(y) => Truth::from(mixed::order_i64(op, x as i64, y as i64)),
+        Number::Int64(y) => Truth::from(mixed::order_i64(op, x as i64, y)),
+        Number::Real(y) => Truth::from(mixed::order_real(op, x as f64, y)),
         Number::None => Truth::Bottom,
     }
 }
@@ -360,9 +360,9 @@ fn int64_order(op: Order, x: i64, b: Number) -> Truth
     ensures { result ≡ order_of op (Number.Int64 x) b }
 {
     match b {
-        Number::Int32(y) => truth::of_bool(mixed::order_i64(op, x, y as i64)),
-        Number::Int64(y) => truth::of_bool(mixed::order_i64(op, x, y)),
-        Number::Real(y) => truth::of_bool(mixed::order(op, x, y)),
+        Number::Int32(y) => Truth::from(mixed::order_i64(op, x, y as i64)),
+        Number::Int64(y) => Truth::from(mixed::order_i64(op, x, y)),
+        Number::Real(y) => Truth::from(mixed::order(op, x, y)),
         Number::None => Truth::Bottom,
     }
 }
@@ -371,9 +371,9 @@ fn real_order(op: Order, x: f64, b: Number) -> Truth
     ensures { result ≡ order_of op (Number.Real x) b }
 {
     match b {
-        Number::Int32(y) => truth::of_bool(mixed::order_real(op, x, y as f64)),
-        Number::Int64(y) => truth::of_bool(mixed::order(mixed::flipped(op), y, x)),
-        Number::Real(y) => truth::of_bool(mixed::order_real(op, x, y)),
+        Number::Int32(y) => Truth::from(mixed::order_real(op, x, y as f64)),
+        Number::Int64(y) => Truth::from(mixed::order(mixed::flipped(op), y, x)),
+        Number::Real(y) => Truth::from(mixed::order_real(op, x, y)),
         Number::None => Truth::Bottom,
     }
 }

@@ -15,11 +15,7 @@ use truth::Truth;
 fn rank(t: Truth) -> u64
     ensures { (result ≡ rank_of t) × (result ≤ 2) }
 {
-    match t {
-        Truth::False => 0,
-        Truth::Bottom => 1,
-        Truth::True => 2,
-    }
+    t as u64
 }
 
 // What one run adds to the sum. It asks for a table that passes the check, a notice found well-formed and the starts of its fields.

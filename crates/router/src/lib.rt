@@ -81,7 +81,7 @@ pub fn virentolex_run<'a>(
     let a = interpreter::run(table, notice);
     let t = a.verdict;
     *place = a.place;
-    *verdict = truth::number(t);
+    *verdict = u8::from(t);
     *steps = a.steps;
     *undecided = a.undecided;
     a.number

@@ -1,4 +1,4 @@
--- The theorems that specs/Order.antt states; which of two is chosen by their places; the places past bottom. Assumes nothing.
+-- The theorems that specs/Order.antt states. Assumes nothing.
 use mathlib.Core.Path.{◌≡◌, refl}
 use mathlib.Core.Bool.{cond}
 use mathlib.Core.Logic.{inl, inr}
@@ -74,16 +74,3 @@ greater_above Bottom True = (inr refl, omega arith, omega arith)
 greater_above True False = (inl refl, omega arith, omega arith)
 greater_above True Bottom = (inl refl, omega arith, omega arith)
 greater_above True True = (inl refl, omega arith, omega arith)
-
--- Which of two is chosen, by their places.
-pub first_chosen : (a b : ℕ) (x y : Truth) → a ≤ b → x ≡ cond (leb a b) x y
-first_chosen a b x y h = rw (le-leb a b h)
-
-pub second_chosen : (a b : ℕ) (x y : Truth) → b < a → y ≡ cond (leb a b) x y
-second_chosen a b x y h = rw (lt-leb a b h)
-
--- Past the place of bottom is true.
-pub past_bottom : (place : ℕ) → (place ≡ 0 → ⊥) → (place ≡ 1 → ⊥) → True ≡ at_rank place
-past_bottom zero f b = absurd (f refl)
-past_bottom (suc zero) f b = absurd (b refl)
-past_bottom (suc (suc r)) f b = refl

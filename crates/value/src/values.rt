@@ -156,7 +156,7 @@ fn if_present(v: Typed, t: Truth) -> Truth
 fn type_test(number: u8, v: Typed) -> Truth
     ensures { (p : List ℕ) → (q : List ℕ) → result ≡ type_test number (typed_of p q v) }
 {
-    if_present(v, truth::of_bool(type_of(v) == number))
+    if_present(v, Truth::from(type_of(v) == number))
 }
 
 // "`nan`: false for other present values."
@@ -167,7 +167,7 @@ fn nan(v: Typed) -> Truth
         Typed::Bottom => Truth::Bottom,
         Typed::Int32(_) => Truth::False,
         Typed::Int64(_) => Truth::False,
-        Typed::Real(x) => truth::of_bool(number::is_nan(x)),
+        Typed::Real(x) => Truth::from(number::is_nan(x)),
         Typed::Text(_) => Truth::False,
         Typed::Opaque(_) => Truth::False,
     }
@@ -234,7 +234,7 @@ fn equal<'a>(pool: &'a [u8], notice: &'a [u8], v: Typed, w: Typed) -> Truth
         return number::equal_int32(int32_in(v), int32_in(w));
     }
     if is_text(v) & is_text(w) {
-        return truth::of_bool(texts::same_text(pool, notice, text_in(v), text_in(w)));
+        return Truth::from(texts::same_text(pool, notice, text_in(v), text_in(w)));
     }
     number::equal(number_of(v), number_of(w))
 }
@@ -244,7 +244,7 @@ pub fn equals<'a>(pool: &'a [u8], notice: &'a [u8], v: Typed, w: Typed) -> Truth
     ensures { result ≡ equal_values (typed_of pool.now notice.now v) (typed_of pool.now notice.now w) }
 {
     if is_text(v) & is_text(w) {
-        return truth::of_bool(texts::same_text(pool, notice, text_in(v), text_in(w)));
+        return Truth::from(texts::same_text(pool, notice, text_in(v), text_in(w)));
     }
     number::equal(number_of(v), number_of(w))
 }
@@ -279,7 +279,7 @@ pub fn fit<'a>(pool: &'a [u8], notice: &'a [u8], op: Fit, v: Typed, w: Typed) ->
     ensures { result ≡ fit_values op (typed_of pool.now notice.now v) (typed_of pool.now notice.now w) }
 {
     if is_text(v) & is_text(w) {
-        return truth::of_bool(texts::fits(pool, notice, op, text_in(v), text_in(w)));
+        return Truth::from(texts::fits(pool, notice, op, text_in(v), text_in(w)));
     }
     Truth::Bottom
 }

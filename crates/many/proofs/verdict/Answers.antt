@@ -19,4 +19,4 @@ returns c =
     let a = c.args in
     let r = c.run_whole-ran in
     let checked = sym c.check.ensures ∙ c.if-not-check.false in
-    c.number.ensures ∙ byte_ran a.table.now a.notice.now r.result (r.ensures ∙ neither_refused a.table.now a.notice.now checked c.requires.0) (ap (λ (x : Ran). x.number) r.ensures)
+    c.from.ensures ∙ byte_ran a.table.now a.notice.now r.result (r.ensures ∙ neither_refused a.table.now a.notice.now checked c.requires.0) (ap (λ (x : Ran). x.number) r.ensures)

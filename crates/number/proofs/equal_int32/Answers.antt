@@ -14,4 +14,4 @@ overflow_cast-y c = wide_fits c.args.y c.ranges.y
 pub returns : goal.returns
 returns c =
     let x = c.args.x in let y = c.args.y in
-    c.of_bool.ensures ∙ two_int32 eq (Int32 x) (Int32 y) refl x y c.ranges.x c.ranges.y refl refl c.equal_i64.ensures
+    c.from.ensures ∙ two_int32 eq (Int32 x) (Int32 y) refl x y c.ranges.x c.ranges.y refl refl c.equal_i64.ensures

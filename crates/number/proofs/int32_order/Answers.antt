@@ -19,16 +19,16 @@ overflow_cast-x-in-Int64 c = wide_fits c.args.x c.ranges.x
 pub returns-in-Int32 : goal.returns-in-Int32
 returns-in-Int32 c =
     let x = c.args.x in let y = c.in-Int32.y in let op = c.args.op in
-    c.of_bool.ensures
+    c.from.ensures
     ∙ compared (order_real op) (Int32 x) (Int32 y) c.args.b refl refl c.in-Int32.is (c.order_i64.ensures ∙ reread (order_real op) (wide_is x c.ranges.x) (wide_is y (record { sfits = search rules })))
 
 pub returns-in-Int64 : goal.returns-in-Int64
 returns-in-Int64 c =
     let x = c.args.x in let y = c.in-Int64.y in let op = c.args.op in
-    c.of_bool-in-Int64.ensures
+    c.from-in-Int64.ensures
     ∙ compared (order_real op) (Int32 x) (Int64 y) c.args.b refl refl c.in-Int64.is (c.order_i64-in-Int64.ensures ∙ reread (order_real op) (wide_is x c.ranges.x) (to_z-of_z w64 y (record { sfits = search rules })))
 
 pub returns-in-Real : goal.returns-in-Real
 returns-in-Real c =
     let x = c.args.x in let y = c.in-Real.y in let op = c.args.op in
-    c.of_bool-in-Real.ensures ∙ compared (order_real op) (Int32 x) (Real y) c.args.b refl refl c.in-Real.is (c.order_real.ensures ∙ same_order op _ _ _ _ (int32_left x c.ranges.x y))
+    c.from-in-Real.ensures ∙ compared (order_real op) (Int32 x) (Real y) c.args.b refl refl c.in-Real.is (c.order_real.ensures ∙ same_order op _ _ _ _ (int32_left x c.ranges.x y))

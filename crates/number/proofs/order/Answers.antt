@@ -16,7 +16,7 @@ overflow_cast-int32_of-then-is_int32 c = wide_fits c.int32_of-then-is_int32.resu
 
 pub returns-then-is_int32 : goal.returns-then-is_int32
 returns-then-is_int32 c =
-    c.of_bool.ensures
+    c.from.ensures
     ∙ two_int32 (order_real c.args.op) c.args.a c.args.b (joined c.is_int32.ensures c.is_int32-2.ensures c.if-is_int32.true) c.int32_of.result c.int32_of-then-is_int32.result
     (record { sfits = c.int32_of.type_inv }) (record { sfits = c.int32_of-then-is_int32.type_inv }) c.int32_of.ensures c.int32_of-then-is_int32.ensures c.order_i64.ensures
 

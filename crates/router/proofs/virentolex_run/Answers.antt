@@ -9,7 +9,7 @@ returns c =
     record {
       value = ap (λ a. a.number) e;
       place_after = ap (λ a. a.place) e;
-      verdict_after = c.number.ensures ∙ ap (λ a. number_of a.verdict) e;
+      verdict_after = c.from.ensures ∙ ap (λ a. number_of a.verdict) e;
       steps_after = ap (λ a. a.steps) e;
       undecided_after = ap (λ a. a.undecided) e;
     }

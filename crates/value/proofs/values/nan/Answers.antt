@@ -12,7 +12,7 @@ pub returns-in-Int64 : goal.returns-in-Int64
 returns-in-Int64 c = λ p q. rw c.in-Int64.is
 
 pub returns-in-Real : goal.returns-in-Real
-returns-in-Real c = λ p q. rw c.in-Real.is (c.of_bool.ensures ∙ ap of_bool c.is_nan.ensures)
+returns-in-Real c = λ p q. rw c.in-Real.is (c.from.ensures ∙ ap of_bool c.is_nan.ensures)
 
 pub returns-in-Text : goal.returns-in-Text
 returns-in-Text c = λ p q. rw c.in-Text.is

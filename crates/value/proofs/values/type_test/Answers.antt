@@ -9,4 +9,4 @@ use Rattle.value.proofs.values.type_test.Goals as goal
 pub returns : goal.returns
 returns c =
     λ p q. let a = c.args in
-    c.if_present.ensures p q ∙ ap (if_present (typed_of p q a.v)) (c.of_bool.ensures ∙ ap (λ (n : ℕ). of_bool (eqb n a.number)) (c.type_of.ensures p q))
+    c.if_present.ensures p q ∙ ap (if_present (typed_of p q a.v)) (c.from.ensures ∙ ap (λ (n : ℕ). of_bool (eqb n a.number)) (c.type_of.ensures p q))
