@@ -280,7 +280,7 @@ pub fn run_checked<'a>(table: &'a [u8], notice: &'a [u8], budget: usize) -> Mach
     ensures { Visited table.now notice.now budget result }
 {
     let mut starts: [u16; 64] = [0; 64];
-    notice::index(notice, &mut starts);
+    let _ = notice::index(notice, &mut starts);
     run_indexed(table, notice, &starts, budget)
 }
 
