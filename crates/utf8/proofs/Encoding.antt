@@ -12,7 +12,7 @@ use lib.Seq.{take-append_seam, drop-append_seam}
 use borrow.Author.Tests.{lt-ltb, le-ltb, le-leb, ltb-true, ltb-false, leb-true}
 use Rattle.octets.proofs.Theorems.{and_parts, or_parts}
 use Rattle.utf8.specs.Utf8.{Scalar, continuation, encode}
-use Rattle.utf8.specs.Scan.{is_continuation, first_two, is_two, is_three, is_four, long_width, width_by, width_at, Begins}
+use Rattle.utf8.specs.Scan.{is_continuation, first_two, is_two, is_three, is_four, width_at, Begins}
 
 -- the rows of the table
 pub data Form (c : ℕ) : Type 0 where
@@ -62,12 +62,6 @@ four_high a x y e h p = omega arith
 
 abbrev pub width_of : List ℕ → ℕ
 width_of z = width_at z 0
-
-pub width_two : (b c d e : ℕ) (t : Bool) → 128 ≤ b → b < 224 → is_two b c ≡ t → width_by b c d e ≡ cond t 2 0
-width_two b c d e t p q h = rw (le-ltb b 128 p, lt-ltb b 224 q, h)
-
-pub width_long : (b c d e : ℕ) → 224 ≤ b → width_by b c d e ≡ long_width b c d e
-width_long b c d e h = rw (le-ltb b 128 (omega arith), le-ltb b 224 h)
 
 -- what a character's encoding begins has its width
 pub width_of_lem : (c : ℕ) (t : List ℕ) → Scalar c → width_of (encode c ++ t) ≡ length (encode c)

@@ -3,20 +3,16 @@ use Prim.Native.Nat.{ℕ, zero, suc, ◌+◌, ◌<◌, ◌≤◌}
 use Prim.{tt}
 use mathlib.Core.Path.{◌≡◌, refl, sym, ap, ◌∙◌}
 use mathlib.Core.Logic.{inl}
-use mathlib.Core.Bool.{Bool, true, ◌&&◌}
 use mathlib.Core.List.{List, [], ◌∷◌, ◌++◌, append_assoc, append-nil}
 use native.Mathlib.Nat.{add-zero}
-use native.Mathlib.Decide.{dec_lt}
 use native.Mathlib.Omega.{arith}
-use lib.Dec.{ltb}
 use lib.ListN.{length, get_or, take, drop, length-append, length-drop, take-append-drop, drop_of_length-le}
 use lib.Seq.{drop-drop, get_or-drop, get_or-take, length-take-le}
-use borrow.Author.Tests.{lt-ltb, le-ltb, ltb-true}
+use borrow.Author.Tests.{lt-ltb, le-ltb}
 use Rattle.common.specs.Each.{Each}
 use Rattle.common.proofs.Each.{each_append}
-use Rattle.octets.proofs.Theorems.{and_parts}
 use Rattle.utf8.specs.Utf8.{Scalar, encode, encode_all, HasCharacters, WellFormed}
-use Rattle.utf8.specs.Scan.{width_at, Ascii, Begins, characters_in, Advances}
+use Rattle.utf8.specs.Scan.{width_at, Ascii, Begins, Advances, unless_zero}
 use Rattle.utf8.proofs.Encoding.{width_of_lem, width_most, char, prefix_free, encode_some, width_of}
 
 pub encode_append : (cs ds : List ℕ) → encode_all (cs ++ ds) ≡ encode_all cs ++ encode_all ds
@@ -79,19 +75,15 @@ fits_at_lem s i k m h b = let f = simp length-drop at b.fits in omega arith
 width_drop : (s : List ℕ) (i : ℕ) → width_of (drop i s) ≡ width_at s i
 width_drop s i = rw (get_or-drop i s 0 0, get_or-drop i s 1 0, get_or-drop i s 2 0, get_or-drop i s 3 0, add-zero i)
 
-by_width : (z : List ℕ) (w : ℕ) → 0 < length z → width_of z ≡ w → Advances z w
+by_width : (z : List ℕ) (w : ℕ) → 0 < length z → width_of z ≡ w → Advances z (unless_zero w)
 by_width z zero h e = ill_formed z h e
 by_width z (suc k) h e =
     let m = width_most z in
     let c : Begins z (suc k) 1 = rw e at (char z h (λ f. omega (arith, sym e ∙ f))) in
     rw (le-ltb 4 (suc k) (omega arith)) c
 
-pub at_width : (s : List ℕ) (i : ℕ) → i < length s → Advances (drop i s) (width_at s i)
+pub at_width : (s : List ℕ) (i : ℕ) → i < length s → Advances (drop i s) (unless_zero (width_at s i))
 at_width s i h = by_width (drop i s) (width_at s i) (simp length-drop (omega arith)) (width_drop s i)
-
-pub advanced : (z : List ℕ) (k : ℕ) → (k ≡ 0 → ⊥) → Advances z k → Begins z k (characters_in k)
-advanced z zero n a = absurd (n refl)
-advanced z (suc k) n a = a
 
 -- ASCII
 low_scalars : (l : List ℕ) → ((j : ℕ) → j < length l → get_or l j 0 < 128) → Each Scalar l
@@ -119,16 +111,3 @@ ascii_begins s i n p h =
       fits = simp length-drop (omega arith);
       few = omega arith;
     }
-
-pub ascii_one : (s : List ℕ) (i : ℕ) → i < length s → get_or s i 0 < 128 → Ascii s i 1
-ascii_one s i h l = record { there = omega arith; low = λ j p. let w : i + j ≡ i = omega arith in rw w l }
-
-pub ascii_more : (s : List ℕ) (i j : ℕ) (all : Bool) → i + j < length s → (all ≡ true → Ascii s i j) → (all && ltb (get_or s (i + j) 0) 128) ≡ true → Ascii s i (j + 1)
-ascii_more s i j all h f e =
-    let p = and_parts all (ltb (get_or s (i + j) 0) 128) e in
-    let l : get_or s (i + j) 0 < 128 = ltb-true _ _ p.1 in
-    record { there = omega arith; low = λ k q. go k q l (f p.0) (dec_lt k j) }
-  where
-    go : (k : ℕ) → k < j + 1 → get_or s (i + j) 0 < 128 → Ascii s i j → Dec (k < j) → get_or s (i + k) 0 < 128
-    go k q l g (yes d) = g.low k d
-    go k q l g (no d) = let w : k ≡ j = omega arith in rw w l

@@ -16,9 +16,8 @@ use Rattle.octets.specs.Octets.{fold, folded}
 use Rattle.octets.proofs.Theorems.{and_parts}
 use Rattle.utf8.specs.Utf8.{Scalar, encode, encode_all, WellFormed, Counts}
 use Rattle.utf8.specs.Scan.{width_at, Begins, one_more, start_by, count_from, count_of}
+use Rattle.std.specs.Prelude.{Option, Some, None}
 use Rattle.utf8.specs.Theorems.{Unique, OneAnswer, BothWays, Few, Right, FoldedSame, CountedIs}
-use Rattle.utf8.specs.declared.Counted.{Counted}
-use Rattle.utf8.specs.declared.Counted.TheVariants.{Characters, IllFormed}
 use Rattle.utf8.proofs.Encoding.{encode_some, Form, form, form1, form2, form3, form4, char}
 use Rattle.utf8.proofs.Strings.{one_list, encode_append, ill_formed, refuses}
 
@@ -26,13 +25,13 @@ pub unique : Unique
 unique s cs ds p q = one_list cs ds p.scalars q.scalars (p.bytes ∙ sym q.bytes)
 
 pub one_answer : OneAnswer
-one_answer s (Characters n) (Characters m) p q = let e = unique s p.0 q.0 p.1 q.1 in cc (p.2, q.2, e)
-one_answer s (Characters n) IllFormed p q = absurd (q (p.0, p.1))
-one_answer s IllFormed (Characters m) p q = absurd (p (q.0, q.1))
-one_answer s IllFormed IllFormed p q = refl
+one_answer s (Some n) (Some m) p q = let e = unique s p.0 q.0 p.1 q.1 in cc (p.2, q.2, e)
+one_answer s (Some n) None p q = absurd (q (p.0, p.1))
+one_answer s None (Some m) p q = absurd (p (q.0, q.1))
+one_answer s None None p q = refl
 
 pub both_ways : BothWays
-both_ways s r h n = (λ e. rw e at h, λ q. one_answer s r (Characters n) h q)
+both_ways s r h n = (λ e. rw e at h, λ q. one_answer s r (Some n) h q)
 
 few_from : (cs : List ℕ) → length cs ≤ length (encode_all cs)
 few_from [] = omega arith
@@ -50,12 +49,12 @@ from_drop zero z = refl
 from_drop (suc k) [] = refl
 from_drop (suc k) (b ∷ r) = from_drop k r
 
-more : (z : List ℕ) (k : ℕ) (q : Counted) → Begins z k 1 → Counts (drop k z) q → Counts z (one_more q)
-more z k (Characters n) b h =
+more : (z : List ℕ) (k : ℕ) (q : Option ℕ) → Begins z k 1 → Counts (drop k z) q → Counts z (one_more q)
+more z k (Some n) b h =
     let c = h.0 in
     let e = h.1.bytes in
     (b.cs ++ c, record { scalars = each_append Scalar b.cs c b.scalars h.1.scalars; bytes = encode_append b.cs c ∙ ap (λ (l : List ℕ). encode_all b.cs ++ l) e ∙ b.bytes }, length-append b.cs c ∙ omega (arith, b.many, h.2))
-more z k IllFormed b h = refuses z k 1 (b.cs, b.scalars, b.bytes, b.many) h
+more z k None b h = refuses z k 1 (b.cs, b.scalars, b.bytes, b.many) h
 
 right_of : (n : ℕ) → ((s : List ℕ) → length s < n → Counts s (count_of s)) → (s : List ℕ) → length s ≤ n → Counts s (count_of s)
 right_of n ih [] h = ([], record { scalars = tt; bytes = refl }, refl)
@@ -176,9 +175,9 @@ unfold_from m (c ∷ cs) s p e = go (λ t f. unfold_from m cs t p.1 f) s e (dec_
         (c ∷ w.0, record { scalars = (p.0, w.1.scalars); bytes = ap (λ (l : List ℕ). encode c ++ l) w.1.bytes ∙ sym r.1 })
 
 pub folded_same : FoldedSame
-folded_same m s (Characters n) h =
+folded_same m s (Some n) h =
     (folded m h.0, record { scalars = fold_scalars m h.0 h.1.scalars; bytes = fold_encode m h.0 ∙ ap (folded m) h.1.bytes }, length-map h.0 (fold m) ∙ h.2)
-folded_same m s IllFormed h = λ w. h (unfold_from m w.0 s w.1.scalars w.1.bytes)
+folded_same m s None h = λ w. h (unfold_from m w.0 s w.1.scalars w.1.bytes)
 
 pub counted_is : CountedIs
 counted_is m s r h = one_answer (folded m s) r (count_of (folded m s)) (folded_same m s r h) (right (folded m s))

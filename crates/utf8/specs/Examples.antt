@@ -1,8 +1,7 @@
 -- RFC 3629, section 7, and the boundaries. The proofs are in proofs/Examples.antt.
-use Rattle.std.specs.Prelude.{◌≡◌, [], ◌∷◌}
+use Rattle.std.specs.Prelude.{◌≡◌, [], ◌∷◌, Some, None}
 use Rattle.utf8.specs.Utf8.{encode, encode_all}
 use Rattle.utf8.specs.Scan.{count_of}
-use Rattle.utf8.specs.declared.Counted.TheVariants.{Characters, IllFormed}
 
 -- "A<NOT IDENTICAL TO><ALPHA>.", U+0041 U+2262 U+0391 U+002E
 abbrev pub Identical : Type 0
@@ -28,33 +27,33 @@ Rows =
 
 -- 7F is a character, 80 alone is a continuation byte
 abbrev pub OneByte : Type 0
-OneByte = (count_of (0x7F ∷ []) ≡ Characters 1) × (count_of (0x80 ∷ []) ≡ IllFormed)
+OneByte = (count_of (0x7F ∷ []) ≡ Some 1) × (count_of (0x80 ∷ []) ≡ None)
 
 -- C1 BF would be 7F: overlong; C2 80 is 80, DF BF is 7FF, and C2 alone is cut
 abbrev pub TwoBytes : Type 0
 TwoBytes =
-    (count_of (0xC1 ∷ (0xBF ∷ [])) ≡ IllFormed)
-    × (count_of (0xC2 ∷ (0x80 ∷ [])) ≡ Characters 1)
-    × (count_of (0xDF ∷ (0xBF ∷ [])) ≡ Characters 1)
-    × (count_of (0xC2 ∷ []) ≡ IllFormed)
+    (count_of (0xC1 ∷ (0xBF ∷ [])) ≡ None)
+    × (count_of (0xC2 ∷ (0x80 ∷ [])) ≡ Some 1)
+    × (count_of (0xDF ∷ (0xBF ∷ [])) ≡ Some 1)
+    × (count_of (0xC2 ∷ []) ≡ None)
 
 -- E0 9F BF would be 7FF: overlong; E0 A0 80 is 800, ED 9F BF is D7FF, ED A0 80 and ED BF BF would be the surrogates D800 and DFFF, EE 80 80 is E000, EF BF BF is FFFF, and EF BF is cut
 abbrev pub ThreeBytes : Type 0
 ThreeBytes =
-    (count_of (0xE0 ∷ (0x9F ∷ (0xBF ∷ []))) ≡ IllFormed)
-    × (count_of (0xE0 ∷ (0xA0 ∷ (0x80 ∷ []))) ≡ Characters 1)
-    × (count_of (0xED ∷ (0x9F ∷ (0xBF ∷ []))) ≡ Characters 1)
-    × (count_of (0xED ∷ (0xA0 ∷ (0x80 ∷ []))) ≡ IllFormed)
-    × (count_of (0xED ∷ (0xBF ∷ (0xBF ∷ []))) ≡ IllFormed)
-    × (count_of (0xEE ∷ (0x80 ∷ (0x80 ∷ []))) ≡ Characters 1)
-    × (count_of (0xEF ∷ (0xBF ∷ (0xBF ∷ []))) ≡ Characters 1)
-    × (count_of (0xEF ∷ (0xBF ∷ [])) ≡ IllFormed)
+    (count_of (0xE0 ∷ (0x9F ∷ (0xBF ∷ []))) ≡ None)
+    × (count_of (0xE0 ∷ (0xA0 ∷ (0x80 ∷ []))) ≡ Some 1)
+    × (count_of (0xED ∷ (0x9F ∷ (0xBF ∷ []))) ≡ Some 1)
+    × (count_of (0xED ∷ (0xA0 ∷ (0x80 ∷ []))) ≡ None)
+    × (count_of (0xED ∷ (0xBF ∷ (0xBF ∷ []))) ≡ None)
+    × (count_of (0xEE ∷ (0x80 ∷ (0x80 ∷ []))) ≡ Some 1)
+    × (count_of (0xEF ∷ (0xBF ∷ (0xBF ∷ []))) ≡ Some 1)
+    × (count_of (0xEF ∷ (0xBF ∷ [])) ≡ None)
 
 -- F0 8F BF BF would be FFFF: overlong; F0 90 80 80 is 10000, F4 8F BF BF is 10FFFF, F4 90 80 80 would be 110000, and F4 8F BF is cut
 abbrev pub FourBytes : Type 0
 FourBytes =
-    (count_of (0xF0 ∷ (0x8F ∷ (0xBF ∷ (0xBF ∷ [])))) ≡ IllFormed)
-    × (count_of (0xF0 ∷ (0x90 ∷ (0x80 ∷ (0x80 ∷ [])))) ≡ Characters 1)
-    × (count_of (0xF4 ∷ (0x8F ∷ (0xBF ∷ (0xBF ∷ [])))) ≡ Characters 1)
-    × (count_of (0xF4 ∷ (0x90 ∷ (0x80 ∷ (0x80 ∷ [])))) ≡ IllFormed)
-    × (count_of (0xF4 ∷ (0x8F ∷ (0xBF ∷ []))) ≡ IllFormed)
+    (count_of (0xF0 ∷ (0x8F ∷ (0xBF ∷ (0xBF ∷ [])))) ≡ None)
+    × (count_of (0xF0 ∷ (0x90 ∷ (0x80 ∷ (0x80 ∷ [])))) ≡ Some 1)
+    × (count_of (0xF4 ∷ (0x8F ∷ (0xBF ∷ (0xBF ∷ [])))) ≡ Some 1)
+    × (count_of (0xF4 ∷ (0x90 ∷ (0x80 ∷ (0x80 ∷ [])))) ≡ None)
+    × (count_of (0xF4 ∷ (0x8F ∷ (0xBF ∷ []))) ≡ None)

@@ -1,9 +1,7 @@
 -- The count as a function, by the first bytes of each character, for what cites it in a term. specs/Theorems.antt says that it is the count of specs/Utf8.antt.
-use Rattle.std.specs.Prelude.{ℕ, zero, suc, ◌+◌, ◌*◌, ◌<◌, ◌≤◌, ◌≡◌, Bool, cond, ◌&&◌, ◌||◌, List, [], ◌∷◌, ◌++◌, leb, ltb, length, get_or, drop}
+use Rattle.std.specs.Prelude.{ℕ, zero, suc, ◌+◌, ◌*◌, ◌<◌, ◌≤◌, ◌≡◌, Bool, cond, ◌&&◌, ◌||◌, List, [], ◌∷◌, ◌++◌, leb, ltb, length, get_or, drop, Option, Some, None}
 use Rattle.common.specs.Each.{Each}
 use Rattle.utf8.specs.Utf8.{Scalar, encode_all, WellFormed}
-use Rattle.utf8.specs.declared.Counted.{Counted}
-use Rattle.utf8.specs.declared.Counted.TheVariants.{Characters, IllFormed}
 
 -- section 4: "UTF8-tail = %x80-BF"
 abbrev pub is_continuation : ℕ → Bool
@@ -36,24 +34,29 @@ width_by b c d e = cond (ltb b 0x80) 1 (cond (ltb b 0xE0) (cond (is_two b c) 2 0
 abbrev pub width_at : List ℕ → ℕ → ℕ
 width_at s i = width_by (get_or s i 0) (get_or s (i + 1) 0) (get_or s (i + 2) 0) (get_or s (i + 3) 0)
 
+-- a width of 0 is none
+abbrev pub unless_zero : ℕ → Option ℕ
+unless_zero zero = None
+unless_zero (suc k) = Some (suc k)
+
 -- one character more
-abbrev pub one_more : Counted → Counted
-one_more (Characters n) = Characters (suc n)
-one_more IllFormed = IllFormed
+abbrev pub one_more : Option ℕ → Option ℕ
+one_more (Some n) = Some (suc n)
+one_more None = None
 
 -- a character of that width, and what its other bytes lead to
-abbrev pub start_by : ℕ → (ℕ → Counted) → Counted
-start_by zero f = IllFormed
+abbrev pub start_by : ℕ → (ℕ → Option ℕ) → Option ℕ
+start_by zero f = None
 start_by (suc k) f = one_more (f k)
 
 -- the count behind k bytes
-abbrev pub count_from : ℕ → List ℕ → Counted
-count_from zero [] = Characters 0
+abbrev pub count_from : ℕ → List ℕ → Option ℕ
+count_from zero [] = Some 0
 count_from zero (b ∷ r) = start_by (width_at (b ∷ r) 0) (λ k. count_from k r)
-count_from (suc k) [] = Characters 0
+count_from (suc k) [] = Some 0
 count_from (suc k) (b ∷ r) = count_from k r
 
-abbrev pub count_of : List ℕ → Counted
+abbrev pub count_of : List ℕ → Option ℕ
 count_of s = count_from 0 s
 
 -- n bytes from i on are there and ASCII: each is a character
@@ -75,7 +78,7 @@ pub record Begins (z : List ℕ) (k m : ℕ) : Type 0 where
 abbrev pub characters_in : ℕ → ℕ
 characters_in k = cond (ltb 4 k) k 1
 
--- the first k bytes of z are whole characters; with 0 none begins z
-abbrev pub Advances : List ℕ → ℕ → Type 0
-Advances z zero = WellFormed z → ⊥
-Advances z (suc k) = Begins z (suc k) (characters_in (suc k))
+-- the first k bytes of z are whole characters; with none no character begins z
+abbrev pub Advances : List ℕ → Option ℕ → Type 0
+Advances z None = WellFormed z → ⊥
+Advances z (Some k) = Begins z k (characters_in k)

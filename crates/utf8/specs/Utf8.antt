@@ -1,8 +1,6 @@
 -- UTF-8 as RFC 3629 gives it: the encoding of a character number, and the strings that such encodings make up.
-use Rattle.std.specs.Prelude.{ℕ, ◌+◌, ◌/◌, ◌%◌, ◌<◌, ◌≤◌, ◌≡◌, ◌⊎◌, cond, List, [], ◌∷◌, ◌++◌, ltb, length}
+use Rattle.std.specs.Prelude.{ℕ, ◌+◌, ◌/◌, ◌%◌, ◌<◌, ◌≤◌, ◌≡◌, ◌⊎◌, cond, List, [], ◌∷◌, ◌++◌, ltb, length, Option, Some, None}
 use Rattle.common.specs.Each.{Each}
-use Rattle.utf8.specs.declared.Counted.{Counted}
-use Rattle.utf8.specs.declared.Counted.TheVariants.{Characters, IllFormed}
 
 -- a Unicode scalar value: "characters from the U+0000..U+10FFFF range"; "prohibits encoding character numbers between U+D800 and U+DFFF"
 abbrev pub Scalar : ℕ → Type 0
@@ -38,6 +36,6 @@ abbrev pub HasCharacters : List ℕ → ℕ → Type 0
 HasCharacters s n = (cs : List ℕ) × Decodes s cs × (length cs ≡ n)
 
 -- an answer that is right of s
-abbrev pub Counts : List ℕ → Counted → Type 0
-Counts s (Characters n) = HasCharacters s n
-Counts s IllFormed = WellFormed s → ⊥
+abbrev pub Counts : List ℕ → Option ℕ → Type 0
+Counts s (Some n) = HasCharacters s n
+Counts s None = WellFormed s → ⊥

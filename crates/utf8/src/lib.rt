@@ -3,13 +3,7 @@
 
 ghost use Rattle.std.specs.Prelude.{◌≡◌, true, ◌+◌, ◌≤◌, ◌<◌, length, get_or, drop};
 ghost use Rattle.utf8.specs.Utf8.{Counts};
-ghost use Rattle.utf8.specs.Scan.{is_continuation, first_two, is_two, is_three, is_four, long_width, width_at, characters_in, Ascii, Advances};
-
-#[derive(Drop)]
-pub enum Counted {
-    Characters(usize),
-    IllFormed,
-}
+ghost use Rattle.utf8.specs.Scan.{is_continuation, first_two, is_two, is_three, is_four, long_width, width_at, unless_zero, characters_in, Ascii, Advances};
 
 // "UTF8-tail = %x80-BF"
 fn is_continuation(b: u8) -> bool
@@ -49,20 +43,15 @@ fn is_four(b: u8, c: u8, d: u8, e: u8) -> bool
         & ((0xF090 <= p) & (p < 0xF490))
 }
 
-// How many bytes the character of three or four bytes has that b leads, 0 if it is ill-formed.
-fn long_width(b: u8, c: u8, d: u8, e: u8) -> usize
-    ensures { result ≡ long_width b c d e }
+// How many bytes the character of three or four bytes has that b leads, unless it is ill-formed.
+fn long_width(b: u8, c: u8, d: u8, e: u8) -> Option<usize>
+    ensures { result ≡ unless_zero (long_width b c d e) }
 {
     if b < 0xF0 {
-        if is_three(b, c, d) {
-            return 3;
-        }
-        return 0;
+        is_three(b, c, d).then_some(3)
+    } else {
+        is_four(b, c, d, e).then_some(4)
     }
-    if is_four(b, c, d, e) {
-        return 4;
-    }
-    0
 }
 
 // The byte k behind i, 0 past the end.
@@ -70,23 +59,17 @@ fn byte_at(s: &[u8], i: usize, k: usize) -> u8
     requires { i ≤ length s.now }
     ensures { result ≡ get_or s.now (i + k) 0 }
 {
-    if k < s.len() - i {
-        return s[i + k];
-    }
-    0
+    s[i..].get(k).copied().unwrap_or(0)
 }
 
-// How many bytes the character at i has, which is not ASCII; 0 if it is ill-formed.
-fn width(s: &[u8], i: usize) -> usize
+// How many bytes the character at i has, which is not ASCII, unless it is ill-formed.
+fn width(s: &[u8], i: usize) -> Option<usize>
     requires { (i < length s.now) × (128 ≤ get_or s.now i 0) }
-    ensures { result ≡ width_at s.now i }
+    ensures { result ≡ unless_zero (width_at s.now i) }
 {
     let b = s[i];
     if b < 0xE0 {
-        if is_two(b, byte_at(s, i, 1)) {
-            return 2;
-        }
-        return 0;
+        return is_two(b, byte_at(s, i, 1)).then_some(2);
     }
     if s.len() - i < 4 {
         return long_width(b, byte_at(s, i, 1), byte_at(s, i, 2), byte_at(s, i, 3));
@@ -103,51 +86,41 @@ fn ascii(s: &[u8], i: usize) -> bool
         return false;
     }
     let mut all = true;
-    let mut j = 1;
-    while j < 17 {
-        all = all & (s[i + j] < 128);
-        j += 1;
+    for b in &s[i + 1..i + 17] {
+        all &= *b < 128;
     }
     all
 }
 
-// The bytes of the next character, or of a run of ASCII; 0 if no character follows.
-fn advance(s: &[u8], i: usize) -> usize
+// The bytes of the next character, or of a run of ASCII, unless no character follows.
+fn advance(s: &[u8], i: usize) -> Option<usize>
     requires { i < length s.now }
     ensures { Advances (drop i s.now) result }
 {
     if s[i] < 128 {
-        if ascii(s, i) {
-            return 17;
-        }
-        return 1;
+        Some(if ascii(s, i) { 17 } else { 1 })
+    } else {
+        width(s, i)
     }
-    width(s, i)
 }
 
 // How many characters so many bytes are: above four they are a run of ASCII.
 fn characters(k: usize) -> usize
     ensures { result ≡ characters_in k }
 {
-    if 4 < k {
-        return k;
-    }
-    1
+    if 4 < k { k } else { 1 }
 }
 
-// How many characters the string has.
-pub fn count(s: &[u8]) -> Counted
+// How many characters the string has, unless it is ill-formed.
+pub fn count(s: &[u8]) -> Option<usize>
     ensures { Counts s.now result }
 {
     let mut i = 0;
     let mut n = 0;
     while i < s.len() {
-        let k = advance(s, i);
-        if k == 0 {
-            return Counted::IllFormed;
-        }
+        let k = advance(s, i)?;
         i += k;
         n += characters(k);
     }
-    Counted::Characters(n)
+    Some(n)
 }

@@ -3,7 +3,6 @@
 
 use std::io;
 use std::io::{BufReader, BufWriter, Write};
-use utf8::Counted;
 
 fn put(to: &mut impl io::Write, s: &[u8]) -> io::Result<()> {
     to.write_all(s)
@@ -15,8 +14,8 @@ fn put_number(to: &mut impl io::Write, n: u64) -> io::Result<()> {
 
 fn answer(to: &mut impl io::Write, s: &[u8]) -> io::Result<()> {
     match utf8::count(s) {
-        Counted::Characters(n) => put_number(to, n as u64)?,
-        Counted::IllFormed => put(to, b"-")?,
+        Some(n) => put_number(to, n as u64)?,
+        None => put(to, b"-")?,
     }
     put(to, b"\n")
 }

@@ -11,7 +11,7 @@ use lib.ListN.{length, take, drop, length-drop, length-take, drop_of_length-le}
 use lib.Seq.{take_all, take-nil, drop-length}
 use Rattle.octets.specs.Octets.{folded}
 use Rattle.octets.proofs.Theorems.{folded_twice, not_folded}
-use Rattle.utf8.specs.declared.Counted.{Counted}
+use Rattle.std.specs.Prelude.{Option}
 use Rattle.utf8.specs.Utf8.{Counts}
 use Rattle.utf8.specs.Scan.{count_of}
 use Rattle.utf8.proofs.Theorems.{counted_is}
@@ -41,5 +41,5 @@ pub below_half : (n : ℕ) → n < 65536 → n < 2 ^ hbits w32
 below_half n h = omega arith
 
 -- the size of a text, from the right count of its bytes
-pub sized : (m : Bool) {s : List ℕ} (t : List ℕ) (r : Counted) → s ≡ t → Counts s r → size_by (count_of (folded m t)) ≡ size_by r
+pub sized : (m : Bool) {s : List ℕ} (t : List ℕ) (r : Option ℕ) → s ≡ t → Counts s r → size_by (count_of (folded m t)) ≡ size_by r
 sized m t r e h = ap size_by (sym (counted_is m t r (rw e at h)))

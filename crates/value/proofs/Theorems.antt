@@ -21,8 +21,6 @@ use Rattle.truth.specs.Truth.{or_of, xor_of, of_bool}
 use Rattle.truth.proofs.Theorems.{false_and as false-and-t, true_or as true-or-t}
 use Rattle.common.proofs.Choice.{true_false}
 use Rattle.octets.proofs.Theorems.{and_parts}
-use Rattle.utf8.specs.declared.Counted.{Counted}
-use Rattle.utf8.specs.declared.Counted.TheVariants.{Characters, IllFormed}
 use Rattle.utf8.specs.Utf8.{HasCharacters, WellFormed, Counts}
 use Rattle.utf8.specs.Scan.{count_of}
 use Rattle.utf8.proofs.Theorems.{one_answer, right, counted_is}
@@ -188,19 +186,19 @@ strict_many Many.Equals y ys = ap logic (rw (bottom_equal (value_in y)).0 (botto
 
 -- `size` of a string, from any right count of it
 module _ (s : List ℕ) where
-  counted : (n : ℕ) (r : Counted) → Counts s r → size_by r ≡ int32 (pos n) → HasCharacters s n
-  counted n (Characters m) h e = let z : m ≡ n = cc in rw z at h
-  counted n IllFormed h e = absurd (omega (arith, ap type_of e))
+  counted : (n : ℕ) (r : Optional ℕ) → Counts s r → size_by r ≡ int32 (pos n) → HasCharacters s n
+  counted n (Some m) h e = let z : m ≡ n = cc in rw z at h
+  counted n None h e = absurd (omega (arith, ap type_of e))
 
-  uncounted : (r : Counted) → Counts s r → size_by r ≡ bottom → WellFormed s → ⊥
-  uncounted (Characters m) h e = absurd (omega (arith, ap type_of e))
-  uncounted IllFormed h e = h
+  uncounted : (r : Optional ℕ) → Counts s r → size_by r ≡ bottom → WellFormed s → ⊥
+  uncounted (Some m) h e = absurd (omega (arith, ap type_of e))
+  uncounted None h e = h
 
 pub size_characters : SizeCharacters
-size_characters s n = (counted s n (count_of s) (right s), λ h. ap size_by (one_answer s (count_of s) (Characters n) (right s) h))
+size_characters s n = (counted s n (count_of s) (right s), λ h. ap size_by (one_answer s (count_of s) (Some n) (right s) h))
 
 pub size_bottom : SizeBottom
-size_bottom s = (uncounted s (count_of s) (right s), λ h. ap size_by (one_answer s (count_of s) IllFormed (right s) h))
+size_bottom s = (uncounted s (count_of s) (right s), λ h. ap size_by (one_answer s (count_of s) None (right s) h))
 
 pub size_folded : SizeFolded
 size_folded s = ap size_by (sym (counted_is true s (count_of s) (right s)))

@@ -12,8 +12,6 @@ use Rattle.truth.specs.declared.Truth.{Truth}
 use Rattle.truth.specs.declared.Truth.TheVariants.{False, Bottom, True}
 use Rattle.truth.specs.Truth.{not_of, and_of, xor_of, or_of, of_bool}
 use Rattle.octets.specs.Octets.{folded, same_of, begins_of, contains_of, ends_of}
-use Rattle.utf8.specs.declared.Counted.{Counted}
-use Rattle.utf8.specs.declared.Counted.TheVariants.{Characters, IllFormed}
 use Rattle.utf8.specs.Scan.{count_of}
 use Rattle.pattern.specs.Wildcard.{wildcard_of}
 use Rattle.regexp.specs.Regex.{regex_of}
@@ -89,9 +87,9 @@ abbrev pub fold_case_of : Value → Value
 fold_case_of v = cond (is_text v) (text (folded true (text_in v))) bottom
 
 -- Document 02, request 2: "For a string, `size` is to be the number of UTF-8 characters, and bottom if the bytes are not well-formed UTF-8 (RFC 3629). Opaque values keep their byte count."
-abbrev pub size_by : Counted → Value
-size_by (Characters n) = int32 (pos n)
-size_by IllFormed = bottom
+abbrev pub size_by : Optional ℕ → Value
+size_by (Some n) = int32 (pos n)
+size_by None = bottom
 
 -- ".. as int32; else bottom."
 abbrev pub size_of : Value → Value

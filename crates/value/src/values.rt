@@ -12,7 +12,6 @@ use crate::{Origin, Piece, Typed, texts};
 use number::Number;
 use opcode::{Change, Combine, Edition, Fit, Order, Test};
 use truth::Truth;
-use utf8::Counted;
 
 // The number that a value is, and the value that a number is.
 fn number_of(v: Typed) -> Number
@@ -116,8 +115,8 @@ fn text_size<'a>(pool: &'a [u8], notice: &'a [u8], p: Piece) -> Typed
 {
     let s = texts::fetch(pool, notice, p);
     match utf8::count(s) {
-        Counted::Characters(n) => Typed::Int32(n as i32),
-        Counted::IllFormed => Typed::Bottom,
+        Some(n) => Typed::Int32(n as i32),
+        None => Typed::Bottom,
     }
 }
 

@@ -1,5 +1,5 @@
 use native.Mathlib.Omega.{arith}
-use Rattle.utf8.proofs.Strings.{ascii_one, ascii_begins, at_width}
+use Rattle.utf8.proofs.Strings.{ascii_begins, at_width}
 use Rattle.utf8.proofs.advance.Goals as goal
 
 pub returns-then-ascii : goal.returns-then-ascii
@@ -7,12 +7,7 @@ returns-then-ascii c =
     let a = c.args in
     ascii_begins a.s.now a.i 17 (omega arith) (c.ascii.ensures c.if-ascii.true)
 
-pub returns-then-s-i-lt128 : goal.returns-then-s-i-lt128
-returns-then-s-i-lt128 c =
-    let a = c.args in
-    ascii_begins a.s.now a.i 1 (omega arith) (ascii_one a.s.now a.i (omega arith) c.if-s-i-lt128.true)
-
-pub returns : goal.returns
-returns c =
+pub returns-else-s-i-lt128 : goal.returns-else-s-i-lt128
+returns-else-s-i-lt128 c =
     let a = c.args in
     rw c.width.ensures (at_width a.s.now a.i (omega arith))
