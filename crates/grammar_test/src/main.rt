@@ -3,7 +3,7 @@
 
 ghost use Rattle.postfix.specs.Answer.{Ready};
 
-use postfix::{Judged, Parsed};
+use postfix::Judged;
 use std::io;
 use std::io::{BufReader, BufWriter, Write};
 use translator::read::Reading;
@@ -69,8 +69,8 @@ fn judge(
 {
     let mut codes = [0u16; 512];
     match postfix::parse(marks, &mut codes) {
-        Parsed::Broken(p) => put_refusal(to, 2, read::place(text, p)),
-        Parsed::Whole(j) => put_judged(to, sizes, count, patterns, j),
+        Err(p) => put_refusal(to, 2, read::place(text, p)),
+        Ok(j) => put_judged(to, sizes, count, patterns, j),
     }
 }
 

@@ -1,4 +1,5 @@
 -- The answer of the whole, from the number of the expression that starts the tokens. Assumes nothing.
+use Rattle.std.specs.Prelude.{Result as Reply}
 use Prim.Native.Nat.{ℕ, ◌+◌, ◌≤◌, ◌<◌}
 use native.Mathlib.Omega.{arith}
 use native.Mathlib.Decide.{ℕ_discrete}
@@ -13,16 +14,16 @@ use Rattle.grammar.specs.Parse.{Result, ok, bad, level_of, parse_all}
 use Rattle.grammar.specs.Size.{entries_of}
 use Rattle.postfix.specs.Packed.{next_in, end_in, broken, known_of}
 use Rattle.postfix.specs.Answer.{answer_of, Leaves, Answered, read_by}
-use Rattle.postfix.specs.declared.Parsed.{Parsed}
+use Rattle.postfix.specs.declared.Judged.{Judged}
 use Rattle.postfix.proofs.Bounds.{Bounded, Spans, bounded_level}
 use Rattle.postfix.proofs.Reading.{view_tree, Parts, parts, broken_is, whole_is}
 use Rattle.postfix.proofs.Steps.{kept}
 
 -- the answer and the codes
-abbrev Told : Result → List ℕ → List ℕ → Parsed → Type 0
+abbrev Told : Result → List ℕ → List ℕ → Reply Judged ℕ → Type 0
 Told y was now r = (r ≡ answer_of y) × Leaves y 0 was now
 
-module _ (ks : List Token) (few : length ks ≤ 4096) {was now : List ℕ} (x : ℕ) {r : Parsed} (er : r ≡ read_by (length ks) x) where
+module _ (ks : List Token) (few : length ks ≤ 4096) {was now : List ℕ} (x : ℕ) {r : Reply Judged ℕ} (er : r ≡ read_by (length ks) x) where
   module _ (t : Tree) (j : ℕ) (s : Spans ks 0 t j) (h : Answered (ok t j) 0 was now x) where
     p : Parts x j (0 + entries_of t) (known_of t)
     p = parts h.is (omega (arith, s.le)) (omega (arith, s.le, s.entries))

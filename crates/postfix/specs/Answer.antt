@@ -1,6 +1,7 @@
 -- What the parser answers of a result, and the codes that it leaves.
-use Rattle.std.specs.Prelude.{ℕ, ◌*◌, ◌≤◌, ◌<◌, ◌≡◌, true, false, cond, not, ◌||◌, eqb, List, length, get_or}
+use Rattle.std.specs.Prelude.{ℕ, Ok, Err, ◌*◌, ◌≤◌, ◌<◌, ◌≡◌, true, false, cond, not, ◌||◌, eqb, List, length, get_or}
 use Rattle.std.proofs.lemmas.List.Edits.{sets}
+use Rattle.std.specs.Prelude.{Result as Reply}
 use Rattle.lexer.specs.Kind.{ending}
 use Rattle.lexer.specs.Token.{Token}
 use Rattle.grammar.specs.Tree.{Tree}
@@ -12,16 +13,14 @@ use Rattle.grammar.specs.Code.{codes_of}
 use Rattle.postfix.specs.Marked.{Marked}
 use Rattle.postfix.specs.Packed.{next_in, end_in, known_in, counted_to, logic_bit, forms_bit, kinds_bit, depth_bits, broken, part_of}
 use Rattle.postfix.specs.declared.Judged.{Judged}
-use Rattle.postfix.specs.declared.Parsed.{Parsed}
-use Rattle.postfix.specs.declared.Parsed.TheVariants.{Whole, Broken}
 
 -- how many entries, whether it is logic, whether the refusals 4 and 5 do not apply, and how many slots it holds at once, up to 63
 abbrev pub judged_of : Tree → Judged
 judged_of t = record { entries = entries_of t; logic = is_logic t; forms = forms_right t; kinds = kinds_right t; depth = counted_to (depth_of t) }
 
-abbrev pub answer_of : Result → Parsed
-answer_of (ok t n) = Whole (judged_of t)
-answer_of (bad p) = Broken p
+abbrev pub answer_of : Result → Reply Judged ℕ
+answer_of (ok t n) = Ok (judged_of t)
+answer_of (bad p) = Err p
 
 -- The codes of a tree stand from i on, as far as there is room, and every other code is as it was. Where there is no tree, nothing is told but the length.
 abbrev pub Leaves : Result → ℕ → List ℕ → List ℕ → Type 0
@@ -54,15 +53,15 @@ pub record Run (marks : List ℕ) (at first : ℕ) : Type 0 where
   pub past : is_prefix (get_or marks first ending) ≡ false
 
 -- the answer of n tokens by the number of the expression that starts them
-abbrev pub read_by : ℕ → ℕ → Parsed
+abbrev pub read_by : ℕ → ℕ → Reply Judged ℕ
 read_by n x =
-    cond (broken x || not (eqb (next_in x) n)) (Broken (next_in x))
-    (Whole (record { entries = end_in x; logic = logic_bit (known_in x); forms = forms_bit (known_in x); kinds = kinds_bit (known_in x); depth = depth_bits (known_in x) }))
+    cond (broken x || not (eqb (next_in x) n)) (Err (next_in x))
+    (Ok (record { entries = end_in x; logic = logic_bit (known_in x); forms = forms_bit (known_in x); kinds = kinds_bit (known_in x); depth = depth_bits (known_in x) }))
 
 -- ---- the promises
 
 -- of the whole: on all tokens that the marks stand for, the answer is that of the result, and its codes stand from the first on
-abbrev pub Parses : List ℕ → List ℕ → List ℕ → Parsed → Type 0
+abbrev pub Parses : List ℕ → List ℕ → List ℕ → Reply Judged ℕ → Type 0
 Parses marks was now r = (ks : List Token) → Marked marks ks → (r ≡ answer_of (parse_all ks)) × Leaves (parse_all ks) 0 was now
 
 -- of a run of prefix operators: the answer for what follows it becomes the answer for the run

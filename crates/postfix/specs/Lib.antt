@@ -1,3 +1,4 @@
 pub mod Marked
 pub mod Packed
+pub mod Form
 pub mod Answer

@@ -13,6 +13,8 @@ mod mark;
 mod packed;
 mod part;
 
+use packed::Packed;
+
 // How many entries the code has, whether the expression is logic, whether the refusals 4 and 5 do not apply, and how many slots it holds at once, up to 63.
 #[derive(Clone, Copy)]
 pub struct Judged {
@@ -23,18 +25,11 @@ pub struct Judged {
     pub depth: usize,
 }
 
-#[derive(Drop)]
-pub enum Parsed {
-    Whole(Judged),
-    // The token that cannot go on.
-    Broken(usize),
-}
-
 // An expression of the level l or a tighter one, from the token `at` on, whose first code is the code i. The answer is one number (packed.rt), and the loop keeps no more than the number of what stands left.
 #[cycle(level)]
-fn level(marks: &[u8], codes: &mut [u16], at: usize, l: u8, i: usize) -> u64
+fn level(marks: &[u8], codes: &mut [u16], at: usize, l: u8, i: usize) -> Packed
     requires { Ready marks.now at i × (l ≤ 11) }
-    ensures { Tells marks.now (λ ks. level_of ks at l) i codes.old codes.new result }
+    ensures { Tells marks.now (λ ks. level_of ks at l) i codes.old codes.new result.0 }
 {
     let mut left = first(marks, codes, at, i);
     loop {
@@ -49,7 +44,7 @@ fn level(marks: &[u8], codes: &mut [u16], at: usize, l: u8, i: usize) -> u64
         let right = tighter(
             marks,
             codes,
-            packed::next(left) + 1,
+            left.next() + 1,
             r + 1,
             part::right_start(k, left),
         );
@@ -59,9 +54,9 @@ fn level(marks: &[u8], codes: &mut [u16], at: usize, l: u8, i: usize) -> u64
 
 // The right side of an operator. Most are a literal or a name that no operator of the level follows, and the tightest level has no operators: these take no frame of the recursion.
 #[cycle(level)]
-fn tighter(marks: &[u8], codes: &mut [u16], at: usize, l: u8, i: usize) -> u64
+fn tighter(marks: &[u8], codes: &mut [u16], at: usize, l: u8, i: usize) -> Packed
     requires { Ready marks.now at i × (l ≤ 11) }
-    ensures { Tells marks.now (λ ks. level_of ks at l) i codes.old codes.new result }
+    ensures { Tells marks.now (λ ks. level_of ks at l) i codes.old codes.new result.0 }
 {
     if mark::alone(marks, at, l) {
         return part::leaf(codes, stream::kind(marks, at), at, i);
@@ -74,9 +69,9 @@ fn tighter(marks: &[u8], codes: &mut [u16], at: usize, l: u8, i: usize) -> u64
 
 // What stands first on a level. Most often it is a literal or a name.
 #[cycle(level)]
-fn first(marks: &[u8], codes: &mut [u16], at: usize, i: usize) -> u64
+fn first(marks: &[u8], codes: &mut [u16], at: usize, i: usize) -> Packed
     requires { Ready marks.now at i }
-    ensures { Tells marks.now (λ ks. prefix_of ks at) i codes.old codes.new result }
+    ensures { Tells marks.now (λ ks. prefix_of ks at) i codes.old codes.new result.0 }
 {
     let m = stream::kind(marks, at);
     if mark::is_leaf(m) {
@@ -87,9 +82,9 @@ fn first(marks: &[u8], codes: &mut [u16], at: usize, i: usize) -> u64
 
 // "`!` and `~` (prefix, on what follows directly)": a run of them is a loop.
 #[cycle(level)]
-fn prefix(marks: &[u8], codes: &mut [u16], at: usize, i: usize) -> u64
+fn prefix(marks: &[u8], codes: &mut [u16], at: usize, i: usize) -> Packed
     requires { Ready marks.now at i }
-    ensures { Tells marks.now (λ ks. prefix_of ks at) i codes.old codes.new result }
+    ensures { Tells marks.now (λ ks. prefix_of ks at) i codes.old codes.new result.0 }
 {
     let first = mark::past_prefixes(marks, at);
     let inner = operand(marks, codes, first, i);
@@ -98,9 +93,9 @@ fn prefix(marks: &[u8], codes: &mut [u16], at: usize, i: usize) -> u64
 
 // A literal, a name, an expression in parentheses, or a call.
 #[cycle(level)]
-fn operand(marks: &[u8], codes: &mut [u16], at: usize, i: usize) -> u64
+fn operand(marks: &[u8], codes: &mut [u16], at: usize, i: usize) -> Packed
     requires { Ready marks.now at i }
-    ensures { Tells marks.now (λ ks. operand_of ks at) i codes.old codes.new result }
+    ensures { Tells marks.now (λ ks. operand_of ks at) i codes.old codes.new result.0 }
 {
     let m = stream::kind(marks, at);
     if m == lexer::OPEN {
@@ -115,9 +110,9 @@ fn operand(marks: &[u8], codes: &mut [u16], at: usize, i: usize) -> u64
 
 // The call whose mark stands at `at`, before a `(`.
 #[cycle(level)]
-fn arguments(marks: &[u8], codes: &mut [u16], at: usize, i: usize) -> u64
+fn arguments(marks: &[u8], codes: &mut [u16], at: usize, i: usize) -> Packed
     requires { Ready marks.now at i × (calling ≤ get_or marks.now at ending) }
-    ensures { Tells marks.now (λ ks. operand_of ks at) i codes.old codes.new result }
+    ensures { Tells marks.now (λ ks. operand_of ks at) i codes.old codes.new result.0 }
 {
     let function = mark::function(marks, at);
     if stream::kind(marks, at + 2) == lexer::CLOSE {
@@ -125,7 +120,7 @@ fn arguments(marks: &[u8], codes: &mut [u16], at: usize, i: usize) -> u64
     }
     let mut args = part::no_args(at + 2, i);
     loop {
-        let arg = level(marks, codes, packed::next(args), 0, packed::end(args));
+        let arg = level(marks, codes, args.next(), 0, args.end());
         args = part::more_args(args, arg);
         if mark::before(marks, args) != lexer::COMMA {
             return part::call(marks, codes, function, args);
@@ -133,26 +128,26 @@ fn arguments(marks: &[u8], codes: &mut [u16], at: usize, i: usize) -> u64
     }
 }
 
-// The answer of n tokens by the number of the expression that starts them.
-fn answer(n: usize, x: u64) -> Parsed
-    ensures { result ≡ read_by n x }
+// The answer of n tokens by that of the expression that starts them.
+fn answer(n: usize, x: Packed) -> Result<Judged, usize>
+    ensures { result ≡ read_by n x.0 }
 {
-    let f = packed::known(x);
-    let next = packed::next(x);
-    if packed::broken(x) | (next != n) {
-        return Parsed::Broken(next);
+    let next = x.next();
+    if x.broken() | (next != n) {
+        return Err(next);
     }
-    Parsed::Whole(Judged {
-        entries: packed::end(x),
-        logic: packed::logic(f),
-        forms: packed::forms(f),
-        kinds: packed::kinds(f),
-        depth: packed::depth(f) as usize,
+    let known = x.known();
+    Ok(Judged {
+        entries: x.end(),
+        logic: known.logic(),
+        forms: known.forms(),
+        kinds: known.kinds(),
+        depth: known.depth() as usize,
     })
 }
 
-// The whole of the tokens as one expression. The codes are left as far as there is room.
-pub fn parse(marks: &[u8], codes: &mut [u16]) -> Parsed
+// The whole of the tokens as one expression, or the token that cannot go on. The codes are left as far as there is room.
+pub fn parse(marks: &[u8], codes: &mut [u16]) -> Result<Judged, usize>
     requires { Ready marks.now 0 0 }
     ensures { Parses marks.now codes.old codes.new result }
 {

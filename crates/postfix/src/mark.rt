@@ -1,42 +1,35 @@
 // What the parser asks of a single mark.
-ghost use Rattle.std.specs.Prelude.{◌≡◌, ◌≤◌, ◌-◌, length, get_or};
+ghost use Rattle.std.specs.Prelude.{◌≡◌, ◌≤◌, length, get_or};
 ghost use Rattle.lexer.specs.Kind.{ending};
 ghost use Rattle.grammar.specs.Grammar.{rank as rank_of};
 ghost use Rattle.grammar.specs.Marks.{is_operand};
 ghost use Rattle.postfix.specs.Packed.{mark_after, mark_before, function_in, alone_in};
 ghost use Rattle.postfix.specs.Answer.{Run};
 
-use crate::packed;
+use crate::packed::Packed;
 use grammar::stream;
 
 // Added to the op of a called function.
 pub const CALLING: u8 = 128;
 
 // The mark after an expression, `END` if it is broken.
-pub fn after(marks: &[u8], x: u64) -> u8
-    ensures { result ≡ mark_after marks.now x }
+pub fn after(marks: &[u8], x: Packed) -> u8
+    ensures { result ≡ mark_after marks.now x.0 }
 {
-    if packed::broken(x) {
+    if x.broken() {
         return lexer::END;
     }
-    stream::kind(marks, packed::next(x))
+    stream::kind(marks, x.next())
 }
 
 // The mark after an argument, which stands before what comes next.
-pub fn before(marks: &[u8], x: u64) -> u8
-    ensures { result ≡ mark_before marks.now x }
+pub fn before(marks: &[u8], x: Packed) -> u8
+    ensures { result ≡ mark_before marks.now x.0 }
 {
-    if packed::broken(x) {
+    if x.broken() {
         return lexer::END;
     }
-    stream::kind(marks, less(packed::next(x), 1))
-}
-
-// The difference, or 0 if there is none.
-pub fn less(a: usize, b: usize) -> usize
-    ensures { (result ≡ a - b) × (result ≤ a) }
-{
-    if b <= a { a - b } else { 0 }
+    stream::kind(marks, x.next().saturating_sub(1))
 }
 
 // The op of the function that is called, 0 if there is none.
@@ -44,7 +37,7 @@ pub fn function(marks: &[u8], i: usize) -> u8
     ensures { result ≡ function_in (get_or marks.now i ending) }
 {
     let m = stream::kind(marks, i);
-    if CALLING <= m { m - CALLING } else { 0 }
+    m.saturating_sub(CALLING)
 }
 
 // The level of a binary operator, 11 for any other mark. Listed, since an array would be laid out in the frames of the recursion.

@@ -2,12 +2,14 @@
 ghost use Rattle.std.specs.Prelude.{◌≡◌, cond, true, ◌&&◌, ◌+◌, ◌<◌, ◌≤◌, eqb, set};
 ghost use Rattle.std.proofs.lemmas.List.Edits.{sets};
 ghost use Rattle.grammar.specs.Size.{skips};
-ghost use Rattle.grammar.specs.Judge.{leaf_form, call_form, is_name, is_text, is_folding, call_right, gives_logic, takes_logic, agrees};
+ghost use Rattle.grammar.specs.Judge.{leaf_form, call_form, is_text, call_right, gives_logic, takes_logic, agrees};
 ghost use Rattle.grammar.specs.Code.{code, skip_codes, call_code};
-ghost use Rattle.postfix.specs.Packed.{packed, form_number, form_in, count_bits, unary_known, binary_known, group_known, none_known, more_known, call_known, unary_part, unary_codes, right_start, binary_part, binary_codes, group_part, leaf_part, leaf_codes, more_part, call_part, call_codes};
+ghost use Rattle.postfix.specs.Packed.{packed, count_bits, unary_known, binary_known, group_known, none_known, more_known, call_known, unary_part, unary_codes, right_start, binary_part, binary_codes, group_part, leaf_part, leaf_codes, more_part, call_part, call_codes};
+ghost use Rattle.postfix.specs.Form.{form_of};
 ghost use Rattle.postfix.specs.Answer.{Wraps};
 
-use crate::{mark, packed};
+use crate::mark;
+use crate::packed::{Form, Known, Packed, deeper};
 use grammar::stream;
 
 // ---- codes
@@ -44,39 +46,31 @@ fn operand_right(k: u8, logic: bool) -> bool
     if opcode::NOT <= k { logic } else { !logic }
 }
 
-fn unary_known(k: u8, f: u64) -> u64
-    ensures { (result ≡ unary_known k f) × (result < 1073741824) }
+fn unary_known(k: u8, f: Known) -> Known
+    ensures { (result.0 ≡ unary_known k f.0) × (result.0 < 1073741824) }
 {
-    let kinds = packed::kinds(f) & operand_right(k, packed::logic(f));
-    packed::knowing(
-        gives_logic(k),
-        packed::forms(f),
-        kinds,
-        packed::OTHER,
-        packed::depth(f),
-    )
+    let kinds = f.kinds() & operand_right(k, f.logic());
+    Known::new(gives_logic(k), f.forms(), kinds, Form::Other, f.depth())
 }
 
 // A prefix operator on an expression.
-fn unary(codes: &mut [u16], k: u8, x: u64) -> u64
-    ensures { (result ≡ unary_part k x) × (codes.new ≡ unary_codes k x codes.old) }
+fn unary(codes: &mut [u16], k: u8, x: Packed) -> Packed
+    ensures { (result.0 ≡ unary_part k x.0) × (codes.new ≡ unary_codes k x.0 codes.old) }
 {
-    if packed::broken(x) {
+    if x.broken() {
         return x;
     }
-    let end = packed::end(x);
+    let end = x.end();
     leave(codes, end, code_of(k, 0));
-    packed::pack(packed::next(x), end + 1, unary_known(k, packed::known(x)))
+    Packed::new(x.next(), end + 1, unary_known(k, x.known()))
 }
 
 // The prefix operators from `at` up to `first`, from the last to the first, on the expression that follows them.
-pub fn prefixed(marks: &[u8], codes: &mut [u16], at: usize, first: usize, inner: u64) -> u64
-    ensures { Wraps marks.now at first inner codes.old codes.new result }
+pub fn prefixed(marks: &[u8], codes: &mut [u16], at: usize, first: usize, inner: Packed) -> Packed
+    ensures { Wraps marks.now at first inner.0 codes.old codes.new result.0 }
 {
     let mut x = inner;
-    let mut n = first;
-    while at < n {
-        n -= 1;
+    for n in (at..first).rev() {
         x = unary(codes, stream::kind(marks, n), x);
     }
     x
@@ -89,14 +83,10 @@ fn is_skipping(k: u8) -> bool
 }
 
 // Where the codes of the right side start: past the skip, if there is one.
-pub fn right_start(k: u8, x: u64) -> usize
-    ensures { result ≡ right_start k x }
+pub fn right_start(k: u8, x: Packed) -> usize
+    ensures { result ≡ right_start k x.0 }
 {
-    if is_skipping(k) {
-        packed::end(x) + 1
-    } else {
-        packed::end(x)
-    }
+    if is_skipping(k) { x.end() + 1 } else { x.end() }
 }
 
 // The skip before a right side of n entries, if there is one.
@@ -113,241 +103,207 @@ fn leave_skip(codes: &mut [u16], k: u8, end: usize, n: usize)
     }
 }
 
-fn binary_known(k: u8, f: u64, g: u64) -> u64
-    ensures { (result ≡ binary_known k f g) × (result < 1073741824) }
+fn binary_known(k: u8, f: Known, g: Known) -> Known
+    ensures { (result.0 ≡ binary_known k f.0 g.0) × (result.0 < 1073741824) }
 {
-    let left = packed::kinds(f) & operand_right(k, packed::logic(f));
-    let right = packed::kinds(g) & operand_right(k, packed::logic(g));
-    packed::knowing(
+    let left = f.kinds() & operand_right(k, f.logic());
+    let right = g.kinds() & operand_right(k, g.logic());
+    Known::new(
         gives_logic(k),
-        packed::forms(f) & packed::forms(g),
+        f.forms() & g.forms(),
         left & right,
-        packed::OTHER,
-        packed::deeper(packed::depth(f), packed::depth(g) + 1),
+        Form::Other,
+        deeper(f.depth(), g.depth() + 1),
     )
 }
 
 // A binary operator between two expressions.
-pub fn binary(codes: &mut [u16], k: u8, x: u64, y: u64) -> u64
-    ensures { (result ≡ binary_part k x y) × (codes.new ≡ binary_codes k x y codes.old) }
+pub fn binary(codes: &mut [u16], k: u8, x: Packed, y: Packed) -> Packed
+    ensures { (result.0 ≡ binary_part k x.0 y.0) × (codes.new ≡ binary_codes k x.0 y.0 codes.old) }
 {
-    if packed::broken(y) {
+    if y.broken() {
         return y;
     }
-    let end = packed::end(x);
-    let last = packed::end(y);
-    leave_skip(codes, k, end, mark::less(last, end + 1));
+    let end = x.end();
+    let last = y.end();
+    leave_skip(codes, k, end, last.saturating_sub(end + 1));
     leave(codes, last, code_of(k, 0));
-    packed::pack(
-        packed::next(y),
-        last + 1,
-        binary_known(k, packed::known(x), packed::known(y)),
-    )
+    Packed::new(y.next(), last + 1, binary_known(k, x.known(), y.known()))
 }
 
 // ---- operands
 
 // "names and literals asked for take no own parentheses"
-fn group_known(f: u64) -> u64
-    ensures { (result ≡ group_known f) × (result < 1073741824) }
+fn group_known(f: Known) -> Known
+    ensures { (result.0 ≡ group_known f.0) × (result.0 < 1073741824) }
 {
-    let form = packed::OTHER;
-    packed::knowing(
-        packed::logic(f),
-        packed::forms(f),
-        packed::kinds(f),
-        form,
-        packed::depth(f),
-    )
+    let form = Form::Other;
+    Known::new(f.logic(), f.forms(), f.kinds(), form, f.depth())
 }
 
 // A parenthesised expression, if a `)` follows it.
-pub fn group(marks: &[u8], x: u64) -> u64
-    ensures { result ≡ group_part marks.now x }
+pub fn group(marks: &[u8], x: Packed) -> Packed
+    ensures { result.0 ≡ group_part marks.now x.0 }
 {
-    if packed::broken(x) {
+    if x.broken() {
         return x;
     }
-    let n = packed::next(x);
+    let n = x.next();
     if stream::kind(marks, n) == lexer::CLOSE {
-        return packed::pack(n + 1, packed::end(x), group_known(packed::known(x)));
+        return Packed::new(n + 1, x.end(), group_known(x.known()));
     }
-    packed::broken_at(n)
+    Packed::broken_at(n)
 }
 
-fn leaf_form(k: u8) -> u64
-    ensures { (result ≡ form_number (leaf_form k)) × (result < 4) }
+fn leaf_form(k: u8) -> Form
+    ensures { form_of result ≡ leaf_form k }
 {
     if k == lexer::NAME {
-        return packed::NAME;
+        return Form::Name;
     }
     if k == lexer::TEXT {
-        return packed::TEXT;
+        return Form::Text;
     }
-    packed::OTHER
+    Form::Other
 }
 
 // A literal or a name that is not called.
-pub fn leaf(codes: &mut [u16], k: u8, at: usize, i: usize) -> u64
+pub fn leaf(codes: &mut [u16], k: u8, at: usize, i: usize) -> Packed
     requires { (at < 65536) × (i < 65536) }
-    ensures { (result ≡ leaf_part k at i) × (codes.new ≡ leaf_codes k i codes.old) }
+    ensures { (result.0 ≡ leaf_part k at i) × (codes.new ≡ leaf_codes k i codes.old) }
 {
     if !mark::is_leaf(k) {
-        return packed::broken_at(at);
+        return Packed::broken_at(at);
     }
     leave(codes, i, code_of(k, 0));
-    packed::pack(
+    Packed::new(
         at + 1,
         i + 1,
-        packed::knowing(false, true, true, leaf_form(k), 1),
+        Known::new(false, true, true, leaf_form(k), 1),
     )
 }
 
 // ---- calls
 
 // No arguments yet.
-pub fn no_args(next: usize, i: usize) -> u64
+pub fn no_args(next: usize, i: usize) -> Packed
     requires { (next ≤ 65536) × (i ≤ 65536) }
-    ensures { result ≡ packed next i none_known }
+    ensures { result.0 ≡ packed next i none_known }
 {
-    packed::pack(next, i, packed::knowing(true, true, true, packed::OTHER, 1))
+    Packed::new(next, i, Known::new(true, true, true, Form::Other, 1))
 }
 
-fn first_form(count: u64, new: u64, old: u64) -> u64
-    requires { (new < 4) × (old < 4) }
-    ensures { (result ≡ cond (eqb count 0) new old) × (result < 4) }
+fn first_form(count: u64, new: Form, old: Form) -> Form
+    ensures { result ≡ cond (eqb count 0) new old }
 {
     if count == 0 { new } else { old }
 }
 
-fn is_text(form: u64) -> bool
-    ensures { result ≡ is_text (form_in form) }
-{
-    form == packed::TEXT
-}
-
-fn all_texts(count: u64, texts: bool, new: u64) -> bool
-    ensures { result ≡ cond (eqb count 0) true (texts && is_text (form_in new)) }
+fn all_texts(count: u64, texts: bool, new: Form) -> bool
+    ensures { result ≡ cond (eqb count 0) true (texts && is_text (form_of new)) }
 {
     if count == 0 {
         true
     } else {
-        texts & is_text(new)
+        texts & new.is_text()
     }
 }
 
-fn more_known(a: u64, f: u64) -> u64
-    ensures { (result ≡ more_known a f) × (result ≤ 2147483648) }
+fn more_known(a: Known, f: Known) -> Known
+    ensures { (result.0 ≡ more_known a.0 f.0) × (result.0 ≤ 2147483648) }
 {
-    let count = packed::count(a);
-    let new = packed::form(f);
-    let texts = all_texts(count, packed::logic(a), new);
-    let first = first_form(count, new, packed::form(a));
-    let kinds = packed::kinds(a) & (packed::kinds(f) & !packed::logic(f));
-    let known = packed::knowing(
+    let count = a.count();
+    let new = f.form();
+    let texts = all_texts(count, a.logic(), new);
+    let first = first_form(count, new, a.form());
+    let kinds = a.kinds() & (f.kinds() & !f.logic());
+    let known = Known::new(
         texts,
-        packed::forms(a) & packed::forms(f),
+        a.forms() & f.forms(),
         kinds,
         first,
-        packed::deeper(packed::depth(a), count + packed::depth(f)),
+        deeper(a.depth(), count + f.depth()),
     );
-    known + 256 * (count + 1)
+    Known(known.0 + 256 * (count + 1))
 }
 
 // One argument more. What comes next is the token after the `,` or `)` that follows it.
-pub fn more_args(args: u64, arg: u64) -> u64
-    ensures { result ≡ more_part args arg }
+pub fn more_args(args: Packed, arg: Packed) -> Packed
+    ensures { result.0 ≡ more_part args.0 arg.0 }
 {
-    if packed::broken(arg) {
+    if arg.broken() {
         return arg;
     }
-    let known = more_known(packed::known(args), packed::known(arg));
-    packed::pack(packed::next(arg) + 1, packed::end(arg), known)
-}
-
-fn is_name(form: u64) -> bool
-    ensures { result ≡ is_name (form_in form) }
-{
-    form == packed::NAME
-}
-
-fn is_folding(form: u64) -> bool
-    ensures { result ≡ is_folding (form_in form) }
-{
-    form == packed::FOLDING
+    let known = more_known(args.known(), arg.known());
+    Packed::new(arg.next() + 1, arg.end(), known)
 }
 
 // Whether the arguments are those that the function with this op takes.
-fn call_right(function: u8, form: u64, count: u64, texts: bool) -> bool
-    ensures { result ≡ call_right function (form_in form) count texts }
+fn call_right(function: u8, form: Form, count: u64, texts: bool) -> bool
+    ensures { result ≡ call_right function (form_of form) count texts }
 {
     if function == opcode::FOLD_CASE {
-        return (count == 1) & (is_name(form) | (is_text(form) | is_folding(form)));
+        return (count == 1) & (form.is_name() | (form.is_text() | form.is_folding()));
     }
     if function == opcode::EQUALS {
-        return is_name(form) & ((2 <= count) & (count <= 9));
+        return form.is_name() & ((2 <= count) & (count <= 9));
     }
     if (opcode::BEGINS_WITH <= function) & (function <= opcode::REGEX) {
-        return (is_name(form) | is_folding(form)) & ((2 <= count) & ((count <= 9) & texts));
+        return (form.is_name() | form.is_folding()) & ((2 <= count) & ((count <= 9) & texts));
     }
     if (function == opcode::SIZE)
         | ((opcode::IS_INT32 <= function) & (function <= opcode::REQUIRE))
     {
-        return (count == 1) & is_name(form);
+        return (count == 1) & form.is_name();
     }
     false
 }
 
-fn call_form(function: u8) -> u64
-    ensures { (result ≡ form_number (call_form function)) × (result < 4) }
+fn call_form(function: u8) -> Form
+    ensures { form_of result ≡ call_form function }
 {
     if function == opcode::FOLD_CASE {
-        packed::FOLDING
+        Form::Folding
     } else {
-        packed::OTHER
+        Form::Other
     }
 }
 
-fn call_known(function: u8, a: u64) -> u64
-    ensures { (result ≡ call_known function a) × (result < 1073741824) }
+fn call_known(function: u8, a: Known) -> Known
+    ensures { (result.0 ≡ call_known function a.0) × (result.0 < 1073741824) }
 {
-    let right = call_right(
-        function,
-        packed::form(a),
-        packed::count(a),
-        packed::logic(a),
-    );
-    packed::knowing(
+    let right = call_right(function, a.form(), a.count(), a.logic());
+    Known::new(
         gives_logic(function),
-        packed::forms(a) & right,
-        packed::kinds(a),
+        a.forms() & right,
+        a.kinds(),
         call_form(function),
-        packed::depth(a),
+        a.depth(),
     )
 }
 
-fn call_code(function: u8, a: u64) -> u16
-    ensures { result ≡ call_code function (count_bits a) }
+fn call_code(function: u8, a: Known) -> u16
+    ensures { result ≡ call_code function (count_bits a.0) }
 {
     if opcode::BEGINS_WITH <= function {
-        return code_of(function, mark::less(packed::count(a) as usize, 1));
+        return code_of(function, a.count().saturating_sub(1) as usize);
     }
     code_of(function, 0)
 }
 
 // A call of a function, if a `)` follows its arguments.
-pub fn call(marks: &[u8], codes: &mut [u16], function: u8, args: u64) -> u64
-    ensures { (result ≡ call_part marks.now function args) × (codes.new ≡ call_codes marks.now function args codes.old) }
+pub fn call(marks: &[u8], codes: &mut [u16], function: u8, args: Packed) -> Packed
+    ensures { (result.0 ≡ call_part marks.now function args.0) × (codes.new ≡ call_codes marks.now function args.0 codes.old) }
 {
-    if packed::broken(args) {
+    if args.broken() {
         return args;
     }
-    let next = packed::next(args);
+    let next = args.next();
     if mark::before(marks, args) != lexer::CLOSE {
-        return packed::broken_at(mark::less(next, 1));
+        return Packed::broken_at(next.saturating_sub(1));
     }
-    let end = packed::end(args);
-    let a = packed::known(args);
+    let end = args.end();
+    let a = args.known();
     leave(codes, end, call_code(function, a));
-    packed::pack(next, end + 1, call_known(function, a))
+    Packed::new(next, end + 1, call_known(function, a))
 }

@@ -9,7 +9,7 @@ ghost use Rattle.translator.specs.Emit.{Roomy, Tokened, Known, first_by, Coded, 
 ghost use Rattle.translator.specs.Translation.{refusal, answer_of, translation_in, edition_by, translation_of, Answers};
 
 use opcode::Edition;
-use postfix::{Judged, Parsed};
+use postfix::Judged;
 use read::Reading;
 
 mod entry;
@@ -167,12 +167,12 @@ fn tokens(
     ensures { Answers (translation_in edition text.now (length buffer.old)) buffer.old buffer.new result }
 {
     match postfix::parse(marks, codes) {
-        Parsed::Whole(j) => {
+        Ok(j) => {
             expression(
                 edition, text, places, sizes, codes, buffer, count, patterns, j,
             )
         }
-        Parsed::Broken(p) => refused(2, read::place(text, p)),
+        Err(p) => refused(2, read::place(text, p)),
     }
 }
 

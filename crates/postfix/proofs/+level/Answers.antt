@@ -122,15 +122,15 @@ first-shape_of-codes t c = let r = c.requires in kept (prefix_of r.tokens c.args
 pub level-first-left-requires : goal.level-first-left-requires
 level-first-left-requires t c = (omega (arith, c.requires.1), c.requires.0)
 
-pub level-loop-at-init : goal.level-loop-at-init
-level-loop-at-init t c =
+pub level-loop-left-init : goal.level-loop-left-init
+level-loop-left-init t c =
     λ ks m was h. climb_start ks c.args.at c.args.l c.args.i c.requires.1 (omega (arith, c.requires.0.within, length_marks m)) h
 
 pub level-shape_of-codes-then-r-l : goal.level-shape_of-codes-then-r-l
 level-shape_of-codes-then-r-l t c =
     let a = c.args in
     let r = c.requires.0 in
-    let l = c.loop-at in
+    let l = c.loop-left in
     let v = l.invariant r.tokens r.marked a.codes.now (c.first-left.ensures r.tokens r.marked) in
     kept v.result v.answered
 
@@ -138,7 +138,7 @@ pub level-returns-then-r-l : goal.level-returns-then-r-l
 level-returns-then-r-l t c =
     let a = c.args in
     let r = c.requires.0 in
-    let l = c.loop-at in
+    let l = c.loop-left in
     let k = c.after-k in
     let o = c.rank-r in
     λ ks m. climb_below m (omega (arith, r.few, length_marks m)) a.at a.l a.i r.room (l.invariant ks m a.codes.now (c.first-left.ensures ks m)) k.result o.result k.ensures o.ensures.0 c.if-r-l.true
@@ -147,7 +147,7 @@ pub level-shape_of-codes-then-r-ge11 : goal.level-shape_of-codes-then-r-ge11
 level-shape_of-codes-then-r-ge11 t c =
     let a = c.args in
     let r = c.requires.0 in
-    let l = c.loop-at in
+    let l = c.loop-left in
     let v = l.invariant r.tokens r.marked a.codes.now (c.first-left.ensures r.tokens r.marked) in
     kept v.result v.answered
 
@@ -155,7 +155,7 @@ pub level-returns-then-r-ge11 : goal.level-returns-then-r-ge11
 level-returns-then-r-ge11 t c =
     let a = c.args in
     let r = c.requires.0 in
-    let l = c.loop-at in
+    let l = c.loop-left in
     let k = c.after-k in
     let o = c.rank-r in
     λ ks m. climb_above m (omega (arith, r.few, length_marks m)) a.at a.l a.i r.room (l.invariant ks m a.codes.now (c.first-left.ensures ks m)) k.result o.result k.ensures o.ensures.0 c.if-r-ge11.true
@@ -170,7 +170,7 @@ pub level-tighter-right-requires : goal.level-tighter-right-requires
 level-tighter-right-requires t c =
     let a = c.args in
     let r = c.requires.0 in
-    let l = c.loop-at in
+    let l = c.loop-left in
     let k = c.after-k in
     let o = c.rank-r in
     let few : length r.tokens ≤ 4096 = omega (arith, r.few, length_marks r.marked) in
@@ -192,11 +192,11 @@ level-tighter-right-requires t c =
       ),
     )
 
-pub level-loop-at-smaller : goal.level-loop-at-smaller
-level-loop-at-smaller t c =
+pub level-loop-left-smaller : goal.level-loop-left-smaller
+level-loop-left-smaller t c =
     let a = c.args in
     let r = c.requires.0 in
-    let l = c.loop-at in
+    let l = c.loop-left in
     let k = c.after-k in
     let o = c.rank-r in
     let few : length r.tokens ≤ 4096 = omega (arith, r.few, length_marks r.marked) in
@@ -204,11 +204,11 @@ level-loop-at-smaller t c =
     let turned = turn r.marked few a.at a.l a.i r.room v k.result o.result k.ensures o.ensures.0 c.if-r-ge11.false in
     turn-less r.marked few a.at a.l a.i r.room v k.result o.result k.ensures o.ensures.0 turned c.if-r-l.false c.if-r-ge11.false c.next.ensures.0 c.right_start.ensures (c.tighter-right.ensures r.tokens r.marked) c.binary-left.ensures.0 c.binary-left.ensures.1 _ (length_marks r.marked)
 
-pub level-loop-at-preserved : goal.level-loop-at-preserved
-level-loop-at-preserved t c =
+pub level-loop-left-preserved : goal.level-loop-left-preserved
+level-loop-left-preserved t c =
     let a = c.args in
     let r = c.requires.0 in
-    let l = c.loop-at in
+    let l = c.loop-left in
     let k = c.after-k in
     let o = c.rank-r in
     λ ks m was h.

@@ -28,13 +28,13 @@ abbrev pub decreases-tighter : goal.decreases-tighter
 decreases-tighter l = (length l.marks.now - l.at) * 16 + (16 - l.l)
 
 abbrev pub invariant-arguments-loop-codes : goal.invariant-arguments-loop-codes
-invariant-arguments-loop-codes l = (ks : List Token) → Marked l.marks ks → Arguing ks l.at l.i l.initial.codes l.codes l.args
+invariant-arguments-loop-codes l = (ks : List Token) → Marked l.marks ks → Arguing ks l.at l.i l.initial.codes l.codes l.args.0
 
 abbrev pub decreases-arguments-loop-codes : goal.decreases-arguments-loop-codes
-decreases-arguments-loop-codes l = length l.marks - next_in l.args
+decreases-arguments-loop-codes l = length l.marks - next_in l.args.0
 
-abbrev pub invariant-level-loop-at : goal.invariant-level-loop-at
-invariant-level-loop-at l = (ks : List Token) → Marked l.marks ks → (was : List ℕ) → Answered (prefix_of ks l.at) l.i was l.initial.codes l.initial.left → Climbing ks l.at l.l l.i was l.codes l.left
+abbrev pub invariant-level-loop-left : goal.invariant-level-loop-left
+invariant-level-loop-left l = (ks : List Token) → Marked l.marks ks → (was : List ℕ) → Answered (prefix_of ks l.at) l.i was l.initial.codes l.initial.left.0 → Climbing ks l.at l.l l.i was l.codes l.left.0
 
-abbrev pub decreases-level-loop-at : goal.decreases-level-loop-at
-decreases-level-loop-at l = ahead (length l.marks) l.left
+abbrev pub decreases-level-loop-left : goal.decreases-level-loop-left
+decreases-level-loop-left l = ahead (length l.marks) l.left.0

@@ -5,4 +5,4 @@ returns-then-broken-next c = rw (← c.broken.ensures, ← c.next-next.ensures.0
 
 pub returns : goal.returns
 returns c =
-    rw (← c.broken.ensures, ← c.next-next.ensures.0, c.if-broken-next.false, c.end.ensures.0, c.logic.ensures, c.forms.ensures, c.kinds.ensures, c.depth.ensures.0, c.known-f.ensures)
+    rw (← c.broken.ensures, ← c.next-next.ensures.0, c.if-broken-next.false, c.end.ensures.0, c.logic.ensures, c.forms.ensures, c.kinds.ensures, c.depth.ensures.0, c.known-known.ensures)

@@ -18,4 +18,4 @@ pub returns : goal.returns
 returns c =
     λ ks m.
     let len = length_marks m in
-    whole_answered ks (omega (arith, c.requires.few, len)) c.level-x.result (c.answer.ensures ∙ ap (λ (n : ℕ). read_by n c.level-x.result) len) (c.level-x.ensures ks m)
+    whole_answered ks (omega (arith, c.requires.few, len)) c.level-x.result.0 (c.answer.ensures ∙ ap (λ (n : ℕ). read_by n c.level-x.result.0) len) (c.level-x.ensures ks m)

@@ -5,4 +5,4 @@ pub returns-then-broken : goal.returns-then-broken
 returns-then-broken c = rw (sym c.broken.ensures ∙ c.if-broken.true)
 
 pub returns : goal.returns
-returns c = rw (sym c.broken.ensures ∙ c.if-broken.false, ← c.next.ensures.0, ← c.less.ensures.0) c.kind.ensures
+returns c = rw (sym c.broken.ensures ∙ c.if-broken.false, ← c.next.ensures.0, ← c.saturating_sub.ensures) c.kind.ensures

@@ -1,10 +1,8 @@
-use mathlib.Core.Path.{refl}
 use borrow.Author.Tests.{eq-eqb, ne_eqb}
-use native.Mathlib.Omega.{arith}
 use Rattle.postfix.proofs.part.call_form.Goals as goal
 
 pub returns-then-function-eq-FOLD_CASE : goal.returns-then-function-eq-FOLD_CASE
-returns-then-function-eq-FOLD_CASE c = rw (eq-eqb _ _ c.if-function-eq-FOLD_CASE.true) (refl, omega arith)
+returns-then-function-eq-FOLD_CASE c = rw (eq-eqb _ _ c.if-function-eq-FOLD_CASE.true)
 
 pub returns-else-function-eq-FOLD_CASE : goal.returns-else-function-eq-FOLD_CASE
-returns-else-function-eq-FOLD_CASE c = rw (ne_eqb _ _ c.if-function-eq-FOLD_CASE.false) (refl, omega arith)
+returns-else-function-eq-FOLD_CASE c = rw (ne_eqb _ _ c.if-function-eq-FOLD_CASE.false)

@@ -7,7 +7,7 @@ returns-then-broken c = rw (sym c.broken.ensures ∙ c.if-broken.true)
 
 pub returns-then-kind-eq-CLOSE : goal.returns-then-kind-eq-CLOSE
 returns-then-kind-eq-CLOSE c =
-    rw (sym c.broken.ensures ∙ c.if-broken.false, ← c.next-n.ensures.0, ← c.kind.ensures, eq-eqb _ _ c.if-kind-eq-CLOSE.true, ← c.end.ensures.0, ← c.known.ensures, ← c.group_known.ensures.0) c.pack.ensures
+    rw (sym c.broken.ensures ∙ c.if-broken.false, ← c.next-n.ensures.0, ← c.kind.ensures, eq-eqb _ _ c.if-kind-eq-CLOSE.true, ← c.end.ensures.0, ← c.known.ensures, ← c.group_known.ensures.0) c.new.ensures
 
 pub returns : goal.returns
 returns c =

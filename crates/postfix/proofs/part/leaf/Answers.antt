@@ -6,4 +6,4 @@ returns-then-not-is_leaf c = rw (sym c.is_leaf.ensures ∙ c.if-not-is_leaf.true
 
 pub returns : goal.returns
 returns c =
-    rw (sym c.is_leaf.ensures ∙ c.if-not-is_leaf.false, ← c.code_of.ensures, ← c.leaf_form.ensures.0, ← c.knowing.ensures.0) (c.pack.ensures, c.leave.ensures)
+    rw (sym c.is_leaf.ensures ∙ c.if-not-is_leaf.false, ← c.code_of.ensures, ← c.leaf_form.ensures, ← c.new.ensures.0) (c.new-2.ensures, c.leave.ensures)

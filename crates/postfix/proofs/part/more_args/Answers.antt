@@ -6,4 +6,4 @@ returns-then-broken c = rw (sym c.broken.ensures ∙ c.if-broken.true)
 
 pub returns : goal.returns
 returns c =
-    rw (sym c.broken.ensures ∙ c.if-broken.false, ← c.next.ensures.0, ← c.end.ensures.0, ← c.known.ensures, ← c.known-2.ensures, ← c.more_known-known.ensures.0) c.pack.ensures
+    rw (sym c.broken.ensures ∙ c.if-broken.false, ← c.next.ensures.0, ← c.end.ensures.0, ← c.known.ensures, ← c.known-2.ensures, ← c.more_known-known.ensures.0) c.new.ensures

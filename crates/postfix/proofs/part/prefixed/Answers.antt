@@ -7,15 +7,9 @@ use Rattle.postfix.proofs.part.prefixed.Goals as goal
 pub loop-n-init : goal.loop-n-init
 loop-n-init c = (refl, λ ks i was m run few room h. (run.upto, omega arith, h))
 
-pub overflow_sub-n : goal.overflow_sub-n
-overflow_sub-n c = omega (arith, c.loop-n-test.true)
-
-pub loop-n-smaller : goal.loop-n-smaller
-loop-n-smaller c = omega (arith, c.loop-n-test.true)
-
 pub loop-n-preserved : goal.loop-n-preserved
 loop-n-preserved c = (
-  ap length c.unary-x.ensures.1 ∙ unary_length c.kind.result c.loop-n.x c.loop-n.codes ∙ c.loop-n.invariant.0,
+  ap length c.unary-x.ensures.1 ∙ unary_length c.kind.result c.loop-n.x.0 c.loop-n.codes ∙ c.loop-n.invariant.0,
   λ ks i was m run few room h.
       let v = c.loop-n.invariant.1 ks i was m run few room h in
       (omega (arith, c.loop-n-test.true), omega (arith, v.1), wrapped_one m c.args.at c.args.first c.loop-n.n i run few room c.loop-n-test.true v.1 c.kind.result v.2 c.kind.ensures c.unary-x.ensures.0 c.unary-x.ensures.1),

@@ -6,4 +6,4 @@ returns-then-broken c = rw (sym c.broken.ensures ∙ c.if-broken.true) (refl, re
 
 pub returns : goal.returns
 returns c =
-    rw (sym c.broken.ensures ∙ c.if-broken.false, ← c.next.ensures.0, ← c.end-end.ensures.0, ← c.known.ensures, ← c.unary_known.ensures.0, ← c.code_of.ensures) (c.pack.ensures, c.leave.ensures)
+    rw (sym c.broken.ensures ∙ c.if-broken.false, ← c.next.ensures.0, ← c.end-end.ensures.0, ← c.known.ensures, ← c.unary_known.ensures.0, ← c.code_of.ensures) (c.new.ensures, c.leave.ensures)

@@ -1,4 +1,0 @@
-use Rattle.postfix.proofs.packed.broken.Goals as goal
-
-pub returns : goal.returns
-returns c = rw c.known.ensures
