@@ -1,8 +1,7 @@
 -- The table that a pattern is made into: a byte of kind and a number for each token, over the pattern's own text.
-use Rattle.std.specs.Prelude.{ℕ, ◌/◌, ◌%◌, Bool, true, false, ◌||◌, List, [], ◌∷◌, get_or, drop, eqb, ltb}
+use Rattle.std.specs.Prelude.{ℕ, ◌/◌, ◌%◌, Bool, true, false, ◌||◌, List, [], ◌∷◌, Option, Some, None, get_or, drop, eqb, ltb}
 use Rattle.pattern.specs.Steps.{turned, test_at}
 use Rattle.pattern.specs.declared.sets.SetTest.{SetTest}
-use Rattle.pattern.specs.declared.sets.SetTest.TheVariants.{Ends, Bad}
 use Rattle.automaton.specs.Pass.{Token, one, opens, bar, closes, started, passed, barred, closed}
 use Rattle.automaton.specs.declared.Level.{Level}
 
@@ -21,9 +20,9 @@ unfoldable pub sort : ℕ → ℕ
 sort k = k / 8
 
 -- whether a set that was read has the byte
-abbrev pub held_of : SetTest → Bool
-held_of (Ends hit end) = hit
-held_of Bad = false
+abbrev pub held_of : Option SetTest → Bool
+held_of (Some t) = t.hit
+held_of None = false
 
 -- by the sort: no set of bytes, plain, any, set
 abbrev pub hit_by : Bool → Bool → Bool → Bool → Bool → Bool → Bool

@@ -3,14 +3,13 @@
 
 ghost use Rattle.std.specs.Prelude.{◌≡◌, Bool, true, false, cond, ◌||◌, ◌&&◌, [], ◌+◌, ◌-◌, ◌*◌, ◌≤◌, ◌<◌, ltb, length, get_or, replicate, drop};
 ghost use Rattle.octets.specs.Octets.{folded};
-ghost use Rattle.pattern.specs.Steps.{turned as turned_of};
-ghost use Rattle.automaton.specs.Table.{repeats as repeatsOf, absent as absentOf, outside as outsideOf, sort as sortOf, held_of, hits as hitsOf, mark_by, level_by, tokens_of};
+ghost use Rattle.automaton.specs.Table.{repeats as repeatsOf, absent as absentOf, outside as outsideOf, sort as sortOf, hits as hitsOf, mark_by, level_by, tokens_of};
 ghost use Rattle.automaton.specs.Pass.{started as startedOf, passed as passedOf, barred as barredOf, closed as closedOf, pass, left, depth_by, up_of};
 ghost use Rattle.automaton.specs.Decide.{walk_on, run_on, decide};
 ghost use Rattle.automaton.specs.Word.{bit_if, cells_in, ended_in, single as singleOf, plain as plain_of, optional as optionalOf, small as smallOf, ahead as ahead_of, Leads, Low, Reaches};
 
 use octets::fold;
-use pattern::sets::{SetTest, set_test};
+use pattern::sets::set_test;
 
 // ---- a token: the byte of its kind, and a number
 
@@ -48,44 +47,19 @@ fn wide(x: u16) -> usize
     x as usize
 }
 
-// Whether a set that was read has the byte; what is no set has none.
-fn held(t: SetTest) -> bool
-    ensures { result ≡ held_of t }
-{
-    match t {
-        SetTest::Ends(hit, end) => hit,
-        SetTest::Bad => false,
-    }
-}
-
-// A set, or its complement.
-fn turned(out: bool, hit: bool) -> bool
-    ensures { result ≡ turned_of out hit }
-{
-    if out {
-        return !hit;
-    }
-    hit
-}
-
-// Whether the token takes a byte; the number says where its text stands.
+// Whether the token takes a byte; the number says where its text stands. What is no set has no byte.
 fn hits(text: &[u8], kind: u8, at: usize, c: u8) -> bool
     ensures { result ≡ hitsOf text.now kind at c }
 {
-    let s = sort(kind);
-    if 2 < s {
-        return false;
+    match sort(kind) {
+        0 => at < text.len() && text[at] == c,
+        1 => true,
+        2 => match set_test(text, false, at, c) {
+            Some(set) => set.hit != outside(kind),
+            None => outside(kind),
+        },
+        _ => false,
     }
-    if s == 0 {
-        if at < text.len() {
-            return text[at] == c;
-        }
-        return false;
-    }
-    if s == 1 {
-        return true;
-    }
-    turned(outside(kind), held(set_test(text, false, at, c)))
 }
 
 // The same where a way enters: elsewhere the set is not looked at.

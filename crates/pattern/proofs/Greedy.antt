@@ -16,6 +16,9 @@ use Rattle.common.proofs.Choice.{true_false, false_true}
 use Rattle.octets.proofs.Theorems.{and_parts, or_parts}
 use Rattle.pattern.specs.Sets.{spans_of, width_of}
 use Rattle.pattern.specs.Wildcard.{Item, plain, any, set, run, Part, part, fault, escaped_part, is_set, set_from, set_part, part_of, takes, with_first, items_of, first_fits, some_rest, fits_read, wildcard_of}
+use Rattle.std.specs.Prelude.{Some, None}
+use Rattle.std.specs.Prelude.{Option as Maybe}
+use Rattle.pattern.specs.declared.wildcard.Star.{Star}
 use Rattle.pattern.specs.Steps.{begins, taken_of, only_runs}
 use Rattle.pattern.proofs.Texts.{sign_here}
 use Rattle.pattern.proofs.Items.{PartTold, part_told, part_head, fault_head, items_nil}
@@ -124,29 +127,30 @@ abbrev Took : List ℕ → ℕ → ℕ → ℕ → Type 0
 Took t i next c =
     (it : Item) × (takes it c ≡ true) × ((y : List ℕ) → fits_at t i y ≡ first_fits it (fits_at t next) y) × (i < next) × (i < length t)
 
-took : (t : List ℕ) (i next c : ℕ) → next ≡ taken_of (part_of (drop i t)) (i + 1) c → 0 < next → Took t i next c
-took t i next c e n = go (part_of (drop i t)) (part_told t i) e
+took : (t : List ℕ) (i next c : ℕ) → Some next ≡ taken_of (part_of (drop i t)) (i + 1) c → Took t i next c
+took t i next c e = go (part_of (drop i t)) (part_told t i) e
   where
-    by : (it : Item) (k : ℕ) → PartTold t i (part it k) → (x : Bool) → takes it c ≡ x → next ≡ pick x (λ _. i + 1 + k) (λ _. 0) → Took t i next c
-    by it k d true f q = (
-      it,
-      f,
-      λ y. ap (λ (o : Option (List Item)). fits_read o y) d.0 ∙ fits_one it (items_of (drop (i + 1 + k) t)) y (taken_one it c f) ∙ rw q,
-      omega (arith, q),
-      d.1,
-    )
-    by it k d false f q = absurd (omega (arith, q, n))
+    by : (it : Item) (k : ℕ) → PartTold t i (part it k) → (x : Bool) → takes it c ≡ x → Some next ≡ pick x (λ _. Some (i + 1 + k)) (λ _. None) → Took t i next c
+    by it k d true f q =
+        let n : next ≡ i + 1 + k = cc in (
+          it,
+          f,
+          λ y. ap (λ (o : Option (List Item)). fits_read o y) d.0 ∙ fits_one it (items_of (drop (i + 1 + k) t)) y (taken_one it c f) ∙ rw n,
+          omega (arith, n),
+          d.1,
+        )
+    by it k d false f q = absurd (cc)
 
-    go : (x : Part) → PartTold t i x → next ≡ taken_of x (i + 1) c → Took t i next c
+    go : (x : Part) → PartTold t i x → Some next ≡ taken_of x (i + 1) c → Took t i next c
     go (part it k) d q = by it k d (takes it c) refl q
-    go fault d q = absurd (omega (arith, q, n))
+    go fault d q = absurd (cc)
 
 -- an item that takes no byte, and is no `*`
-missed : (t : List ℕ) (i next c : ℕ) (z : List ℕ) → next ≡ taken_of (part_of (drop i t)) (i + 1) c → next ≤ 0 → begins 42 (drop i t) ≡ false → fits_at t i (c ∷ z) ≡ false
-missed t i next c z e n b = go (part_of (drop i t)) (part_told t i) (run_told (drop i t)) e
+missed : (t : List ℕ) (i c : ℕ) (z : List ℕ) → None ≡ taken_of (part_of (drop i t)) (i + 1) c → begins 42 (drop i t) ≡ false → fits_at t i (c ∷ z) ≡ false
+missed t i c z e b = go (part_of (drop i t)) (part_told t i) (run_told (drop i t)) e
   where
-    by : (it : Item) (k : ℕ) → PartTold t i (part it k) → is_run it ≡ false → (x : Bool) → takes it c ≡ x → next ≡ pick x (λ _. i + 1 + k) (λ _. 0) → fits_at t i (c ∷ z) ≡ false
-    by it k d r true f q = absurd (omega (arith, q, n))
+    by : (it : Item) (k : ℕ) → PartTold t i (part it k) → is_run it ≡ false → (x : Bool) → takes it c ≡ x → None ≡ pick x (λ _. Some (i + 1 + k)) (λ _. None) → fits_at t i (c ∷ z) ≡ false
+    by it k d r true f q = absurd (cc)
     by it k d r false f q =
         ap (λ (o : Option (List Item)). fits_read o (c ∷ z)) d.0
         ∙ fits_one it (items_of (drop (i + 1 + k) t)) (c ∷ z) r
@@ -156,7 +160,7 @@ missed t i next c z e n b = go (part_of (drop i t)) (part_told t i) (run_told (d
     none_here d (yes h) = ap (λ (o : Option (List Item)). fits_read o (c ∷ z)) (d h)
     none_here d (no h) = ap (λ (l : List ℕ). fits_read (items_of l) (c ∷ z)) (drop_of_length-le t {i = i} (omega arith)) ∙ ap (λ (o : Option (List Item)). fits_read o (c ∷ z)) items_nil
 
-    go : (x : Part) → PartTold t i x → RunTold x (begins 42 (drop i t)) → next ≡ taken_of x (i + 1) c → fits_at t i (c ∷ z) ≡ false
+    go : (x : Part) → PartTold t i x → RunTold x (begins 42 (drop i t)) → None ≡ taken_of x (i + 1) c → fits_at t i (c ∷ z) ≡ false
     go (part it k) d r q = by it k d (r ∙ b) (takes it c) refl q
     go fault d r q = none_here d (dec_lt i (length t))
 
@@ -175,94 +179,79 @@ runs_fit (b ∷ r) = go (eqb b 42) refl (runs_fit r)
         more ∙ sym (ap (λ (o : Option (List Item)). fits_read o []) (part_head b r run 0 q) ∙ fits_run (items_of r) [])
     go false e more = by (part_of (b ∷ r)) refl (subst (RunTold (part_of (b ∷ r))) e (run_told (b ∷ r)))
 
--- ---- where the match stands: `i` in the pattern and `v` in the value; behind the last `*`, if one was met, and where its present try begins
+-- ---- where the match stands: `i` in the pattern and `v` in the value; behind the last `*`, if one was met, and where its present run ends
 
 -- the rest fits here, or the items behind the `*` fit some rest further on; and where these fit, those from `i` on fit as many bytes later as they are later
-abbrev Starred : List ℕ → List ℕ → ℕ → ℕ → ℕ → ℕ → Type 0
+abbrev pub Starred : List ℕ → List ℕ → ℕ → ℕ → ℕ → ℕ → Type 0
 Starred x t i v behind base =
-    (0 < behind) × (fits_at t i (drop v x) || some_rest (fits_at t behind) (drop (base + 1) x) ≡ wildcard_of x t) × ((y : List ℕ) → fits_at t behind y ≡ true → fits_at t i (drop (v - base) y) ≡ true)
+    (base ≤ v) × (fits_at t i (drop v x) || some_rest (fits_at t behind) (drop (base + 1) x) ≡ wildcard_of x t) × ((y : List ℕ) → fits_at t behind y ≡ true → fits_at t i (drop (v - base) y) ≡ true)
 
-abbrev Unstarred : List ℕ → List ℕ → ℕ → ℕ → ℕ → Type 0
-Unstarred x t i v behind = (behind ≡ 0) × (fits_at t i (drop v x) ≡ wildcard_of x t)
-
-abbrev pub Matching : List ℕ → List ℕ → ℕ → ℕ → ℕ → ℕ → Type 0
-Matching x t i v behind base = (base ≤ v) × (Unstarred x t i v behind ⊎ Starred x t i v behind base)
-
-pub match_start : (x t : List ℕ) → Matching x t 0 0 0 0
-match_start x t = (omega arith, inl (refl, refl))
+abbrev pub Matching : List ℕ → List ℕ → ℕ → ℕ → Maybe Star → Type 0
+Matching x t i v None = fits_at t i (drop v x) ≡ wildcard_of x t
+Matching x t i v (Some s) = Starred x t i v s.behind s.base
 
 or_absorb : (a b : Bool) → (b ≡ true → a ≡ true) → a ≡ a || b
 or_absorb true b h = refl
 or_absorb false true h = h refl
 or_absorb false false h = refl
 
-module _ (x t : List ℕ) (i v behind base : ℕ) (m : Matching x t i v behind base) where
+module _ (x t : List ℕ) (i v : ℕ) where
   -- what fits further on fits from `i`, further on too
-  later : Starred x t i v behind base → some_rest (fits_at t behind) (drop (base + 1) x) ≡ true → (j : ℕ) × (fits_at t i (drop (v + 1 + j) x) ≡ true)
-  later s e =
+  later : (behind base : ℕ) → Starred x t i v behind base → some_rest (fits_at t behind) (drop (base + 1) x) ≡ true → (j : ℕ) × (fits_at t i (drop (v + 1 + j) x) ≡ true)
+  later behind base s e =
       let r = some_index (fits_at t behind) (drop (base + 1) x) e in
-      let n : base + 1 + r.0 + (v - base) ≡ v + 1 + r.0 = omega (arith, m.0) in
+      let n : base + 1 + r.0 + (v - base) ≡ v + 1 + r.0 = omega (arith, s.0) in
       let d : drop (v - base) (drop r.0 (drop (base + 1) x)) ≡ drop (v + 1 + r.0) x =
       ap (drop (v - base)) (drop-drop r.0 (base + 1) x) ∙ drop-drop (v - base) (base + 1 + r.0) x ∙ ap (λ (k : ℕ). drop k x) n in
       (r.0, sym (ap (fits_at t i) d) ∙ s.2 (drop r.0 (drop (base + 1) x)) r.1)
 
-  module _ (c next : ℕ) (h : drop v x ≡ c ∷ drop (v + 1) x) (e : next ≡ taken_of (part_of (drop i t)) (i + 1) c) where
-    module _ (n : 0 < next) where
+  module _ (c : ℕ) (h : drop v x ≡ c ∷ drop (v + 1) x) where
+    module _ (next : ℕ) (e : Some next ≡ taken_of (part_of (drop i t)) (i + 1) c) where
       pub match-on : (i < next) × (i < length t)
-      match-on = let k = took t i next c e n in (k.3, k.4)
+      match-on = let k = took t i next c e in (k.3, k.4)
 
       same : fits_at t i (drop v x) ≡ fits_at t next (drop (v + 1) x)
       same =
-          let k = took t i next c e n in
+          let k = took t i next c e in
           k.2 (drop v x) ∙ ap (first_fits k.0 (fits_at t next)) h ∙ ap (λ (b : Bool). b && fits_at t next (drop (v + 1) x)) k.1
 
-      onward : Starred x t i v behind base → Starred x t next (v + 1) behind base
-      onward s = (s.0, ap (λ (b : Bool). b || some_rest (fits_at t behind) (drop (base + 1) x)) (sym same) ∙ s.1, further)
+      onward : (behind base : ℕ) → Starred x t i v behind base → Starred x t next (v + 1) behind base
+      onward behind base s = (omega (arith, s.0), ap (λ (b : Bool). b || some_rest (fits_at t behind) (drop (base + 1) x)) (sym same) ∙ s.1, further)
         where
           further : (y : List ℕ) → fits_at t behind y ≡ true → fits_at t next (drop (v + 1 - base) y) ≡ true
           further y f =
-              let k = took t i next c e n in
+              let k = took t i next c e in
               let g = first_rest k.0 (fits_at t next) (drop (v - base) y) (sym (k.2 (drop (v - base) y)) ∙ s.2 y f) in
-              let l : v - base + 1 ≡ v + 1 - base = omega (arith, m.0) in
+              let l : v - base + 1 ≡ v + 1 - base = omega (arith, s.0) in
               ap (fits_at t next) (sym (drop-drop 1 (v - base) y ∙ ap (λ (k : ℕ). drop k y) l)) ∙ g
 
       -- the item takes the byte
-      pub match-taken : Matching x t next (v + 1) behind base
-      match-taken = (omega (arith, m.0), go m.1)
-        where
-          go : Unstarred x t i v behind ⊎ Starred x t i v behind base → Unstarred x t next (v + 1) behind ⊎ Starred x t next (v + 1) behind base
-          go (inl s) = inl (s.0, sym same ∙ s.1)
-          go (inr s) = inr (onward s)
+      pub match-taken : (star : Maybe Star) → Matching x t i v star → Matching x t next (v + 1) star
+      match-taken None s = sym same ∙ s
+      match-taken (Some k) s = onward k.behind k.base s
 
-    module _ (n : next ≤ 0) (b : begins 42 (drop i t) ≡ false) where
+    module _ (n : None ≡ taken_of (part_of (drop i t)) (i + 1) c) (b : begins 42 (drop i t) ≡ false) where
       misfit : fits_at t i (drop v x) ≡ false
-      misfit = ap (fits_at t i) h ∙ missed t i next c (drop (v + 1) x) e n b
+      misfit = ap (fits_at t i) h ∙ missed t i c (drop (v + 1) x) n b
 
       -- nothing to go back to
-      pub match-failed : behind ≡ 0 → false ≡ wildcard_of x t
-      match-failed q = go m.1
-        where
-          go : Unstarred x t i v behind ⊎ Starred x t i v behind base → false ≡ wildcard_of x t
-          go (inl s) = sym misfit ∙ s.1
-          go (inr s) = absurd (omega (arith, q, s.0))
+      pub match-failed : Matching x t i v None → false ≡ wildcard_of x t
+      match-failed s = sym misfit ∙ s
 
       -- the last `*` takes one byte more
-      pub match_back : (behind ≡ 0 → ⊥) → Matching x t behind (base + 1) behind (base + 1)
-      match_back q = (omega arith, inr (go m.1))
-        where
-          go : Unstarred x t i v behind ⊎ Starred x t i v behind base → Starred x t behind (base + 1) behind (base + 1)
-          go (inl s) = absurd (q s.0)
-          go (inr s) =
-              let f : fits_at t behind (drop (base + 1) x) || some_rest (fits_at t behind) (drop (base + 1 + 1) x) ≡ some_rest (fits_at t behind) (drop (base + 1) x) =
-              ap (λ (z : List ℕ). fits_at t behind (drop (base + 1) x) || some_rest (fits_at t behind) z) (sym (drop-drop 1 (base + 1) x))
-              ∙ some_split (fits_at t behind) (drop (base + 1) x) in
-              let k : base + 1 - (base + 1) ≡ 0 = omega arith in
-              (s.0, f ∙ ap (λ (b : Bool). b || some_rest (fits_at t behind) (drop (base + 1) x)) (sym misfit) ∙ s.1, λ y g. rw k g)
+      pub match_back : (behind base : ℕ) → Starred x t i v behind base → Starred x t behind (base + 1) behind (base + 1)
+      match_back behind base s =
+          let f : fits_at t behind (drop (base + 1) x) || some_rest (fits_at t behind) (drop (base + 1 + 1) x) ≡ some_rest (fits_at t behind) (drop (base + 1) x) =
+          ap (λ (z : List ℕ). fits_at t behind (drop (base + 1) x) || some_rest (fits_at t behind) z) (sym (drop-drop 1 (base + 1) x))
+          ∙ some_split (fits_at t behind) (drop (base + 1) x) in
+          let k : base + 1 - (base + 1) ≡ 0 = omega arith in
+          (omega arith, f ∙ ap (λ (b : Bool). b || some_rest (fits_at t behind) (drop (base + 1) x)) (sym misfit) ∙ s.1, λ y g. rw k g)
 
   -- a `*`: the one before it is done with, since whatever fits further on from it leaves a run for this one
   module _ (b : begins 42 (drop i t) ≡ true) where
-    settled : fits_at t i (drop v x) ≡ wildcard_of x t
-    settled = go m.1
+    settled : (star : Maybe Star) → Matching x t i v star → fits_at t i (drop v x) ≡ wildcard_of x t
+    settled None s = s
+    settled (Some k) s = or_absorb (fits_at t i (drop v x)) (some_rest (fits_at t k.behind) (drop (k.base + 1) x)) (λ e. lift (later k.behind k.base s e)) ∙ s.1
       where
         lift : (j : ℕ) × (fits_at t i (drop (v + 1 + j) x) ≡ true) → fits_at t i (drop v x) ≡ true
         lift (j, f) =
@@ -272,22 +261,18 @@ module _ (x t : List ℕ) (i v behind base : ℕ) (m : Matching x t i v behind b
             ∙ some_lifts (fits_at t (i + 1)) (1 + j) (drop v x)
             (sym (run_here t i b (drop (1 + j) (drop v x))) ∙ ap (fits_at t i) d ∙ f)
 
-        go : Unstarred x t i v behind ⊎ Starred x t i v behind base → fits_at t i (drop v x) ≡ wildcard_of x t
-        go (inl s) = s.1
-        go (inr s) = or_absorb (fits_at t i (drop v x)) (some_rest (fits_at t behind) (drop (base + 1) x)) (λ e. lift (later s e)) ∙ s.1
-
-    pub match_run : Matching x t (i + 1) v (i + 1) v
-    match_run =
+    pub match_run : (star : Maybe Star) → Matching x t i v star → Starred x t (i + 1) v (i + 1) v
+    match_run star m =
         let f : fits_at t (i + 1) (drop v x) || some_rest (fits_at t (i + 1)) (drop (v + 1) x) ≡ fits_at t i (drop v x) =
         ap (λ (z : List ℕ). fits_at t (i + 1) (drop v x) || some_rest (fits_at t (i + 1)) z) (sym (drop-drop 1 v x))
         ∙ some_split (fits_at t (i + 1)) (drop v x)
         ∙ sym (run_here t i b (drop v x)) in
         let k : v - v ≡ 0 = omega arith in
-        (omega arith, inr (omega arith, f ∙ settled, λ y g. rw k g))
+        (omega arith, f ∙ settled star m, λ y g. rw k g)
 
   -- the value is used up
-  pub match_end : length x ≤ v → only_runs (drop i t) ≡ wildcard_of x t
-  match_end h = runs_fit (drop i t) ∙ go m.1
+  pub match_end : (star : Maybe Star) → Matching x t i v star → length x ≤ v → only_runs (drop i t) ≡ wildcard_of x t
+  match_end star m h = runs_fit (drop i t) ∙ go star m
     where
       used : drop v x ≡ []
       used = drop_of_length-le x {i = v} h
@@ -297,12 +282,21 @@ module _ (x t : List ℕ) (i v behind base : ℕ) (m : Matching x t i v behind b
           let d : drop (v + 1 + j) x ≡ [] = drop_of_length-le x {i = v + 1 + j} (omega (arith, h)) in
           sym (ap (fits_at t i) d) ∙ f
 
-      go : Unstarred x t i v behind ⊎ Starred x t i v behind base → fits_at t i [] ≡ wildcard_of x t
-      go (inl s) = ap (fits_at t i) (sym used) ∙ s.1
-      go (inr s) =
-          or_absorb (fits_at t i []) (some_rest (fits_at t behind) (drop (base + 1) x)) (λ e. lift (later s e))
-          ∙ ap (λ (z : List ℕ). fits_at t i z || some_rest (fits_at t behind) (drop (base + 1) x)) (sym used)
+      go : (star : Maybe Star) → Matching x t i v star → fits_at t i [] ≡ wildcard_of x t
+      go None s = ap (fits_at t i) (sym used) ∙ s
+      go (Some k) s =
+          or_absorb (fits_at t i []) (some_rest (fits_at t k.behind) (drop (k.base + 1) x)) (λ e. lift (later k.behind k.base s e))
+          ∙ ap (λ (z : List ℕ). fits_at t i z || some_rest (fits_at t k.behind) (drop (k.base + 1) x)) (sym used)
           ∙ s.1
+
+-- the value's index at which the last `*` was met, or the start
+abbrev pub base_of : Maybe Star → ℕ
+base_of None = 0
+base_of (Some s) = s.base
+
+pub base_first : (x t : List ℕ) (i v : ℕ) (star : Maybe Star) → Matching x t i v star → base_of star ≤ v
+base_first x t i v None m = omega arith
+base_first x t i v (Some s) m = m.0
 
 -- ---- the match ends: a rest of the value for each `*`, and in it the pattern
 abbrev pub weight : ℕ → ℕ → ℕ → ℕ → ℕ

@@ -16,7 +16,7 @@ use Rattle.pattern.specs.Wildcard.{is_set}
 use Rattle.pattern.specs.Steps.{begins, escaped_at, member_at, joined_at, range_from, piece_at, test_at}
 use Rattle.pattern.specs.declared.sets.Piece.{Piece}
 use Rattle.pattern.specs.declared.sets.Piece.TheVariants.{Range, Close, End}
-use Rattle.pattern.specs.declared.sets.SetTest.TheVariants.{Ends, Bad}
+use Rattle.std.specs.Prelude.{Some, None}
 use Rattle.pattern.proofs.Texts.{close_sign, back_sign, dash_sign, here, past, sign_same, is_sign, no_sign, inside, sign_here}
 
 -- ---- the answers of `escaped_at` and `member_at`
@@ -167,7 +167,7 @@ piece_read t i = go (member_at i (drop i t)) (member_read t i)
 
 -- ---- a set that is read
 
-bad : (i : ℕ) (s : List ℕ) (c : ℕ) → is_set s ≡ false → Bad ≡ test_at i s c
+bad : (i : ℕ) (s : List ℕ) (c : ℕ) → is_set s ≡ false → None ≡ test_at i s c
 bad i s c e = rw e
 
 -- the set from `at`, read as far as i: what is left of it, and whether the byte was found
@@ -204,7 +204,7 @@ module _ (t : List ℕ) (at c : ℕ) (hit : Bool) (i : ℕ) (s : SetRead t at c 
       λ _. some (dec_lt at i),
     )
 
-    pub read_falls : high < low → Bad ≡ test_at at (drop at t) c
+    pub read_falls : high < low → None ≡ test_at at (drop at t) c
     read_falls h =
         let f : rises (spans_of (drop at t)) ≡ false = sym (rw (range.0, lt-leb low high h) at s.1) in
         bad at (drop at t) c (rw (f, and-false (not (is_empty (spans_of (drop at t))))) (and-false (is_closed (drop at t))))
@@ -213,12 +213,12 @@ module _ (t : List ℕ) (at c : ℕ) (hit : Bool) (i : ℕ) (s : SetRead t at c 
     closed : PieceRead t i Close
     closed = subst (PieceRead t i) (sym e) (piece_read t i)
 
-    pub read_empty : i ≡ at → Bad ≡ test_at at (drop at t) c
+    pub read_empty : i ≡ at → None ≡ test_at at (drop at t) c
     read_empty q =
         let f : spans_of (drop at t) ≡ [] = (rw q at closed.0) in
         bad at (drop at t) c (rw f (and-false (is_closed (drop at t))))
 
-    pub read_close : (i ≡ at → ⊥) → Ends hit (i + 1) ≡ test_at at (drop at t) c
+    pub read_close : (i ≡ at → ⊥) → Some (record { hit = hit; end = i + 1 }) ≡ test_at at (drop at t) c
     read_close q =
         let o : is_closed (drop at t) ≡ true = sym s.0 ∙ closed.1 in
         let r : rises (spans_of (drop at t)) ≡ true = sym (rw closed.0 at s.1) in
@@ -234,11 +234,11 @@ module _ (t : List ℕ) (at c : ℕ) (hit : Bool) (i : ℕ) (s : SetRead t at c 
         go (yes h) = h
         go (no h) = true_false (sym (rw (drop_of_length-le t {i = i} (omega arith)) at closed.1))
 
-  unclosed : is_closed (drop i t) ≡ false → Bad ≡ test_at at (drop at t) c
+  unclosed : is_closed (drop i t) ≡ false → None ≡ test_at at (drop at t) c
   unclosed f = let o : is_closed (drop at t) ≡ false = sym s.0 ∙ f in bad at (drop at t) c (rw o)
 
-  pub read_end : End ≡ piece_at i t → Bad ≡ test_at at (drop at t) c
+  pub read_end : End ≡ piece_at i t → None ≡ test_at at (drop at t) c
   read_end e = unclosed (subst (PieceRead t i) (sym e) (piece_read t i))
 
-  pub read_past : length t ≤ i → Bad ≡ test_at at (drop at t) c
+  pub read_past : length t ≤ i → None ≡ test_at at (drop at t) c
   read_past h = unclosed (rw (drop_of_length-le t h))

@@ -102,11 +102,3 @@ sign_here t i k e =
     let h = begins_inside t i k e in
     let q : eqb (get_or t i 0) k ≡ true = (rw (inside t i h) at e) in
     inside t i h ∙ ap (λ (b : ℕ). b ∷ drop (i + 1) t) (eqb-true (get_or t i 0) k q)
-
--- ---- `begins`
-module _ (p : List ℕ) (i k : ℕ) where
-  pub begins_here : i < length p → eqb (get_or p i 0) k ≡ begins k (drop i p)
-  begins_here h = rw (drop-cons p i 0 h)
-
-  pub begins_past : length p ≤ i → false ≡ begins k (drop i p)
-  begins_past h = rw (drop_of_length-le p h)

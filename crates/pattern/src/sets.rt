@@ -6,7 +6,7 @@ ghost use Rattle.pattern.specs.Steps.{begins as begins_of, escaped_at, member_at
 use octets::fold;
 
 // What begins at an index of a set.
-#[derive(Drop)]
+#[derive(Clone, Copy)]
 pub enum Piece {
     // The bytes from the first to the second, and the index behind them; of a member alone both are its byte.
     Range(u8, u8, usize),
@@ -16,23 +16,18 @@ pub enum Piece {
     End,
 }
 
-// A set that was read.
-#[derive(Drop)]
-pub enum SetTest {
-    // Whether it has the byte, and the index behind its `]`.
-    Ends(bool, usize),
-    // It is unclosed or empty, or a range falls.
-    Bad,
+// A set that was read: whether it has the byte, and the index behind its `]`.
+#[derive(Clone, Copy)]
+pub struct SetTest {
+    pub hit: bool,
+    pub end: usize,
 }
 
 // Whether a byte stands at an index.
 pub fn begins(p: &[u8], i: usize, k: u8) -> bool
     ensures { result ≡ begins_of k (drop i p.now) }
 {
-    if i < p.len() {
-        return p[i] == k;
-    }
-    false
+    i < p.len() && p[i] == k
 }
 
 // "a backslash makes the next byte plain, in a set too"
@@ -53,14 +48,14 @@ fn member_at(p: &[u8], mark: bool, i: usize) -> Piece
     if p.len() <= i {
         return Piece::End;
     }
-    if p[i] == 93 {
-        return Piece::Close;
+    match p[i] {
+        b']' => Piece::Close,
+        b'\\' => escaped_at(p, mark, i + 1),
+        c => {
+            let b = fold(mark, c);
+            Piece::Range(b, b, i + 1)
+        }
     }
-    if p[i] == 92 {
-        return escaped_at(p, mark, i + 1);
-    }
-    let b = fold(mark, p[i]);
-    Piece::Range(b, b, i + 1)
 }
 
 // A member, the `-` at an index and what follows it: a range if that is a member.
@@ -68,9 +63,8 @@ fn joined(low: u8, i: usize, behind: Piece) -> Piece
     ensures { result ≡ joined_at low i behind }
 {
     match behind {
-        Piece::Range(high, b, next) => Piece::Range(low, high, next),
-        Piece::Close => Piece::Range(low, low, i),
-        Piece::End => Piece::Range(low, low, i),
+        Piece::Range(high, _, next) => Piece::Range(low, high, next),
+        Piece::Close | Piece::End => Piece::Range(low, low, i),
     }
 }
 
@@ -79,8 +73,8 @@ fn piece_at(p: &[u8], mark: bool, i: usize) -> Piece
     ensures { result ≡ piece_at i (folded «mark» p.now) }
 {
     match member_at(p, mark, i) {
-        Piece::Range(low, b, next) => {
-            if begins(p, next, 45) {
+        Piece::Range(low, _, next) => {
+            if begins(p, next, b'-') {
                 return joined(low, next, member_at(p, mark, next + 1));
             }
             Piece::Range(low, low, next)
@@ -90,8 +84,8 @@ fn piece_at(p: &[u8], mark: bool, i: usize) -> Piece
     }
 }
 
-// The set whose members begin at an index, and whether it has a byte.
-pub fn set_test(p: &[u8], mark: bool, at: usize, c: u8) -> SetTest
+// The set whose members begin at an index, tested for a byte; none if it is unclosed or empty, or a range falls.
+pub fn set_test(p: &[u8], mark: bool, at: usize, c: u8) -> Option<SetTest>
     ensures { result ≡ test_at at (drop at (folded «mark» p.now)) c }
 {
     let mut hit = false;
@@ -100,19 +94,19 @@ pub fn set_test(p: &[u8], mark: bool, at: usize, c: u8) -> SetTest
         match piece_at(p, mark, i) {
             Piece::Range(low, high, next) => {
                 if high < low {
-                    return SetTest::Bad;
+                    return None;
                 }
-                hit = hit | ((low <= c) & (c <= high));
+                hit |= (low <= c) & (c <= high);
                 i = next;
             }
             Piece::Close => {
                 if i == at {
-                    return SetTest::Bad;
+                    return None;
                 }
-                return SetTest::Ends(hit, i + 1);
+                return Some(SetTest { hit, end: i + 1 });
             }
-            Piece::End => return SetTest::Bad,
+            Piece::End => return None,
         }
     }
-    SetTest::Bad
+    None
 }

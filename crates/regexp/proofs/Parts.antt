@@ -15,7 +15,10 @@ use Rattle.common.proofs.Choice.{pick_yes, pick_no, false_true}
 use Rattle.pattern.specs.Sets.{spans_of, in_spans, width_by, width_from, width_of}
 use Rattle.pattern.specs.Wildcard.{is_set}
 use Rattle.pattern.specs.Steps.{begins, test_at, turned}
-use Rattle.pattern.specs.declared.sets.SetTest.TheVariants.{Ends, Bad as NoSet}
+use Rattle.pattern.specs.declared.sets.SetTest.{SetTest}
+use Rattle.std.specs.Prelude.{Some, None}
+use Rattle.std.specs.Prelude.{Option as Maybe}
+use mir.Val.{bool_byte}
 use Rattle.pattern.proofs.Texts.{sign_here}
 use Rattle.automaton.proofs.Step.{get_d_any}
 use Rattle.automaton.specs.Table.{held_of, repeats, absent, outside, sort}
@@ -82,23 +85,23 @@ lacks_more k h =
 
 -- ---- sets
 module _ (i : ℕ) (s : List ℕ) where
-  pub test_ends : (hit : Bool) (j : ℕ) → Ends hit j ≡ test_at i s 0 → (is_set s ≡ true) × (j ≡ i + width_of s)
-  test_ends hit j e = go (is_set s) refl
+  pub test_ends : (t : SetTest) → Some t ≡ test_at i s 0 → (is_set s ≡ true) × (t.end ≡ i + width_of s)
+  test_ends t e = go (is_set s) refl
     where
-      go : (b : Bool) → is_set s ≡ b → (is_set s ≡ true) × (j ≡ i + width_of s)
-      go true f = let q : Ends hit j ≡ Ends (in_spans (spans_of s) 0) (i + width_of s) = e ∙ pick_yes (is_set s) _ _ f in (f, cc)
-      go false f = let q : Ends hit j ≡ NoSet = e ∙ pick_no (is_set s) _ _ f in let y : ◌≡◌ {A = ℕ} 0 1 = cc in absurd (omega arith)
+      go : (b : Bool) → is_set s ≡ b → (is_set s ≡ true) × (t.end ≡ i + width_of s)
+      go true f = let q : Some t ≡ Some (record { hit = in_spans (spans_of s) 0; end = i + width_of s }) = e ∙ pick_yes (is_set s) _ _ f in (f, cc)
+      go false f = let q : Some t ≡ None = e ∙ pick_no (is_set s) _ _ f in absurd (cc)
 
-  pub test_bad : NoSet ≡ test_at i s 0 → is_set s ≡ false
+  pub test_bad : None ≡ test_at i s 0 → is_set s ≡ false
   test_bad e = go (is_set s) refl
     where
       go : (b : Bool) → is_set s ≡ b → is_set s ≡ false
-      go true f = let q : NoSet ≡ Ends (in_spans (spans_of s) 0) (i + width_of s) = e ∙ pick_yes (is_set s) _ _ f in let y : ◌≡◌ {A = ℕ} 0 1 = cc in absurd (omega arith)
+      go true f = let q : ◌≡◌ {A = Maybe SetTest} None (Some (record { hit = in_spans (spans_of s) 0; end = i + width_of s })) = e ∙ pick_yes (is_set s) _ _ f in absurd (cc)
       go false f = f
 
   -- the token of a set takes what the set takes
   held_set : (out : Bool) → is_set s ≡ true → ◌≡◌ {A = ℕ → Bool} (λ c. turned out (held_of (test_at i s c))) (takes (set out (spans_of s)))
-  held_set out h = ap (λ (b : Bool). λ (c : ℕ). turned out (held_of (pick b (λ _. Ends (in_spans (spans_of s) c) (i + width_of s)) (λ _. NoSet)))) h
+  held_set out h = ap (λ (b : Bool). λ (c : ℕ). turned out (held_of (pick b (λ _. Some (record { hit = in_spans (spans_of s) c; end = i + width_of s })) (λ _. None)))) h
 
 set_long : (s : List ℕ) → is_set s ≡ true → 0 < width_of s
 set_long [] h = false_true h
@@ -173,6 +176,21 @@ module _ (text : List ℕ) (i : ℕ) where
 
   pub set_in_bad : begins 94 (drop i text) ≡ false → is_set (drop i text) ≡ false → SetAt text i Bad
   set_in_bad b h = no_hat (drop i text) b ∙ ap (λ (x : Bool). set_by x false (drop i text)) h
+
+-- a set, whose members begin behind the mark of a complement, if there is one
+module _ (text : List ℕ) (i : ℕ) where
+  pub set_found : (out : Bool) (n : ℕ) → n ≡ bool_byte out → begins 94 (drop i text) ≡ out → (k : ℕ) → k ≡ bool_byte out → (t : SetTest) → Some t ≡ test_at (i + n) (drop (i + n) text) 0
+      → SetAt text i (Item (16 + 4 * k) (i + n) t.end)
+  set_found true n h b k g t e = let q = test_ends (i + n) (drop (i + n) text) t e in rw (h, g) (set_out text i b t.end (rw h at q.0) (rw h at q.1))
+  set_found false n h b k g t e =
+      let z : i + n ≡ i = omega (arith, h) in
+      let q = test_ends (i + n) (drop (i + n) text) t e in rw (z, g) (set_in text i b t.end (rw z at q.0) (rw z at q.1))
+
+  pub set_missing : (out : Bool) (n : ℕ) → n ≡ bool_byte out → begins 94 (drop i text) ≡ out → None ≡ test_at (i + n) (drop (i + n) text) 0 → SetAt text i Bad
+  set_missing true n h b e = let q = test_bad (i + n) (drop (i + n) text) e in set_out_bad text i b (rw h at q)
+  set_missing false n h b e =
+      let z : i + n ≡ i = omega (arith, h) in
+      let q = test_bad (i + n) (drop (i + n) text) e in set_in_bad text i b (rw z at q)
 
 -- ---- words
 module _ (text : List ℕ) (i : ℕ) where

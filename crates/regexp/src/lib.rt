@@ -10,11 +10,11 @@ ghost use Rattle.regexp.specs.Words.{plain_byte, repeat_byte, easy_at};
 ghost use Rattle.regexp.specs.Promise.{SetAt, WordAt, AllowedAt, EndAt, BranchAt, BehindAt, TurnAt, TableAt};
 
 use octets::fold;
-use pattern::sets::{SetTest, begins, set_test};
+use pattern::sets::{begins, set_test};
 
 // ---- words
 
-#[derive(Drop)]
+#[derive(Clone, Copy)]
 pub enum Read {
     // What takes one byte: the kind of its token, where its text stands, and the index behind it.
     Item(u8, usize, usize),
@@ -28,19 +28,15 @@ pub enum Read {
     Bad,
 }
 
-// "bracket sets as in request 1 with `^` for `!`": the set behind a `[`.
+// "bracket sets as in request 1 with `^` for `!`": the set behind a `[`. The kind of a set's token is 16, that of a complement 20.
 fn set_word(text: &[u8], i: usize) -> Read
     ensures { SetAt text.now i result }
 {
-    if begins(text, i, 94) {
-        return match set_test(text, false, i + 1, 0) {
-            SetTest::Ends(hit, j) => Read::Item(20, i + 1, j),
-            SetTest::Bad => Read::Bad,
-        };
-    }
-    match set_test(text, false, i, 0) {
-        SetTest::Ends(hit, j) => Read::Item(16, i, j),
-        SetTest::Bad => Read::Bad,
+    let out = begins(text, i, b'^');
+    let at = i + usize::from(out);
+    match set_test(text, false, at, 0) {
+        Some(set) => Read::Item(16 + 4 * u8::from(out), at, set.end),
+        None => Read::Bad,
     }
 }
 
@@ -49,44 +45,21 @@ fn word_at(text: &[u8], i: usize) -> Read
     requires { i < length text.now }
     ensures { WordAt text.now i result }
 {
-    let b = text[i];
-    if b == 92 {
-        if i + 1 < text.len() {
-            return Read::Item(0, i + 1, i + 2);
-        }
-        return Read::Bad;
+    match text[i] {
+        b'\\' if i + 1 < text.len() => Read::Item(0, i + 1, i + 2),
+        b'\\' => Read::Bad,
+        b'[' => set_word(text, i + 1),
+        b'(' => Read::Open,
+        b')' => Read::Close,
+        b'|' => Read::Bar,
+        b'*' => Read::Repeat(true, true),
+        b'+' => Read::Repeat(true, false),
+        b'?' => Read::Repeat(false, true),
+        b'.' => Read::Item(8, i, i + 1),
+        b'^' => Read::Stop,
+        b'$' => Read::Stop,
+        _ => Read::Item(0, i, i + 1),
     }
-    if b == 91 {
-        return set_word(text, i + 1);
-    }
-    if b == 40 {
-        return Read::Open;
-    }
-    if b == 41 {
-        return Read::Close;
-    }
-    if b == 124 {
-        return Read::Bar;
-    }
-    if b == 42 {
-        return Read::Repeat(true, true);
-    }
-    if b == 43 {
-        return Read::Repeat(true, false);
-    }
-    if b == 63 {
-        return Read::Repeat(false, true);
-    }
-    if b == 46 {
-        return Read::Item(8, i, i + 1);
-    }
-    if b == 94 {
-        return Read::Stop;
-    }
-    if b == 36 {
-        return Read::Stop;
-    }
-    Read::Item(0, i, i + 1)
 }
 
 // The word that begins at an index, if it may stand where `room` more groups may open and `some` says whether the branch so far has a piece. Stop: the branch of the whole pattern ends here.

@@ -16,14 +16,14 @@ returns-then-begins c =
     let g = c.in-Range in
     let e = sym g.is ∙ c.member_at.ensures in
     c.joined.ensures ∙ ap (joined_at g.low g.next) c.member_at-then-begins.ensures
-    ∙ piece_joined a.mark a.p.now a.i g.low g.b g.next e (sym c.begins.ensures ∙ c.if-begins.true)
+    ∙ piece_joined a.mark a.p.now a.i g.low g.field-1 g.next e (sym c.begins.ensures ∙ c.if-begins.true)
 
 pub returns-else-begins : goal.returns-else-begins
 returns-else-begins c =
     let a = c.args in
     let g = c.in-Range in
     let e = sym g.is ∙ c.member_at.ensures in
-    piece_alone a.mark a.p.now a.i g.low g.b g.next e (sym c.begins.ensures ∙ c.if-begins.false)
+    piece_alone a.mark a.p.now a.i g.low g.field-1 g.next e (sym c.begins.ensures ∙ c.if-begins.false)
 
 pub returns-in-Close : goal.returns-in-Close
 returns-in-Close c =

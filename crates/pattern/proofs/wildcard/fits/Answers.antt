@@ -1,4 +1,4 @@
-use Rattle.pattern.proofs.Greedy.{match_start, match-on, match-taken, match-failed, match_back, match_run, match_end, lighter_on, lighter_run, lighter_back}
+use Rattle.pattern.proofs.Greedy.{match-on, match-taken, match-failed, match_back, match_run, match_end, base_first, base_of, lighter_on, lighter_run, lighter_back}
 use Rattle.pattern.proofs.Items.{runs_folded}
 use Rattle.pattern.proofs.Texts.{run_sign, here, sign_same, begins_inside}
 use Rattle.octets.specs.Octets.{fold, folded}
@@ -7,25 +7,22 @@ use native.Mathlib.Omega.{arith}
 use mathlib.Core.Path.{sym, ◌∙◌}
 use Rattle.pattern.proofs.wildcard.fits.Goals as goal
 
-pub loop-v-init : goal.loop-v-init
-loop-v-init c = let a = c.args in match_start (folded a.s_mark a.s.now) (folded a.p_mark a.p.now)
-
-pub loop-v-smaller-then-next-gt0 : goal.loop-v-smaller-then-next-gt0
-loop-v-smaller-then-next-gt0 c =
+pub loop-v-smaller-in-Some : goal.loop-v-smaller-in-Some
+loop-v-smaller-in-Some c =
     let a = c.args in
     let l = c.loop-v in
     let x = folded a.s_mark a.s.now in
     let t = folded a.p_mark a.p.now in
-    let k = match-on x t l.i l.v l.behind l.base l.invariant c.fold.result c.item_takes-next.result (rw c.fold.ensures (here a.s_mark a.s.now l.v (omega arith))) c.item_takes-next.ensures (omega arith) in
-    lighter_on (length a.s.now) (length a.p.now) l.base l.i c.item_takes-next.result k.0 (rw (length-map a.p.now (fold a.p_mark)) at k.1)
+    let k = match-on x t l.i l.v c.fold.result (rw c.fold.ensures (here a.s_mark a.s.now l.v (omega arith))) c.in-Some.next (sym c.in-Some.is ∙ c.item_takes.ensures) in
+    lighter_on (length a.s.now) (length a.p.now) (base_of l.star) l.i c.in-Some.next k.0 (rw (length-map a.p.now (fold a.p_mark)) at k.1)
 
-pub loop-v-preserved-then-next-gt0 : goal.loop-v-preserved-then-next-gt0
-loop-v-preserved-then-next-gt0 c =
+pub loop-v-preserved-in-Some : goal.loop-v-preserved-in-Some
+loop-v-preserved-in-Some c =
     let a = c.args in
     let l = c.loop-v in
     let x = folded a.s_mark a.s.now in
     let t = folded a.p_mark a.p.now in
-    match-taken x t l.i l.v l.behind l.base l.invariant c.fold.result c.item_takes-next.result (rw c.fold.ensures (here a.s_mark a.s.now l.v (omega arith))) c.item_takes-next.ensures (omega arith)
+    match-taken x t l.i l.v c.fold.result (rw c.fold.ensures (here a.s_mark a.s.now l.v (omega arith))) c.in-Some.next (sym c.in-Some.is ∙ c.item_takes.ensures) l.star l.invariant
 
 pub overflow_add-i : goal.overflow_add-i
 overflow_add-i c =
@@ -38,8 +35,10 @@ pub loop-v-smaller-then-begins : goal.loop-v-smaller-then-begins
 loop-v-smaller-then-begins c =
     let a = c.args in
     let l = c.loop-v in
+    let x = folded a.s_mark a.s.now in
+    let t = folded a.p_mark a.p.now in
     let h = begins_inside a.p.now l.i 42 (sym c.begins.ensures ∙ c.if-begins.true) in
-    lighter_run (length a.s.now) (length a.p.now) l.base l.i l.v l.invariant.0 h
+    lighter_run (length a.s.now) (length a.p.now) (base_of l.star) l.i l.v (base_first x t l.i l.v l.star l.invariant) h
 
 pub loop-v-preserved-then-begins : goal.loop-v-preserved-then-begins
 loop-v-preserved-then-begins c =
@@ -47,27 +46,23 @@ loop-v-preserved-then-begins c =
     let l = c.loop-v in
     let x = folded a.s_mark a.s.now in
     let t = folded a.p_mark a.p.now in
-    match_run x t l.i l.v l.behind l.base l.invariant (sign_same a.p_mark a.p.now l.i 42 run_sign ∙ sym c.begins.ensures ∙ c.if-begins.true)
+    match_run x t l.i l.v (sign_same a.p_mark a.p.now l.i 42 run_sign ∙ sym c.begins.ensures ∙ c.if-begins.true) l.star l.invariant
 
-pub returns-then-behind-eq0 : goal.returns-then-behind-eq0
-returns-then-behind-eq0 c =
+pub returns-in_default-star : goal.returns-in_default-star
+returns-in_default-star c =
     let a = c.args in
     let l = c.loop-v in
     let x = folded a.s_mark a.s.now in
     let t = folded a.p_mark a.p.now in
-    match-failed x t l.i l.v l.behind l.base l.invariant c.fold.result c.item_takes-next.result (rw c.fold.ensures (here a.s_mark a.s.now l.v (omega arith))) c.item_takes-next.ensures (omega arith) (sign_same a.p_mark a.p.now l.i 42 run_sign ∙ sym c.begins.ensures ∙ c.if-begins.false) c.if-behind-eq0.true
-
-pub overflow_add-base : goal.overflow_add-base
-overflow_add-base c =
-    let a = c.args in
-    let l = c.loop-v in
-    record { fits = omega (arith, l.invariant.0) }
+    match-failed x t l.i l.v c.fold.result (rw c.fold.ensures (here a.s_mark a.s.now l.v (omega arith))) (sym c.in_default.is ∙ c.item_takes.ensures) (sign_same a.p_mark a.p.now l.i 42 run_sign ∙ sym c.begins.ensures ∙ c.if-begins.false)
+    (rw c.in_default-star.is at l.invariant)
 
 pub loop-v-smaller : goal.loop-v-smaller
 loop-v-smaller c =
     let a = c.args in
     let l = c.loop-v in
-    lighter_back (length a.s.now) (length a.p.now) l.base l.i l.behind (omega (arith, l.invariant.0))
+    let m = rw c.in-Some-star.is at l.invariant in
+    rw c.in-Some-star.is (lighter_back (length a.s.now) (length a.p.now) c.in-Some-star.last.base l.i c.in-Some-star.last.behind (omega (arith, m.0)))
 
 pub loop-v-preserved : goal.loop-v-preserved
 loop-v-preserved c =
@@ -75,7 +70,8 @@ loop-v-preserved c =
     let l = c.loop-v in
     let x = folded a.s_mark a.s.now in
     let t = folded a.p_mark a.p.now in
-    match_back x t l.i l.v l.behind l.base l.invariant c.fold.result c.item_takes-next.result (rw c.fold.ensures (here a.s_mark a.s.now l.v (omega arith))) c.item_takes-next.ensures (omega arith) (sign_same a.p_mark a.p.now l.i 42 run_sign ∙ sym c.begins.ensures ∙ c.if-begins.false) c.if-behind-eq0.false
+    match_back x t l.i l.v c.fold.result (rw c.fold.ensures (here a.s_mark a.s.now l.v (omega arith))) (sym c.in_default.is ∙ c.item_takes.ensures) (sign_same a.p_mark a.p.now l.i 42 run_sign ∙ sym c.begins.ensures ∙ c.if-begins.false)
+    c.in-Some-star.last.behind c.in-Some-star.last.base (rw c.in-Some-star.is at l.invariant)
 
 pub returns : goal.returns
 returns c =
@@ -83,4 +79,4 @@ returns c =
     let l = c.loop-v in
     let x = folded a.s_mark a.s.now in
     let t = folded a.p_mark a.p.now in
-    c.only_runs.ensures ∙ sym (runs_folded a.p_mark a.p.now l.i) ∙ match_end x t l.i l.v l.behind l.base l.invariant (rw (length-map a.s.now (fold a.s_mark)) (omega arith))
+    c.only_runs.ensures ∙ sym (runs_folded a.p_mark a.p.now l.i) ∙ match_end x t l.i l.v l.star l.invariant (rw (length-map a.s.now (fold a.s_mark)) (omega arith))

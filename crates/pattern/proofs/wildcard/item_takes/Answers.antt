@@ -1,30 +1,29 @@
-use Rattle.pattern.proofs.Items.{takes_past, takes_run, takes-any, takes-escaped, takes-set, takes-plain}
+use Rattle.pattern.proofs.Items.{takes_run, takes-any, takes-escaped, takes-set, takes-plain}
 use native.Mathlib.Omega.{arith}
 use mathlib.Core.Path.{◌∙◌}
 use Rattle.pattern.proofs.wildcard.item_takes.Goals as goal
 
-pub returns-then-p-i : goal.returns-then-p-i
-returns-then-p-i c = let a = c.args in takes_past a.mark a.p.now a.i a.c (omega arith)
+pub returns-in-42 : goal.returns-in-42
+returns-in-42 c = let a = c.args in takes_run a.mark a.p.now a.i a.c (omega arith) c.in-42.is
 
-pub returns-then-p-i-eq42 : goal.returns-then-p-i-eq42
-returns-then-p-i-eq42 c = let a = c.args in takes_run a.mark a.p.now a.i a.c (omega arith) c.if-p-i-eq42.true
-
-pub returns-then-p-i-eq63 : goal.returns-then-p-i-eq63
-returns-then-p-i-eq63 c =
+pub returns-in-63 : goal.returns-in-63
+returns-in-63 c =
     let a = c.args in
-    takes-any a.mark a.p.now a.i a.c (omega arith) c.if-p-i-eq42.false c.if-p-i-eq63.true
+    let e = c.in-63.is in
+    takes-any a.mark a.p.now a.i a.c (omega arith) (omega (arith, e)) e
 
-pub returns-then-p-i-eq92 : goal.returns-then-p-i-eq92
-returns-then-p-i-eq92 c =
+pub returns-in-92 : goal.returns-in-92
+returns-in-92 c =
     let a = c.args in
-    c.plain_takes.ensures ∙ takes-escaped a.mark a.p.now a.i a.c (omega arith) c.if-p-i-eq42.false c.if-p-i-eq63.false c.if-p-i-eq92.true
+    let e = c.in-92.is in
+    c.plain_takes.ensures ∙ takes-escaped a.mark a.p.now a.i a.c (omega arith) (omega (arith, e)) (omega (arith, e)) e
 
-pub returns-then-p-i-eq91 : goal.returns-then-p-i-eq91
-returns-then-p-i-eq91 c =
+pub returns-in-91 : goal.returns-in-91
+returns-in-91 c =
     let a = c.args in
-    c.set_takes.ensures ∙ takes-set a.mark a.p.now a.i a.c (omega arith) c.if-p-i-eq42.false c.if-p-i-eq63.false c.if-p-i-eq92.false c.if-p-i-eq91.true
+    let e = c.in-91.is in
+    c.set_takes.ensures ∙ takes-set a.mark a.p.now a.i a.c (omega arith) (omega (arith, e)) (omega (arith, e)) (omega (arith, e)) e
 
-pub returns : goal.returns
-returns c =
-    let a = c.args in
-    c.plain_takes-2.ensures ∙ takes-plain a.mark a.p.now a.i a.c (omega arith) c.if-p-i-eq42.false c.if-p-i-eq63.false c.if-p-i-eq92.false c.if-p-i-eq91.false
+pub returns-in_default : goal.returns-in_default
+returns-in_default c = let a = c.args in
+    c.plain_takes-in_default.ensures ∙ takes-plain a.mark a.p.now a.i a.c (omega arith) (omega arith) (omega arith) (omega arith) (omega arith)
