@@ -16,7 +16,7 @@ use Rattle.lexer.specs.Digits.{is_minus, digits_of, whole_from, whole_of, capped
 use Rattle.lexer.specs.Real.{whole_digits, from_point, fraction_digits, exponent_part, exponent_digits, exponent_of, is_exponent, is_real, no_zeros, real_fits}
 use Rattle.lexer.specs.Token.{scan_run, scan_number}
 use Rattle.lexer.specs.Answer.{scanned_of}
-use Rattle.lexer.specs.declared.Scanned.TheVariants.{Good}
+use Rattle.lexer.specs.Answer.{Good}
 use Rattle.lexer.proofs.Bytes.{range, decimal}
 use Rattle.lexer.proofs.Runs.{none_left, empty}
 use Rattle.lexer.proofs.Wholes.{digits_part, digits_again}

@@ -25,7 +25,7 @@ use Rattle.lexer.specs.Symbol.{three_bytes, two_bytes, symbol_of, symbol_length}
 use Rattle.lexer.specs.Token.{Token, name, int32, int64, real, text, symbol, kind_of, Scan, good, bad, judged, scan_name, integer_token, scan_integer, scan_run, scan_number, scan_string, scan_bytes, scan_symbol, scan_of, string_at}
 use Rattle.lexer.specs.Theorems.{StartsNoOther}
 use Rattle.lexer.specs.Answer.{scanned_of, Stand}
-use Rattle.lexer.specs.declared.Scanned.TheVariants.{Good, Bad}
+use Rattle.lexer.specs.Answer.{Good, Bad}
 use Rattle.lexer.proofs.Bytes.{range, common_ends_none, common_takes_none}
 use Rattle.lexer.proofs.Runs.{ends_quote, run_stop, run_end, byte_here, rest_later, none_left, empty, passes_all, first_fits, run_first}
 use Rattle.lexer.proofs.Wholes.{digits_fit, digits_part, digits_again, digits_in_run, first_digit, lone_zero, suffix_byte}
@@ -344,14 +344,13 @@ module _ (s : List ℕ) (at e : ℕ) (h : at < length s) (l : at + 1 ≤ e) (p :
       ap (λ (k : ℕ). Good 4 k) n ∙ string_legal (drop at s) (λ y. omega (arith, b, left, y))
 
   -- its bytes stand between the quotes
-  pub string_stands : e < length s → (get_or s at 0 ≡ 0 → ⊥) → get_or s e 0 ≡ get_or s at 0 → Stand s (at + 1) (e - at - 1) (string_at s at)
+  pub string_stands : e < length s → (get_or s at 0 ≡ 0 → ⊥) → get_or s e 0 ≡ get_or s at 0 → Stand s (at + 1) (e - (at + 1)) (string_at s at)
   string_stands m f z =
       let q = get_or s at 0 in
-      let k : e - (at + 1) ≡ e - at - 1 = omega arith in
       let none : length (run_of q (drop (e - (at + 1)) (drop (at + 1) s))) ≡ 0 =
       rw (rest_later s (at + 1) e l) (run_stop s e m q false (sym (ends_quote q (get_or s e 0) f) ∙ eq-eqb (get_or s e 0) q z)) in
       let w = (passes_all q (drop (at + 1) s) (e - (at + 1)) p none).1 in
-      (omega arith, rw (← k) (w ∙ ap (unescaped false) (sym body_at)))
+      (omega arith, w ∙ ap (unescaped false) (sym body_at))
 
 pub stand_length : (s : List ℕ) (at n : ℕ) (bytes : List ℕ) → Stand s at n bytes → n ≡ length bytes
 stand_length s at n bytes p =

@@ -13,9 +13,9 @@ use borrow.Author.Tests.{lt-ltb, le-ltb}
 use Rattle.lexer.specs.Byte.{is_space}
 use Rattle.lexer.specs.Token.{Token, Placed, kind_of, Scan, good, bad, scan_of, Lexed, tokens, refused, prepend, placed, tokens_from, tokens_of, found, kinds_of, starts_of}
 use Rattle.lexer.specs.Answer.{lexing_of, scanned_of}
-use Rattle.lexer.specs.declared.Lexing.{Lexing}
-use Rattle.lexer.specs.declared.Lexing.TheVariants.{Tokens, Refused}
-use Rattle.lexer.specs.declared.Scanned.TheVariants.{Good, Bad}
+use Rattle.lexer.specs.Answer.{Lexing}
+use Rattle.lexer.specs.Answer.{Tokens, Refused}
+use Rattle.lexer.specs.Answer.{Good, Bad}
 use Rattle.lexer.proofs.Scans.{pick_yes, pick_no, scan_fit, good_told, bad_told}
 
 -- the bytes of a token are passed over

@@ -10,7 +10,7 @@ use borrow.Author.Tests.{eqb-true, eqb-false, eq-eqb, ne_eqb}
 use Rattle.lexer.specs.Symbol.{three_bytes, with_equal, doubled, two_bytes, one_byte, symbol_of, symbol_length, first_of}
 use Rattle.lexer.specs.Token.{scan_bytes, scan_symbol}
 use Rattle.lexer.specs.Answer.{scanned_of}
-use Rattle.lexer.specs.declared.Scanned.TheVariants.{Good, Bad}
+use Rattle.lexer.specs.Answer.{Good, Bad}
 use Rattle.lexer.proofs.Runs.{byte_here}
 use Rattle.lexer.proofs.Scans.{symbol_none, symbol_legal}
 

@@ -10,8 +10,8 @@ use Rattle.lexer.specs.Real.{real_digits, scale_of, real_fits}
 use Rattle.lexer.specs.Token.{Token, name, int32, int64, real, text, symbol, Placed, good, bad, scan_of, tokens, refused, tokens_of, found, name_at, escaped_at, string_at, integer_at, long_at, real_at}
 use Rattle.lexer.specs.Ascii.{ascii}
 use Rattle.lexer.specs.Answer.{lexing_of, number_of, place_of}
-use Rattle.lexer.specs.declared.Lexing.{Lexing}
-use Rattle.lexer.specs.declared.Lexing.TheVariants.{Tokens, Refused}
+use Rattle.lexer.specs.Answer.{Lexing}
+use Rattle.lexer.specs.Answer.{Tokens, Refused}
 
 abbrev pub Some : {A : Type 0} → (A → Type 0) → List A → Type 0
 Some P [] = ⊥

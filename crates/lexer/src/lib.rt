@@ -1,14 +1,13 @@
 // Tokens. Document 01, "Tokens", and "Refusals by number", 10, 1 and 3.
 #![tactic(auto)]
 
-ghost use Rattle.std.specs.Prelude.{◌≡◌, true, ◌+◌, ◌-◌, ◌≤◌, ◌<◌, length, get_or, drop};
+ghost use Rattle.std.specs.Prelude.{◌≡◌, true, ◌+◌, ◌-◌, ◌≤◌, ◌<◌, length, get_or, drop, Err, IfSome};
 ghost use Rattle.std.proofs.lemmas.List.Edits.{sets};
 ghost use Rattle.lexer.specs.Byte.{is_quote, starts_number};
 ghost use Rattle.lexer.specs.Run.{GoesOn, all_common};
 ghost use Rattle.lexer.specs.Digits.{sign_length};
 ghost use Rattle.lexer.specs.Token.{scan_name, scan_integer, scan_number, scan_string, scan_of, tokens_of, kinds_of, starts_of, name_at, escaped_at, name_is, string_at, integer_at, real_at};
-ghost use Rattle.lexer.specs.Answer.{lexing_of, scanned_of, Reads, Stand};
-ghost use Rattle.lexer.specs.declared.Scanned.TheVariants.{Good};
+ghost use Rattle.lexer.specs.Answer.{Good, Refused, answered, number_of_fault, lexing_of, scanned, scanned_of, Reads, Stand};
 
 mod byte;
 mod digits;
@@ -21,6 +20,7 @@ use byte::{is_decimal, is_quote, is_space, starts_name};
 use digits::Numeral;
 use integer::{integer_digits, integer_fits, is_integer, is_long};
 use real::{fraction_digits, is_real, real_fits, whole_digits};
+use refusal::Refusal;
 use run::{
     body, byte_at, common_end, copy_common, copy_plain, ended, has_escape, measure_name,
     plain_length, rest, run, unquoted_end,
@@ -48,32 +48,47 @@ pub const COMMA: u8 = 11;
 // What stands past the last token.
 pub const END: u8 = 99;
 
-// What stands first: a token's kind number and how many bytes it takes; or the number by which it is refused.
-#[derive(Drop)]
-enum Scanned {
-    Good(u8, usize),
-    Bad(u8),
+// Why no token stands first: what stands there has no legal form, or one that is outside its limits.
+#[derive(Clone, Copy)]
+enum Fault {
+    Form,
+    Limit,
 }
+
+impl Fault {
+    // The refusal of a token that starts at a place.
+    fn at(self, place: usize) -> Refusal
+        ensures { answered (Err result) ≡ Refused (number_of_fault self) place }
+    {
+        match self {
+            Fault::Form => Refusal::Token(place),
+            Fault::Limit => Refusal::Limit(place),
+        }
+    }
+}
+
+// The kind number of the token that stands first and how many bytes it takes; or its fault.
+type Scanned = Result<(u8, usize), Fault>;
 
 // A name that goes on after its first bytes.
 fn scan_odd_name(s: &[u8], first: usize) -> Scanned
     requires { GoesOn s.now first }
-    ensures { result ≡ scanned_of (scan_name s.now) }
+    ensures { scanned result ≡ scanned_of (scan_name s.now) }
 {
     let m = measure_name(s, first);
     if !m.legal {
-        return Scanned::Bad(1);
+        return Err(Fault::Form);
     }
     let n = m.plain;
     if (1 <= n) & (n <= 64) {
-        return Scanned::Good(NAME, m.bytes);
+        return Ok((NAME, m.bytes));
     }
-    Scanned::Bad(3)
+    Err(Fault::Limit)
 }
 
 // A name of common bytes alone is legal and has no escape.
 fn scan_name(text: &[u8], at: usize) -> Scanned
-    ensures { result ≡ scanned_of (scan_name (drop at text.now)) }
+    ensures { scanned result ≡ scanned_of (scan_name (drop at text.now)) }
 {
     let end = common_end(text, at);
     let n = end - at;
@@ -81,33 +96,33 @@ fn scan_name(text: &[u8], at: usize) -> Scanned
         return scan_odd_name(rest(text, at), n);
     }
     if (1 <= n) & (n <= 64) {
-        return Scanned::Good(NAME, n);
+        return Ok((NAME, n));
     }
-    Scanned::Bad(3)
+    Err(Fault::Limit)
 }
 
 // An integer, or what has no legal form. The caller has read the decimal digits.
 fn scan_integer(bytes: &[u8], whole: Numeral) -> Scanned
     requires { Reads 10 0 (sign_length bytes.now) bytes.now whole }
-    ensures { result ≡ scanned_of (scan_integer bytes.now) }
+    ensures { scanned result ≡ scanned_of (scan_integer bytes.now) }
 {
     let d = integer_digits(bytes, whole);
     let long = is_long(bytes, d.end);
     if !is_integer(bytes, d.end, long) {
-        return Scanned::Bad(1);
+        return Err(Fault::Form);
     }
     if !integer_fits(bytes, d.value, long) {
-        return Scanned::Bad(3);
+        return Err(Fault::Limit);
     }
     if long {
-        return Scanned::Good(INT64, bytes.len());
+        return Ok((INT64, bytes.len()));
     }
-    Scanned::Good(INT32, bytes.len())
+    Ok((INT32, bytes.len()))
 }
 
 // The digits of a number are read once, but those of an octal or hex integer, which are read as decimal ones too.
 fn scan_odd_number(text: &[u8], at: usize) -> Scanned
-    ensures { result ≡ scanned_of (scan_number (drop at text.now)) }
+    ensures { scanned result ≡ scanned_of (scan_number (drop at text.now)) }
 {
     let bytes = run(text, at, 0);
     let whole = whole_digits(bytes);
@@ -116,15 +131,15 @@ fn scan_odd_number(text: &[u8], at: usize) -> Scanned
         return scan_integer(bytes, whole);
     }
     if real_fits(bytes, whole.end, all) {
-        return Scanned::Good(REAL64, bytes.len());
+        return Ok((REAL64, bytes.len()));
     }
-    Scanned::Bad(3)
+    Err(Fault::Limit)
 }
 
-// The length of a real of digits, a point and digits alone that is within its limits; else 0. The caller has read the digits before the point.
-fn plain_real(text: &[u8], at: usize, whole: Numeral) -> usize
+// The length of a real of digits, a point and digits alone, if it is one that is within its limits. The caller has read the digits before the point.
+fn plain_real(text: &[u8], at: usize, whole: Numeral) -> Option<usize>
     requires { (length text.now ≤ 4096) × (at < length text.now) × (get_or text.now whole.end 0 ≡ 46) × Reads 10 0 at text.now whole }
-    ensures { (result ≡ 0 → ⊥) → Good 3 result ≡ scanned_of (scan_number (drop at text.now)) }
+    ensures { IfSome result (λ n. Good 3 n ≡ scanned_of (scan_number (drop at text.now))) }
 {
     let point = whole.end;
     let all = digits::digits(text, point + 1, 10, whole.value);
@@ -133,75 +148,63 @@ fn plain_real(text: &[u8], at: usize, whole: Numeral) -> usize
         & (all.value < 1_000_000_000_000_000)
         & ended(text, all.end)
     {
-        return all.end - at;
+        return Some(all.end - at);
     }
-    0
-}
-
-// The same answer, made anew: one that a call leaves in memory would keep all of them there.
-fn again(r: Scanned) -> Scanned
-    ensures { result ≡ r }
-{
-    match r {
-        Scanned::Good(kind, length) => Scanned::Good(kind, length),
-        Scanned::Bad(number) => Scanned::Bad(number),
-    }
+    None
 }
 
 // Decimal digits alone whose value fits, without a leading zero, are an int32, and an int64 with its suffix; else, and where they are no plain real, all forms are tried, which is called for at two places and so not laid in line.
 fn scan_number(text: &[u8], at: usize) -> Scanned
     requires { (length text.now ≤ 4096) × (at < length text.now) }
-    ensures { result ≡ scanned_of (scan_number (drop at text.now)) }
+    ensures { scanned result ≡ scanned_of (scan_number (drop at text.now)) }
 {
     let d = digits::digits(text, at, 10, 0);
     let a = text[at];
     let n = d.end - at;
     let leads = (b'1' <= a) & (a <= b'9');
     if (leads | (n == 1)) & (d.value < 0x8000_0000) & ended(text, d.end) {
-        return Scanned::Good(INT32, n);
+        return Ok((INT32, n));
     }
     let b = byte_at(text, d.end);
     if (leads & ((b == b'l') | (b == b'L')))
         & (d.value < 0x8000_0000_0000_0000)
         & ended(text, d.end + 1)
     {
-        return Scanned::Good(INT64, n + 1);
+        return Ok((INT64, n + 1));
     }
     if b == b'.' {
-        let length = plain_real(text, at, d);
-        if length != 0 {
-            return Scanned::Good(REAL64, length);
+        if let Some(length) = plain_real(text, at, d) {
+            return Ok((REAL64, length));
         }
-        return again(scan_odd_number(text, at));
     }
-    again(scan_odd_number(text, at))
+    Ok(scan_odd_number(text, at)?)
 }
 
 // A string with escapes.
 fn scan_odd_string(s: &[u8]) -> Scanned
-    ensures { result ≡ scanned_of (scan_string s.now) }
+    ensures { scanned result ≡ scanned_of (scan_string s.now) }
 {
     let bytes = body(s);
     let n = bytes.len();
     let after = rest(s, n + 1);
     if after.len() == 0 {
-        return Scanned::Bad(1);
+        return Err(Fault::Form);
     }
-    Scanned::Good(TEXT, n + 2)
+    Ok((TEXT, n + 2))
 }
 
 // The first quote or backslash is its end, if it is a quote.
 fn scan_string(text: &[u8], at: usize) -> Scanned
     requires { (at < length text.now) × (is_quote (get_or text.now at 0) ≡ true) }
-    ensures { result ≡ scanned_of (scan_string (drop at text.now)) }
+    ensures { scanned result ≡ scanned_of (scan_string (drop at text.now)) }
 {
     let quote = text[at];
     let end = unquoted_end(text, at + 1, quote);
     if text.len() <= end {
-        return Scanned::Bad(1);
+        return Err(Fault::Form);
     }
     if text[end] == quote {
-        return Scanned::Good(TEXT, end - at + 1);
+        return Ok((TEXT, end - at + 1));
     }
     scan_odd_string(rest(text, at))
 }
@@ -220,7 +223,7 @@ fn starts_number(text: &[u8], at: usize, a: u8) -> bool
 // By the first byte, and the second after a `-`.
 fn scan(text: &[u8], at: usize) -> Scanned
     requires { (length text.now ≤ 4096) × (at < length text.now) }
-    ensures { result ≡ scanned_of (scan_of (drop at text.now)) }
+    ensures { scanned result ≡ scanned_of (scan_of (drop at text.now)) }
 {
     let a = text[at];
     if starts_name(a) {
@@ -235,23 +238,16 @@ fn scan(text: &[u8], at: usize) -> Scanned
     scan_symbol(text, at)
 }
 
-// How many tokens there are; or the number of a refusal and its place.
-#[derive(Drop)]
-pub enum Lexing {
-    Tokens(usize),
-    Refused(u8, usize),
-}
-
 // The tokens' kind numbers and starts go to the front of the lent slices, as far as the tokens are legal; their other elements stay.
 // It asks for an element for each byte, if the text is not too long.
-pub fn lex(text: &[u8], kinds: &mut [u8], starts: &mut [u16]) -> Lexing
+pub fn lex(text: &[u8], kinds: &mut [u8], starts: &mut [u16]) -> Result<usize, Refusal>
     requires { (length text.now ≤ 4096 → length text.now ≤ length kinds.old) × (length text.now ≤ 4096 → length text.now ≤ length starts.old) }
-    ensures value { result ≡ lexing_of (tokens_of text.now) }
+    ensures value { answered result ≡ lexing_of (tokens_of text.now) }
     ensures kinds_after { kinds.new ≡ sets kinds.old 0 (kinds_of (tokens_of text.now)) }
     ensures starts_after { starts.new ≡ sets starts.old 0 (starts_of (tokens_of text.now)) }
 {
     if 4096 < text.len() {
-        return Lexing::Refused(10, 0);
+        return Err(Refusal::Length);
     }
     let mut n = 0;
     let mut at = 0;
@@ -261,16 +257,16 @@ pub fn lex(text: &[u8], kinds: &mut [u8], starts: &mut [u16]) -> Lexing
             continue;
         }
         match scan(text, at) {
-            Scanned::Good(kind, length) => {
+            Ok((kind, length)) => {
                 kinds[n] = kind;
                 starts[n] = at as u16;
                 n += 1;
                 at += length;
             }
-            Scanned::Bad(number) => return Lexing::Refused(number, at),
+            Err(fault) => return Err(fault.at(at)),
         }
     }
-    Lexing::Tokens(n)
+    Ok(n)
 }
 
 // The value of a token by its start, for any text and any start.
@@ -326,45 +322,45 @@ pub fn name_is(text: &[u8], at: usize, word: &[u8]) -> bool
     spells(text, at, word)
 }
 
-// One more than the length of the string at a place, where it has no escape; else 0.
-fn plain_string(text: &[u8], at: usize) -> usize
-    ensures { (result ≡ 0 → ⊥) → Stand text.now (at + 1) (result - 1) (string_at text.now at) }
+// The length of the string at a place, where it has no escape.
+fn plain_string(text: &[u8], at: usize) -> Option<usize>
+    ensures { IfSome result (λ n. Stand text.now (at + 1) n (string_at text.now at)) }
 {
     let quote = byte_at(text, at);
     if !is_quote(quote) {
-        return 0;
+        return None;
     }
-    let end = unquoted_end(text, at + 1, quote);
+    let start = at + 1;
+    let end = unquoted_end(text, start, quote);
     if byte_at(text, end) == quote {
-        return end - at;
+        return Some(end - start);
     }
-    0
+    None
 }
 
 pub fn string_length(text: &[u8], at: usize) -> usize
     ensures { result ≡ length (string_at text.now at) }
 {
-    let n = plain_string(text, at);
-    if n == 0 {
-        let from = rest(text, at);
-        return plain_length(rest(from, 1), byte_at(from, 0));
+    if let Some(n) = plain_string(text, at) {
+        return n;
     }
-    n - 1
+    let from = rest(text, at);
+    plain_length(rest(from, 1), byte_at(from, 0))
 }
 
 pub fn copy_string(text: &[u8], at: usize, part: &mut [u8]) -> usize
     ensures value { result ≡ length (string_at text.now at) }
     ensures part_after { part.new ≡ sets part.old 0 (string_at text.now at) }
 {
-    let n = plain_string(text, at);
-    if (n == 0) | (part.len() < n) {
-        let from = rest(text, at);
-        return copy_plain(rest(from, 1), byte_at(from, 0), part);
+    if let Some(n) = plain_string(text, at) {
+        if n <= part.len() {
+            let start = at + 1;
+            part[..n].copy_from_slice(&text[start..start + n]);
+            return n;
+        }
     }
-    let start = at + 1;
-    let end = at + n;
-    common::copy_to(part, 0, &text[start..end]);
-    n - 1
+    let from = rest(text, at);
+    copy_plain(rest(from, 1), byte_at(from, 0), part)
 }
 
 pub fn int_value(text: &[u8], at: usize) -> i64

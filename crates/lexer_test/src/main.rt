@@ -3,7 +3,6 @@
 // besides: whether there is an escape, and whether the name is `fold-case`.
 #![tactic(auto)]
 
-use lexer::Lexing;
 use std::io;
 use std::io::{BufReader, BufWriter, Write};
 
@@ -82,13 +81,13 @@ fn answer(to: &mut impl io::Write, text: &[u8]) -> io::Result<()> {
     let mut kinds = [0u8; 4096];
     let mut starts = [0u16; 4096];
     match lexer::lex(text, &mut kinds, &mut starts) {
-        Lexing::Tokens(n) => {
+        Ok(n) => {
             to.write_all(b"0")?;
             put_number(to, n as u64)?;
         }
-        Lexing::Refused(number, place) => {
-            cases::print_decimal(to, number as u64)?;
-            put_number(to, place as u64)?;
+        Err(refusal) => {
+            cases::print_decimal(to, refusal.number() as u64)?;
+            put_number(to, refusal.place() as u64)?;
         }
     }
     put_tokens(to, text, &kinds, &starts)?;

@@ -14,8 +14,8 @@ use Rattle.word.specs.Word.{Bytes}
 use Rattle.opcode.specs.declared.Edition.{Edition}
 use Rattle.lexer.specs.Token.{Token, Placed, kind_of, Lexed, tokens, refused, tokens_of, kinds_of, starts_of}
 use Rattle.lexer.specs.Answer.{lexing_of}
-use Rattle.lexer.specs.declared.Lexing.{Lexing}
-use Rattle.lexer.specs.declared.Lexing.TheVariants as lexing
+use Rattle.lexer.specs.Answer.{Lexing}
+use Rattle.lexer.specs.Answer as lexing
 use Rattle.grammar.specs.Tree.{Tree}
 use Rattle.grammar.specs.Grammar.{Level}
 use Rattle.grammar.specs.Parse.{Result, ok, bad, token_at, kind_at, parse_all}

@@ -5,7 +5,7 @@ use Rattle.common.specs.Choice.{pick}
 use Rattle.opcode.specs.declared.Edition.{Edition}
 use Rattle.lexer.specs.Token.{Token, kind_of, Lexed, tokens, refused, tokens_of}
 use Rattle.lexer.specs.Answer as lexing
-use Rattle.lexer.specs.declared.Lexing.TheVariants.{Refused}
+use Rattle.lexer.specs.Answer.{Refused}
 use Rattle.grammar.specs.Tree.{Tree}
 use Rattle.grammar.specs.Parse.{Result, ok, bad, parse_all}
 use Rattle.grammar.specs.Nesting.{too_deep}

@@ -9,7 +9,6 @@ ghost use Rattle.operands.specs.Patterns.{asks_patterns, patterns_by};
 ghost use Rattle.translator.specs.Emit.{Reads, PlaceOf, read_of};
 
 use grammar::stream;
-use lexer::Lexing;
 
 #[derive(Drop)]
 pub enum Reading {
@@ -67,8 +66,8 @@ fn read_in(
     ensures marks_len_unchanged { (length marks.new ≡ length marks.old) × (length places.new ≡ length places.old) × (length sizes.new ≡ length sizes.old) }
 {
     match lexer::lex(text, marks, starts) {
-        Lexing::Tokens(n) => marked(text, &mut marks[0..n], &starts[0..n], places, sizes),
-        Lexing::Refused(number, place) => Reading::Refused(number, place),
+        Ok(n) => marked(text, &mut marks[0..n], &starts[0..n], places, sizes),
+        Err(refusal) => Reading::Refused(refusal.number(), refusal.place()),
     }
 }
 
@@ -96,14 +95,14 @@ fn place_in(text: &[u8], kinds: &mut [u8], starts: &mut [u16], p: usize) -> usiz
     ensures { PlaceOf text.now p result }
 {
     match lexer::lex(text, kinds, starts) {
-        Lexing::Tokens(n) => {
+        Ok(n) => {
             if p < n {
                 stream::start(starts, p)
             } else {
                 text.len()
             }
         }
-        Lexing::Refused(_, _) => 0,
+        Err(_) => 0,
     }
 }
 

@@ -1,7 +1,8 @@
-use mathlib.Core.Path.{refl, sym, ◌∙◌}
+use mathlib.Core.Path.{refl, sym, ap, ◌∙◌}
 use native.Mathlib.Omega.{arith}
 use lib.ListN.{length-set}
 use Rattle.lexer.proofs.Streams.{goes_first, goes_space, goes_on, lexes_long, lexes_end, lexes_bad}
+use Rattle.lexer.specs.Answer.{number_of_fault, scanned}
 use Rattle.lexer.proofs.lex.Goals as goal
 
 pub returns-then-text-gt4096 : goal.returns-then-text-gt4096
@@ -44,13 +45,13 @@ bounds-starts-n c =
 pub overflow_add-n : goal.overflow_add-n
 overflow_add-n c = let g = c.loop-at.invariant.1 in omega arith
 
-pub overflow_add-at-in-Good : goal.overflow_add-at-in-Good
-overflow_add-at-in-Good c =
+pub overflow_add-at-in-Ok : goal.overflow_add-at-in-Ok
+overflow_add-at-in-Ok c =
     let l = c.loop-at in
     let a = c.args in
     let f = sym c.is_space.ensures ∙ c.if-is_space.false in
-    let q = sym c.scan.ensures ∙ c.in-Good.is in
-    let w = goes_on a.text.now a.kinds.now a.starts.now l.kinds l.starts l.n l.at l.invariant.1 (omega arith) f c.in-Good.kind c.in-Good.length q in
+    let q = sym c.scan.ensures ∙ ap scanned c.in-Ok.is in
+    let w = goes_on a.text.now a.kinds.now a.starts.now l.kinds l.starts l.n l.at l.invariant.1 (omega arith) f c.in-Ok.kind c.in-Ok.length q in
     omega (arith, w.2, l.invariant.0)
 
 pub loop-at-smaller : goal.loop-at-smaller
@@ -58,8 +59,8 @@ loop-at-smaller c =
     let l = c.loop-at in
     let a = c.args in
     let f = sym c.is_space.ensures ∙ c.if-is_space.false in
-    let q = sym c.scan.ensures ∙ c.in-Good.is in
-    let w = goes_on a.text.now a.kinds.now a.starts.now l.kinds l.starts l.n l.at l.invariant.1 (omega arith) f c.in-Good.kind c.in-Good.length q in
+    let q = sym c.scan.ensures ∙ ap scanned c.in-Ok.is in
+    let w = goes_on a.text.now a.kinds.now a.starts.now l.kinds l.starts l.n l.at l.invariant.1 (omega arith) f c.in-Ok.kind c.in-Ok.length q in
     let g = l.invariant.1 in
     omega (arith, w.1, w.2)
 
@@ -68,18 +69,18 @@ loop-at-preserved c =
     let l = c.loop-at in
     let a = c.args in
     let f = sym c.is_space.ensures ∙ c.if-is_space.false in
-    let q = sym c.scan.ensures ∙ c.in-Good.is in
-    let w = goes_on a.text.now a.kinds.now a.starts.now l.kinds l.starts l.n l.at l.invariant.1 (omega arith) f c.in-Good.kind c.in-Good.length q in
+    let q = sym c.scan.ensures ∙ ap scanned c.in-Ok.is in
+    let w = goes_on a.text.now a.kinds.now a.starts.now l.kinds l.starts l.n l.at l.invariant.1 (omega arith) f c.in-Ok.kind c.in-Ok.length q in
     (l.invariant.0, w.0, simp length-set l.invariant.2, simp length-set l.invariant.3)
 
-pub returns-in-Bad : goal.returns-in-Bad
-returns-in-Bad c =
+pub returns-in-Err : goal.returns-in-Err
+returns-in-Err c =
     let l = c.loop-at in
     let a = c.args in
     let f = sym c.is_space.ensures ∙ c.if-is_space.false in
-    let q = sym c.scan.ensures ∙ c.in-Bad.is in
-    let w = lexes_bad a.text.now a.kinds.now a.starts.now l.kinds l.starts l.n l.at l.invariant.0 l.invariant.1 (omega arith) f c.in-Bad.number q in
-    record { value = w.answer; kinds_after = w.kinds; starts_after = w.starts }
+    let q = sym c.scan.ensures ∙ ap scanned c.in-Err.is in
+    let w = lexes_bad a.text.now a.kinds.now a.starts.now l.kinds l.starts l.n l.at l.invariant.0 l.invariant.1 (omega arith) f (number_of_fault c.in-Err.fault) q in
+    record { value = c.at.ensures ∙ w.answer; kinds_after = w.kinds; starts_after = w.starts }
 
 pub returns : goal.returns
 returns c =

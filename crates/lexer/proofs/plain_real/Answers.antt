@@ -25,7 +25,4 @@ returns-then-at-point c =
     let q = and_parts (h && few) (ltb v 1000000000000000) p.0 in
     let o = and_parts h few q.0 in
     let w = and_parts (leb 2 n) (leb n 23) o.1 in
-    λ _. plain_real a.text.now a.at a.whole.end g.result.end a.whole.value v c.requires.3.0 c.requires.3.1 c.requires.2 g.ensures.0 g.ensures.1 (ltb-true a.at a.whole.end o.0) (leb-true 2 n w.0) (leb-true n 23 w.1) (ltb-true v 1000000000000000 q.1) (sym c.ended.ensures ∙ p.1)
-
-pub returns : goal.returns
-returns c = λ n. absurd (n refl)
+    plain_real a.text.now a.at a.whole.end g.result.end a.whole.value v c.requires.3.0 c.requires.3.1 c.requires.2 g.ensures.0 g.ensures.1 (ltb-true a.at a.whole.end o.0) (leb-true 2 n w.0) (leb-true n 23 w.1) (ltb-true v 1000000000000000 q.1) (sym c.ended.ensures ∙ p.1)

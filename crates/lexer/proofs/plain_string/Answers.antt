@@ -8,16 +8,12 @@ use Rattle.lexer.specs.Byte.{is_quote}
 use Rattle.lexer.proofs.Scans.{quote_some, string_stands, is_there}
 use Rattle.lexer.proofs.plain_string.Goals as goal
 
-pub returns-then-not-is_quote : goal.returns-then-not-is_quote
-returns-then-not-is_quote c =
-    λ f. absurd (f refl)
-
 -- a quote stands at the place, so the text goes on there
 quoted : (s : List ℕ) (at q : ℕ) → q ≡ get_or s at 0 → is_quote q ≡ true → get_or s at 0 ≡ 0 → ⊥
 quoted s at q e f z = quote_some q f (e ∙ z)
 
-pub overflow_add-at : goal.overflow_add-at
-overflow_add-at c =
+pub overflow_add-start : goal.overflow_add-start
+overflow_add-start c =
     let t = c.args in
     let z = quoted t.text.now t.at c.byte_at-quote.result c.byte_at-quote.ensures (sym c.is_quote.ensures ∙ c.if-not-is_quote.false) in
     omega (arith, is_there t.text.now t.at z)
@@ -36,7 +32,4 @@ returns-then-byte_at-quote c =
     let some = quoted t.text.now t.at c.byte_at-quote.result q (sym c.is_quote.ensures ∙ c.if-not-is_quote.false) in
     let h = is_there t.text.now u.result (λ z. some (sym e ∙ z)) in
     let p = rw q at u.ensures.1 in
-    λ f. string_stands t.text.now t.at u.result (is_there t.text.now t.at some) u.ensures.0 p h some e
-
-pub returns : goal.returns
-returns c = λ f. absurd (f refl)
+    string_stands t.text.now t.at u.result (is_there t.text.now t.at some) u.ensures.0 p h some e

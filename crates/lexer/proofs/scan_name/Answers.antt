@@ -6,7 +6,7 @@ use Rattle.lexer.specs.Run.{GoesOn, run_of, unescaped, legal_name, is_empty}
 use mathlib.Core.Path.{◌≡◌, ◌∙◌, sym, ap}
 use Rattle.lexer.specs.Token.{scan_name}
 use Rattle.lexer.specs.Answer.{scanned_of}
-use Rattle.lexer.specs.declared.Scanned.TheVariants.{Good}
+use Rattle.lexer.specs.Answer.{Good}
 use Rattle.lexer.proofs.Runs.{rest_later, ended_name}
 use Rattle.lexer.proofs.Scans.{name_over, name_legal}
 use Rattle.lexer.proofs.scan_name.Goals as goal

@@ -39,12 +39,3 @@ returns-then-leads-b c =
     let q = and_parts (a && l) (ltb d.result.value 9223372036854775808) p.0 in
     let o = and_parts a l q.0 in
     long_number t.text.now t.at d.result.end d.result.value (omega arith) d.ensures.0 d.ensures.1 o.0 (rw x.ensures at o.1) (ltb-true d.result.value 9223372036854775808 q.1) (sym c.ended-2.ensures ∙ p.1)
-
-pub returns-then-length-ne0 : goal.returns-then-length-ne0
-returns-then-length-ne0 c = c.plain_real-length.ensures c.if-length-ne0.true
-
-pub returns-then-b-eq46 : goal.returns-then-b-eq46
-returns-then-b-eq46 c = c.again.ensures ∙ c.scan_odd_number.ensures
-
-pub returns : goal.returns
-returns c = c.again-2.ensures ∙ c.scan_odd_number-2.ensures
