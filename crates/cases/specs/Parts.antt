@@ -1,9 +1,11 @@
 -- What reading a part of a case leaves.
-use Rattle.std.specs.Prelude.{ℕ, ◌≤◌, true, false, List, ◌≡◌, length, drop}
-use Rattle.cases.specs.declared.Part.{Part}
+use Rattle.std.specs.Prelude.{ℕ, ◌≤◌, List, ◌≡◌, length, drop, Option, IfSome}
 
--- the part lies at the buffer's start, the bytes behind a whole one stay, and where there is none its length is 0
-pub record Holds (before after : List ℕ) (p : Part) : Type 0 where
-  pub within : p.len ≤ length after
-  pub none : p.whole ≡ false → p.len ≡ 0
-  pub behind : p.whole ≡ true → drop p.len after ≡ drop p.len before
+-- a part of n bytes lies at the buffer's start, and the bytes behind it stay
+pub record Lies (before after : List ℕ) (n : ℕ) : Type 0 where
+  pub within : n ≤ length after
+  pub behind : drop n after ≡ drop n before
+
+-- where there is a part, it lies in the buffer
+abbrev pub Holds : List ℕ → List ℕ → Option ℕ → Type 0
+Holds before after part = IfSome part (Lies before after)

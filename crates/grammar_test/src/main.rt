@@ -5,115 +5,66 @@ ghost use Rattle.postfix.specs.Answer.{Ready};
 
 use postfix::Judged;
 use std::io;
-use std::io::{BufReader, BufWriter, Write};
+use std::io::{Read, Write};
 use translator::read::Reading;
 use translator::{read, write};
 
-fn put_number(to: &mut impl io::Write, n: u64) -> io::Result<()> {
-    cases::print_decimal(to, n)?;
-    to.write_all(b" ")
-}
+// The number and place of a refusal.
+type Refused = (u8, usize);
 
-fn put_refusal(to: &mut impl io::Write, number: u64, place: usize) -> io::Result<()> {
-    put_number(to, number)?;
-    put_number(to, place as u64)?;
-    to.write_all(b"\n")
-}
-
-fn put_sizes(to: &mut impl io::Write, sizes: &[u16], count: usize, j: Judged) -> io::Result<()> {
-    if 4096 < count {
-        return Ok(());
-    }
-    put_number(to, 0)?;
-    put_number(to, j.entries as u64)?;
-    put_number(to, write::pool_length(sizes, count) as u64)?;
-    put_number(to, j.depth as u64)?;
-    to.write_all(b"\n")
-}
-
-fn put_judged(
-    to: &mut impl io::Write,
-    sizes: &[u16],
-    count: usize,
-    patterns: bool,
-    j: Judged,
-) -> io::Result<()> {
-    if !j.forms {
-        put_refusal(to, 4, 0)?;
-        return Ok(());
-    }
-    if !patterns {
-        put_refusal(to, 18, 0)?;
-        return Ok(());
-    }
-    if !(j.kinds & j.logic) {
-        put_refusal(to, 5, 0)?;
-        return Ok(());
-    }
-    if 512 < j.entries {
-        put_refusal(to, 7, 0)?;
-        return Ok(());
-    }
-    put_sizes(to, sizes, count, j)
-}
-
-fn judge(
-    to: &mut impl io::Write,
-    text: &[u8],
-    marks: &[u8],
-    sizes: &[u16],
-    count: usize,
-    patterns: bool,
-) -> io::Result<()>
+// The grammar's part: of marks that fit the parser.
+fn parsed(text: &[u8], marks: &[u8]) -> Result<Judged, Refused>
     requires { Ready marks.now 0 0 }
 {
     let mut codes = [0u16; 512];
-    match postfix::parse(marks, &mut codes) {
-        Err(p) => put_refusal(to, 2, read::place(text, p)),
-        Ok(j) => put_judged(to, sizes, count, patterns, j),
-    }
+    postfix::parse(marks, &mut codes).map_err(|at| (2, read::place(text, at)))
 }
 
-fn lexed(to: &mut impl io::Write, text: &[u8]) -> io::Result<()> {
+// What is refused of a text that keeps the grammar.
+fn accepted(judged: Judged, patterns: bool) -> Result<Judged, Refused> {
+    if !judged.forms {
+        return Err((4, 0));
+    }
+    if !patterns {
+        return Err((18, 0));
+    }
+    if !(judged.kinds & judged.logic) {
+        return Err((5, 0));
+    }
+    if 512 < judged.entries {
+        return Err((7, 0));
+    }
+    Ok(judged)
+}
+
+// The entries, the pool's bytes and the slots of a text's code.
+fn sizes_of(text: &[u8]) -> Result<(usize, usize, usize), Refused> {
     let mut marks = [0u8; 4096];
     let mut places = [0u16; 512];
     let mut sizes = [0u16; 512];
     match read::read(text, &mut marks, &mut places, &mut sizes) {
-        Reading::Refused(number, place) => put_refusal(to, number as u64, place),
-        Reading::Tokens(n, count, patterns) => judge(
-            to,
-            text,
-            &marks[0..n],
-            &sizes,
-            count,
-            patterns,
-        ),
+        Reading::Refused(number, place) => Err((number, place)),
+        Reading::Tokens(n, count, patterns) => {
+            let judged = accepted(parsed(text, &marks[..n])?, patterns)?;
+            let pool = write::pool_length(&sizes, count.min(4096));
+            Ok((judged.entries, pool, judged.depth))
+        }
     }
 }
 
-fn next_case(from: &mut impl io::Read, to: &mut impl io::Write) -> io::Result<bool> {
+// One text. Answers whether there was one.
+fn next_case(from: &mut impl Read, to: &mut impl Write) -> io::Result<bool> {
     let mut text = [0u8; 8192];
-    let part = cases::next_part(from, &mut text)?;
-    if !part.whole {
+    let Some(n) = cases::next_part(from, &mut text)? else {
         return Ok(false);
+    };
+    match sizes_of(&text[..n]) {
+        Ok((entries, pool, slots)) => writeln!(to, "0 {entries} {pool} {slots} ")?,
+        Err((number, place)) => writeln!(to, "{number} {place} ")?,
     }
-    let end = part.len;
-    lexed(to, &text[0..end])?;
     Ok(true)
 }
 
-// Nothing says that the input ends, so the turns are counted down.
-fn all_cases(from: &mut impl io::Read, to: &mut impl io::Write) -> io::Result<()> {
-    let mut turns: u64 = 1000000;
-    while turns > 0 && next_case(from, to)? {
-        turns -= 1;
-    }
-    Ok(())
-}
-
 fn main(rt: HostRuntime) -> io::Result<()> {
-    let mut from = BufReader::new(rt.alloc(), rt.reader())?;
-    let mut to = BufWriter::new(rt.alloc(), io::writer(&rt))?;
-    all_cases(&mut from, &mut to)?;
-    to.flush()
+    cases::run(rt, |from, to| next_case(from, to))
 }

@@ -4,87 +4,47 @@
 // number, place, index and the names looked at, after `other` if halving finds something else than lookup.
 #![tactic(auto)]
 
-ghost use Rattle.std.specs.Prelude.{◌≡◌, IfOk};
+ghost use Rattle.std.specs.Prelude.{◌≡◌};
 ghost use Rattle.notice.specs.Layout.{check_of, Indexed};
-ghost use Rattle.notice.specs.Read.{read_number};
 
 use notice::FoundField;
 use std::io;
-use std::io::{BufReader, BufWriter, Write};
+use std::io::{Read, Write};
 
-fn put(to: &mut impl io::Write, s: &[u8]) -> io::Result<()> {
-    to.write_all(s)
-}
-
-fn put_number(to: &mut impl io::Write, n: u64) -> io::Result<()> {
-    cases::print_decimal(to, n)?;
-    put(to, b" ")
-}
-
-fn put_hex(to: &mut impl io::Write, s: &[u8]) -> io::Result<()> {
+fn put_hex(to: &mut impl Write, s: &[u8]) -> io::Result<()> {
     cases::print_hex(to, s)?;
-    put(to, b" ")
+    write!(to, " ")
 }
 
-fn put_parts<'a>(
-    to: &mut impl io::Write,
-    number: u8,
-    place: usize,
-    kind: u16,
-    name: &'a [u8],
-    value: &'a [u8],
-) -> io::Result<usize>
-    ensures { IfOk result (λ n. n ≡ number) }
-{
-    put_number(to, number as u64)?;
-    put_number(to, place as u64)?;
-    put_number(to, kind as u64)?;
-    put_hex(to, name)?;
-    put_hex(to, value)?;
-    Ok(number as usize)
-}
-
-// Field k as `read` hands it back. Answers the number.
-fn put_field(to: &mut impl io::Write, s: &[u8], k: usize) -> io::Result<usize>
-    ensures { IfOk result (λ n. n ≡ read_number s.now k) }
-{
-    let f = notice::read(s, k);
-    put_parts(to, f.number, f.place, f.kind, f.name, f.value)
-}
-
-fn put_found(to: &mut impl io::Write, s: &[u8], name: &[u8]) -> io::Result<()>
+fn put_found(to: &mut impl Write, s: &[u8], name: &[u8]) -> io::Result<()>
     requires { check_of s.now ≡ Ok tt }
 {
-    let found = notice::lookup(s, name);
-    match found {
+    match notice::lookup(s, name) {
         Some(FoundField { kind, start, len }) => {
-            put_number(to, kind as u64)?;
+            write!(to, "{kind} ")?;
             let a = start as usize;
-            let e = a + len as usize;
-            put_hex(to, notice::part(s, a, e))
+            put_hex(to, notice::part(s, a, a + len as usize))
         }
-        None => put(to, b"- - "),
+        None => write!(to, "- - "),
     }
 }
 
 // Lookup asks for a notice found well-formed, as every one is of which a field was read.
-fn put_checked(to: &mut impl io::Write, s: &[u8], name: &[u8]) -> io::Result<()> {
-    let layout = notice::check(s);
-    match layout {
-        Ok(()) => put_found(to, s, name),
-        Err(_) => Ok(()),
+fn read_case(to: &mut impl Write, s: &[u8], k: usize) -> io::Result<()> {
+    let f = notice::read(s, k);
+    write!(to, "{} {} {} ", f.number, f.place, f.kind)?;
+    put_hex(to, f.name)?;
+    put_hex(to, f.value)?;
+    if f.number == 0 {
+        if let Ok(()) = notice::check(s) {
+            put_found(to, s, f.name)?;
+        }
     }
-}
-
-fn read_case(to: &mut impl io::Write, s: &[u8], k: usize) -> io::Result<()> {
-    if put_field(to, s, k)? == 0 {
-        put_checked(to, s, notice::name_of(s, k))?;
-    }
-    put(to, b"\n")
+    writeln!(to)
 }
 
 fn write_case(
-    to: &mut impl io::Write,
+    to: &mut impl Write,
     buffer: &mut [u8],
     len: usize,
     name: &[u8],
@@ -92,38 +52,33 @@ fn write_case(
     value: &[u8],
 ) -> io::Result<()> {
     let w = notice::write(buffer, len, name, kind, value);
-    put_number(to, w.number as u64)?;
-    put_number(to, w.place as u64)?;
-    put_number(to, w.len as u64)?;
-    put_hex(to, &buffer[..])?;
-    put(to, b"\n")
+    write!(to, "{} {} {} ", w.number, w.place, w.len)?;
+    put_hex(to, buffer)?;
+    writeln!(to)
 }
 
-// What was found, as one number.
-fn packed(found: Found) -> u64 {
-    match found {
-        Some(FoundField { kind, start, len }) => {
-            ((kind as u64) << 32) | ((start as u64) << 16) | (len as u64)
-        }
-        None => 1 << 48,
-    }
+// What was found, as a value that `==` compares.
+fn parts(found: Option<FoundField>) -> Option<(u16, u16, u16)> {
+    found.map(|f| (f.kind, f.start, f.len))
 }
 
 // Nothing is printed where halving and the walk by the starts find what lookup finds.
-fn put_halved(to: &mut impl io::Write, s: &[u8], starts: &[u16; 64], name: &[u8]) -> io::Result<()>
+fn put_halved(to: &mut impl Write, s: &[u8], starts: &[u16; 64], name: &[u8]) -> io::Result<()>
     requires { (check_of s.now ≡ Ok tt) × Indexed s.now starts.now }
 {
-    let found = packed(notice::lookup(s, name));
-    if packed(notice::lookup_in(s, starts, name)) != found {
-        put(to, b"other ")?;
-    }
-    if packed(notice::lookup_along(s, starts, name)) != found {
-        put(to, b"other ")?;
+    let found = parts(notice::lookup(s, name));
+    for other in [
+        notice::lookup_in(s, starts, name),
+        notice::lookup_along(s, starts, name),
+    ] {
+        if parts(other) != found {
+            write!(to, "other ")?;
+        }
     }
     Ok(())
 }
 
-fn put_indexed(to: &mut impl io::Write, s: &[u8], name: &[u8]) -> io::Result<()> {
+fn put_indexed(to: &mut impl Write, s: &[u8], name: &[u8]) -> io::Result<()> {
     let mut starts: [u16; 64] = [0; 64];
     let layout = notice::index(s, &mut starts);
     match layout {
@@ -132,101 +87,73 @@ fn put_indexed(to: &mut impl io::Write, s: &[u8], name: &[u8]) -> io::Result<()>
     }
 }
 
-fn find_case(to: &mut impl io::Write, s: &[u8], name: &[u8]) -> io::Result<()> {
+fn find_case(to: &mut impl Write, s: &[u8], name: &[u8]) -> io::Result<()> {
     put_indexed(to, s, name)?;
     let w = notice::find(s, name);
-    put_number(to, w.number as u64)?;
-    put_number(to, w.place as u64)?;
-    put_number(to, w.index as u64)?;
-    put_number(to, w.looked as u64)?;
-    put(to, b"\n")
+    writeln!(to, "{} {} {} {} ", w.number, w.place, w.index, w.looked)
 }
 
-fn next_read(from: &mut impl io::Read, to: &mut impl io::Write) -> io::Result<bool> {
+fn next_read(from: &mut impl Read, to: &mut impl Write) -> io::Result<bool> {
     let mut s = [0u8; 20000];
-    let m = cases::next_part(from, &mut s)?;
-    if !m.whole {
-        return Ok(false);
-    }
     let mut k = [0u8; 8];
-    let n = cases::next_part(from, &mut k)?;
-    if !n.whole {
+    let Some(n) = cases::next_part(from, &mut s)? else {
         return Ok(false);
-    }
-    let end = m.len;
-    read_case(to, &s[0..end], word::read_u64(&k, 0) as usize)?;
+    };
+    let Some(_) = cases::next_part(from, &mut k)? else {
+        return Ok(false);
+    };
+    read_case(to, &s[..n], word::read_u64(&k, 0) as usize)?;
     Ok(true)
 }
 
-fn next_write(from: &mut impl io::Read, to: &mut impl io::Write) -> io::Result<bool> {
+// Only the last part has to be there: one that is not counts as empty before it.
+fn next_write(from: &mut impl Read, to: &mut impl Write) -> io::Result<bool> {
     let mut buffer = [0u8; 20000];
-    let m = cases::next_part(from, &mut buffer)?;
     let mut len = [0u8; 8];
-    cases::next_part(from, &mut len)?;
     let mut name = [0u8; 100];
-    let n = cases::next_part(from, &mut name)?;
     let mut kind = [0u8; 2];
-    cases::next_part(from, &mut kind)?;
     let mut value = [0u8; 2000];
-    let v = cases::next_part(from, &mut value)?;
-    if !v.whole {
+    let m = cases::next_part(from, &mut buffer)?.unwrap_or(0);
+    cases::next_part(from, &mut len)?;
+    let n = cases::next_part(from, &mut name)?.unwrap_or(0);
+    cases::next_part(from, &mut kind)?;
+    let Some(v) = cases::next_part(from, &mut value)? else {
         return Ok(false);
-    }
-    let end = m.len;
-    let name_end = n.len;
-    let value_end = v.len;
+    };
     write_case(
         to,
-        &mut buffer[0..end],
+        &mut buffer[..m],
         word::read_u64(&len, 0) as usize,
-        &name[0..name_end],
+        &name[..n],
         word::read_u16(&kind, 0),
-        &value[0..value_end],
+        &value[..v],
     )?;
     Ok(true)
 }
 
-fn next_find(from: &mut impl io::Read, to: &mut impl io::Write) -> io::Result<bool> {
+fn next_find(from: &mut impl Read, to: &mut impl Write) -> io::Result<bool> {
     let mut s = [0u8; 20000];
-    let m = cases::next_part(from, &mut s)?;
     let mut name = [0u8; 1000];
-    let n = cases::next_part(from, &mut name)?;
-    if !n.whole {
+    let m = cases::next_part(from, &mut s)?.unwrap_or(0);
+    let Some(n) = cases::next_part(from, &mut name)? else {
         return Ok(false);
-    }
-    let end = m.len;
-    let name_end = n.len;
-    find_case(to, &s[0..end], &name[0..name_end])?;
+    };
+    find_case(to, &s[..m], &name[..n])?;
     Ok(true)
 }
 
-fn next_case(from: &mut impl io::Read, to: &mut impl io::Write) -> io::Result<bool> {
+fn next_case(from: &mut impl Read, to: &mut impl Write) -> io::Result<bool> {
     let mut tag = [0u8; 1];
-    let t = cases::next_part(from, &mut tag)?;
-    if !t.whole {
+    let Some(_) = cases::next_part(from, &mut tag)? else {
         return Ok(false);
+    };
+    match tag[0] {
+        1 => next_read(from, to),
+        3 => next_find(from, to),
+        _ => next_write(from, to),
     }
-    if tag[0] == 1 {
-        return next_read(from, to);
-    }
-    if tag[0] == 3 {
-        return next_find(from, to);
-    }
-    next_write(from, to)
-}
-
-// Nothing says that the input ends, so the turns are counted down.
-fn all_cases(from: &mut impl io::Read, to: &mut impl io::Write) -> io::Result<()> {
-    let mut turns: u64 = 1000000;
-    while turns > 0 && next_case(from, to)? {
-        turns -= 1;
-    }
-    Ok(())
 }
 
 fn main(rt: HostRuntime) -> io::Result<()> {
-    let mut from = BufReader::new(rt.alloc(), rt.reader())?;
-    let mut to = BufWriter::new(rt.alloc(), io::writer(&rt))?;
-    all_cases(&mut from, &mut to)?;
-    to.flush()
+    cases::run(rt, |from, to| next_case(from, to))
 }

@@ -5,108 +5,63 @@
 // Prints the refusal, and what else is answered; of verdicts the whole buffer, the part that is not lent too: it was filled with 0xa5.
 #![tactic(auto)]
 
-ghost use Rattle.std.specs.Prelude.{◌≤◌, length};
-
-use many::Matched;
+use cases::Lent;
 use std::io;
-use std::io::{BufReader, BufWriter, Write};
+use std::io::{Read, Write};
 
-fn put(to: &mut impl io::Write, s: &[u8]) -> io::Result<()> {
-    to.write_all(s)
-}
-
-fn put_number(to: &mut impl io::Write, n: u64) -> io::Result<()> {
-    cases::print_decimal(to, n)?;
-    put(to, b" ")
-}
-
-fn fetch(to: &mut impl io::Write, buffer: &[u8], number: usize) -> io::Result<()> {
+fn fetch(to: &mut impl Write, buffer: &[u8], number: usize) -> io::Result<()> {
     let p = store::find(buffer, number);
-    put_number(to, p.refusal as u64)?;
-    put_number(to, p.start as u64)?;
-    put_number(to, p.end as u64)?;
+    write!(to, "{} {} {} ", p.refusal, p.start, p.end)?;
     cases::print_hex(to, store::fetch(buffer, number))?;
     Ok(())
 }
 
-fn put_matched(to: &mut impl io::Write, m: Matched, verdicts: &[u8]) -> io::Result<()> {
-    put_number(to, m.number as u64)?;
-    put_number(to, m.place as u64)?;
-    cases::print_hex(to, verdicts)?;
-    Ok(())
-}
-
-fn answer<'a>(
-    to: &mut impl io::Write,
-    buffer: &'a [u8],
-    notice: &'a [u8],
-    verdicts: &mut [u8],
-    room: usize,
-) -> io::Result<()>
-    requires { room ≤ length verdicts.old }
-{
-    let m = many::match_store(buffer, notice, &mut verdicts[0..room]);
-    put_matched(to, m, verdicts)
-}
-
-fn match_all<'a>(to: &mut impl io::Write, buffer: &'a [u8], operand: &'a [u8]) -> io::Result<()> {
-    let mut verdicts = [0xa5u8; 72];
-    let n = operand.len();
-    if n < 2 {
+fn match_all(to: &mut impl Write, buffer: &[u8], operand: &[u8]) -> io::Result<()> {
+    let mut verdicts = [cases::FILL; 72];
+    if operand.len() < 2 {
         return Ok(());
     }
     let room = word::read_u16(operand, 0) as usize;
-    if 72 < room {
+    if verdicts.len() < room {
         return Ok(());
     }
-    answer(to, buffer, &operand[2..n], &mut verdicts, room)
+    let m = many::match_store(buffer, &operand[2..], &mut verdicts[..room]);
+    write!(to, "{} {} ", m.number, m.place)?;
+    cases::print_hex(to, &verdicts)?;
+    Ok(())
 }
 
 fn put_byte(buffer: &mut [u8], at: usize, operand: &[u8]) {
-    if operand.len() < 9 {
-        return;
+    if at < buffer.len() && 9 <= operand.len() {
+        buffer[at] = operand[8];
     }
-    if buffer.len() <= at {
-        return;
-    }
-    buffer[at] = operand[8];
 }
 
 fn call(
-    to: &mut impl io::Write,
+    to: &mut impl Write,
     buffer: &mut [u8],
     what: u8,
     n: usize,
     operand: &[u8],
 ) -> io::Result<()> {
-    if what == b'm' {
-        put_number(to, store::make(buffer) as u64)?;
-        return Ok(());
+    match what {
+        b'm' => write!(to, "{} ", store::make(buffer)),
+        b'a' => {
+            let a = store::add(buffer, operand);
+            write!(to, "{} {} ", a.refusal, a.number)
+        }
+        b'r' => write!(to, "{} ", store::remove(buffer, n)),
+        b'f' => fetch(to, buffer, n),
+        b'n' => match_all(to, buffer, operand),
+        b'b' => {
+            put_byte(buffer, n, operand);
+            Ok(())
+        }
+        _ => {
+            cases::print_hex(to, buffer)?;
+            Ok(())
+        }
     }
-    if what == b'a' {
-        let a = store::add(buffer, operand);
-        put_number(to, a.refusal as u64)?;
-        put_number(to, a.number as u64)?;
-        return Ok(());
-    }
-    if what == b'r' {
-        put_number(to, store::remove(buffer, n) as u64)?;
-        return Ok(());
-    }
-    if what == b'f' {
-        fetch(to, buffer, n)?;
-        return Ok(());
-    }
-    if what == b'n' {
-        match_all(to, buffer, operand)?;
-        return Ok(());
-    }
-    if what == b'b' {
-        put_byte(buffer, n, operand);
-        return Ok(());
-    }
-    cases::print_hex(to, buffer)?;
-    Ok(())
 }
 
 fn number_of(operand: &[u8]) -> usize {
@@ -116,52 +71,31 @@ fn number_of(operand: &[u8]) -> usize {
     word::read_u64(operand, 0) as usize
 }
 
-// One call on the first `lent` bytes. Answers how many the next one is lent, or more than there are at the input's end.
+// One call on the part that is lent. Answers whether there was one, with no more lent than there is.
 fn next_call(
-    from: &mut impl io::Read,
-    to: &mut impl io::Write,
-    buffer: &mut [u8],
-    lent: usize,
-) -> io::Result<usize> {
+    from: &mut impl Read,
+    to: &mut impl Write,
+    lent: &mut Lent<65600>,
+) -> io::Result<bool> {
     let mut what = [0u8; 1];
-    let mut operand = [0u8; 20480];
-    let first = cases::next_part(from, &mut what)?;
-    let second = cases::next_part(from, &mut operand)?;
-    if !(first.whole & second.whole) {
-        return Ok(65601);
+    let mut buffer = [0u8; 20480];
+    let Some(_) = cases::next_part(from, &mut what)? else {
+        return Ok(false);
+    };
+    let Some(end) = cases::next_part(from, &mut buffer)? else {
+        return Ok(false);
+    };
+    let operand = &buffer[..end];
+    let n = number_of(operand);
+    if what[0] == b'm' && !lent.resize(n) {
+        return Ok(false);
     }
-    let end = second.len;
-    let n = number_of(&operand[0..end]);
-    let mut room = lent;
-    if what[0] == b'm' {
-        room = n;
-    }
-    if buffer.len() < room {
-        return Ok(65601);
-    }
-    call(to, &mut buffer[0..room], what[0], n, &operand[0..end])?;
-    put(to, b"\n")?;
-    Ok(room)
-}
-
-// Nothing says that the input ends, so the turns are counted down.
-fn all_calls(from: &mut impl io::Read, to: &mut impl io::Write) -> io::Result<()> {
-    let mut buffer = [0xa5u8; 65600];
-    let mut lent: usize = 0;
-    let mut turns: u64 = 1000000;
-    while 0 < turns {
-        lent = next_call(from, to, &mut buffer, lent)?;
-        if 65600 < lent {
-            return Ok(());
-        }
-        turns -= 1;
-    }
-    Ok(())
+    call(to, lent.bytes(), what[0], n, operand)?;
+    writeln!(to)?;
+    Ok(true)
 }
 
 fn main(rt: HostRuntime) -> io::Result<()> {
-    let mut from = BufReader::new(rt.alloc(), rt.reader())?;
-    let mut to = BufWriter::new(rt.alloc(), io::writer(&rt))?;
-    all_calls(&mut from, &mut to)?;
-    to.flush()
+    let mut lent = Lent::new(cases::FILL);
+    cases::run(rt, |from, to| next_call(from, to, &mut lent))
 }

@@ -7,90 +7,47 @@ use notice::FoundField;
 use opcode::groups::Group;
 use opcode::{Change, Edition, Many, groups};
 use std::io;
-use std::io::{BufReader, BufWriter, Write};
+use std::io::{BufReader, BufWriter, Read, Write};
 use truth::Truth;
 use value::{Held, Piece, Slot, Typed};
 
-fn put(to: &mut impl io::Write, s: &[u8]) -> io::Result<()> {
-    to.write_all(s)
-}
-
-fn put_bits(to: &mut impl io::Write, n: u64) -> io::Result<()> {
-    cases::print_bits(to, n)
-}
-
-fn put_bytes(to: &mut impl io::Write, s: &[u8], mark: bool) -> io::Result<()> {
-    if s.len() == 0 {
-        put(to, b"-")?;
+// The bytes in hex, under their folding mark.
+fn put_piece(to: &mut impl Write, pool: &[u8], notice: &[u8], p: Piece) -> io::Result<()> {
+    let s = value::fetch(pool, notice, p);
+    if s.is_empty() {
+        write!(to, "-")?;
     }
-    let mut i = 0;
-    while i < s.len() {
-        cases::print_byte(to, octets::fold(mark, s[i]))?;
-        i += 1;
+    for b in s {
+        write!(to, "{:02x}", octets::fold(p.folded, *b))?;
     }
     Ok(())
 }
 
-fn put_piece<'a>(
-    to: &mut impl io::Write,
-    pool: &'a [u8],
-    notice: &'a [u8],
-    p: Piece,
-) -> io::Result<()> {
-    put_bytes(to, value::fetch(pool, notice, p), p.folded)
-}
-
-fn put_value<'a>(
-    to: &mut impl io::Write,
-    pool: &'a [u8],
-    notice: &'a [u8],
-    v: Typed,
-) -> io::Result<()> {
+fn put_value(to: &mut impl Write, pool: &[u8], notice: &[u8], v: Typed) -> io::Result<()> {
     match v {
-        Typed::Bottom => put(to, b"bottom"),
-        Typed::Int32(x) => {
-            put(to, b"int32 ")?;
-            put_bits(to, word::bits_of_i32(x) as u64)
-        }
-        Typed::Int64(x) => {
-            put(to, b"int64 ")?;
-            put_bits(to, word::bits_of_i64(x))
-        }
-        Typed::Real(x) => {
-            put(to, b"real64 ")?;
-            put_bits(to, number::bits_of_real(x))
-        }
+        Typed::Bottom => write!(to, "bottom"),
+        Typed::Int32(x) => write!(to, "int32 {:016x}", word::bits_of_i32(x)),
+        Typed::Int64(x) => write!(to, "int64 {:016x}", word::bits_of_i64(x)),
+        Typed::Real(x) => write!(to, "real64 {:016x}", number::bits_of_real(x)),
         Typed::Text(p) => {
-            put(to, b"string ")?;
+            write!(to, "string ")?;
             put_piece(to, pool, notice, p)
         }
         Typed::Opaque(p) => {
-            put(to, b"opaque ")?;
+            write!(to, "opaque ")?;
             put_piece(to, pool, notice, p)
         }
     }
 }
 
-fn put_truth(to: &mut impl io::Write, t: Truth) -> io::Result<()> {
-    match t {
-        Truth::True => put(to, b"true"),
-        Truth::Bottom => put(to, b"bottom"),
-        Truth::False => put(to, b"false"),
-    }
-}
-
-fn put_slot<'a>(
-    to: &mut impl io::Write,
-    pool: &'a [u8],
-    notice: &'a [u8],
-    s: Slot,
-) -> io::Result<()> {
-    let h = s.held;
-    match h {
-        Held::Logic(t) => put_truth(to, t)?,
+fn put_slot(to: &mut impl Write, pool: &[u8], notice: &[u8], s: Slot) -> io::Result<()> {
+    match s.held {
+        Held::Logic(Truth::True) => write!(to, "true")?,
+        Held::Logic(Truth::Bottom) => write!(to, "bottom")?,
+        Held::Logic(Truth::False) => write!(to, "false")?,
         Held::Value(v) => put_value(to, pool, notice, v)?,
     }
-    put(to, b"\n")
+    writeln!(to)
 }
 
 fn truth_of(rank: u16) -> Truth {
@@ -101,7 +58,7 @@ fn truth_of(rank: u16) -> Truth {
     }
 }
 
-fn folded<'a>(pool: &'a [u8], notice: &'a [u8], number: u16, s: Slot) -> Slot {
+fn folded(pool: &[u8], notice: &[u8], number: u16, s: Slot) -> Slot {
     if number < 256 {
         return s;
     }
@@ -109,7 +66,7 @@ fn folded<'a>(pool: &'a [u8], notice: &'a [u8], number: u16, s: Slot) -> Slot {
 }
 
 // A name that lies beyond the pool, and in a notice that is not well-formed every name, is missing.
-fn load_name<'a>(pool: &'a [u8], notice: &'a [u8], a: u16, b: u64) -> Slot {
+fn load_name(pool: &[u8], notice: &[u8], a: u16, b: u64) -> Slot {
     let missing = value::missing();
     if pool.len() < (b % 65536) as usize + a as usize {
         return missing;
@@ -129,7 +86,7 @@ fn load_name<'a>(pool: &'a [u8], notice: &'a [u8], a: u16, b: u64) -> Slot {
 }
 
 // The operand of entry i; bottom where there is none.
-fn operand<'a>(pool: &'a [u8], notice: &'a [u8], entries: &'a [u8], i: usize) -> Slot {
+fn operand(pool: &[u8], notice: &[u8], entries: &[u8], i: usize) -> Slot {
     if entries.len() / 12 <= i {
         return value::decided(Truth::Bottom);
     }
@@ -148,31 +105,23 @@ fn operand<'a>(pool: &'a [u8], notice: &'a [u8], entries: &'a [u8], i: usize) ->
 }
 
 // The later operands, one after the other.
-fn many<'a>(pool: &'a [u8], notice: &'a [u8], op: Many, entries: &'a [u8], count: usize) -> Slot {
+fn many(pool: &[u8], notice: &[u8], op: Many, entries: &[u8], count: usize) -> Slot {
     let first = operand(pool, notice, entries, 0);
     let mut known = value::start(op, first);
-    let mut i = 1;
-    while i < count {
-        known = value::more(
-            pool,
-            notice,
-            op,
-            first,
-            known,
-            operand(pool, notice, entries, i),
-        );
-        i += 1;
+    for i in 1..count {
+        let next = operand(pool, notice, entries, i);
+        known = value::more(pool, notice, op, first, known, next);
     }
     value::decided(known)
 }
 
 // The op of a number below 256 on the operands.
-fn operate<'a>(
-    pool: &'a [u8],
-    notice: &'a [u8],
+fn operate(
+    pool: &[u8],
+    notice: &[u8],
     edition: Edition,
     number: u16,
-    entries: &'a [u8],
+    entries: &[u8],
     count: usize,
 ) -> Slot {
     let s = operand(pool, notice, entries, 0);
@@ -202,48 +151,23 @@ fn edition_of(number: u16) -> Edition {
 }
 
 // Answers whether there was a case.
-fn next_case<'a>(
-    from: &mut impl io::Read,
-    to: &mut impl io::Write,
-    pool: &'a [u8],
-    notice: &'a [u8],
+fn next_case(
+    from: &mut impl Read,
+    to: &mut impl Write,
+    pool: &[u8],
+    notice: &[u8],
 ) -> io::Result<bool> {
     let mut entries = [0u8; 120];
-    let p = cases::next_part(from, &mut entries)?;
-    let n = p.len;
+    let n = cases::next_part(from, &mut entries)?.unwrap_or(0);
     if n < 12 {
         return Ok(false);
     }
     let count = n / 12 - 1;
     let number = word::read_u16(&entries, count * 12);
-    put_slot(
-        to,
-        pool,
-        notice,
-        operate(
-            pool,
-            notice,
-            edition_of(number),
-            number % 256,
-            &entries,
-            count,
-        ),
-    )?;
+    let edition = edition_of(number);
+    let slot = operate(pool, notice, edition, number % 256, &entries, count);
+    put_slot(to, pool, notice, slot)?;
     Ok(true)
-}
-
-// Nothing says that the input ends, so the turns are counted down.
-fn all_cases<'a>(
-    from: &mut impl io::Read,
-    to: &mut impl io::Write,
-    pool: &'a [u8],
-    notice: &'a [u8],
-) -> io::Result<()> {
-    let mut turns: u64 = 1000000;
-    while turns > 0 && next_case(from, to, pool, notice)? {
-        turns -= 1;
-    }
-    Ok(())
 }
 
 fn main(rt: HostRuntime) -> io::Result<()> {
@@ -251,10 +175,10 @@ fn main(rt: HostRuntime) -> io::Result<()> {
     let mut to = BufWriter::new(rt.alloc(), io::writer(&rt))?;
     let mut pool = [0u8; 1024];
     let mut notice = [0u8; 2048];
-    let p = cases::next_part(&mut from, &mut pool)?;
-    let q = cases::next_part(&mut from, &mut notice)?;
-    let m = p.len;
-    let n = q.len;
-    all_cases(&mut from, &mut to, &pool[0..m], &notice[0..n])?;
+    let m = cases::next_part(&mut from, &mut pool)?.unwrap_or(0);
+    let n = cases::next_part(&mut from, &mut notice)?.unwrap_or(0);
+    cases::all(&mut from, &mut to, |from, to| {
+        next_case(from, to, &pool[..m], &notice[..n])
+    })?;
     to.flush()
 }

@@ -1,8 +1,0 @@
-use native.Mathlib.Omega.{arith}
-use Rattle.translator_test.proofs.kept.Goals as goal
-
-pub loop-i-smaller : goal.loop-i-smaller
-loop-i-smaller c = omega arith
-
-pub loop-i-preserved : goal.loop-i-preserved
-loop-i-preserved c = omega arith
