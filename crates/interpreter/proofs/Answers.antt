@@ -21,11 +21,10 @@ use Rattle.table.proofs.Reading.{length_entries}
 use Rattle.value.specs.Value.{truth_in}
 use Rattle.value.specs.Held.{item_of}
 use Rattle.interpreter.specs.declared.Machine.{Machine}
-use Rattle.interpreter.specs.declared.Ran.{Ran}
 use Rattle.interpreter.specs.Run.{State, slot_at, after, run_of, verdict_of}
 use Rattle.interpreter.specs.Undecided.{undecided_after, undecided_of}
 use Rattle.interpreter.specs.Machine.{blank, stack_of, state_of, Visited}
-use Rattle.interpreter.specs.Running.{refused, answer_of, on_layout, running_of}
+use Rattle.interpreter.specs.Running.{RunAnswer, refused, answer_of, on_layout, running_of}
 use Rattle.interpreter.proofs.Visits.{as_many}
 use Rattle.interpreter.proofs.Theorems.{run_ends}
 
@@ -70,7 +69,7 @@ module _ (table notice : List ℕ) where
         ∙ ap verdict_of last
 
     pub answer_is : (v : Truth) → v ≡ truth_in (item_of (pool_of table) notice (get_or m.stack 0 blank).held)
-        → ◌≡◌ {A = Ran} (record { number = 0; place = 0; verdict = v; steps = m.steps; undecided = m.undecided }) (answer_of (decode table) notice)
+        → ◌≡◌ {A = RunAnswer} (record { number = 0; place = 0; verdict = v; steps = m.steps; undecided = m.undecided }) (answer_of (decode table) notice)
     answer_is v e =
         let p : v ≡ verdict_of (run_of (decode table) notice) = e ∙ verdict_is in
         let q : m.steps ≡ (run_of (decode table) notice).steps = ap (λ (s : State). s.steps) last in

@@ -1,7 +1,7 @@
 // The run of a table on a notice. Document 01, "Table" (the run) and "Refusals by number" (running).
 #![tactic(auto)]
 
-ghost use Rattle.std.specs.Prelude.{◌≡◌, true, cond, ◌&&◌, List, ℕ, ◌+◌, ◌-◌, ◌*◌, ◌/◌, ◌≤◌, ◌<◌, eqb, ltb};
+ghost use Rattle.std.specs.Prelude.{◌≡◌, true, cond, ◌&&◌, List, ℕ, ◌+◌, ◌-◌, ◌*◌, ◌/◌, ◌≤◌, ◌<◌, eqb, ltb, Ok};
 ghost use Rattle.notice.specs.Layout.{check_of as noticeCheck, Indexed};
 ghost use Rattle.table.specs.Table.{decode};
 ghost use Rattle.table.specs.Check.{check_of};
@@ -9,11 +9,12 @@ ghost use Rattle.value.specs.Value.{is_bottom};
 ghost use Rattle.value.specs.Held.{item_in};
 ghost use Rattle.interpreter.specs.Run.{skips};
 ghost use Rattle.interpreter.specs.Machine.{limit_of, Visited};
-ghost use Rattle.interpreter.specs.Running.{refused as refusedWith, answer_of, running_of};
+ghost use Rattle.interpreter.specs.Running.{answered, answer_of, running_of};
 
 use notice::FoundField;
 use opcode::groups::Group;
 use opcode::{Skip, groups};
+use refusal::Refusal;
 use truth::Truth;
 use value::{Held, Slot};
 
@@ -252,26 +253,12 @@ pub fn run_indexed<'a>(
     }
 }
 
-// "Running answers number, place, verdict (bottom if refused) and steps (0 if refused)."; and the first undecided entry (document 02, request 7).
-#[derive(Drop)]
+// "Running answers number, place, verdict (bottom if refused) and steps (0 if refused)." This is a run that is not refused; and the first undecided entry (document 02, request 7).
+#[derive(Clone, Copy)]
 pub struct Ran {
-    pub number: u8,
-    pub place: usize,
     pub verdict: Truth,
     pub steps: usize,
     pub undecided: u16,
-}
-
-fn refused(number: u8, place: usize) -> Ran
-    ensures { result ≡ refusedWith number place }
-{
-    Ran {
-        number: number,
-        place: place,
-        verdict: Truth::Bottom,
-        steps: 0,
-        undecided: 65535,
-    }
 }
 
 // The same for a caller who has no starts: it makes them.
@@ -287,15 +274,13 @@ pub fn run_checked<'a>(table: &'a [u8], notice: &'a [u8], budget: usize) -> Mach
 // The whole run, with what `run_indexed` asks: "At N it ends and the one slot is the verdict."
 pub fn run_whole<'a>(table: &'a [u8], notice: &'a [u8], starts: &[u16; 64]) -> Ran
     requires { (check_of table.now ≡ true) × (noticeCheck notice.now ≡ Ok tt) × Indexed notice.now starts.now }
-    ensures { result ≡ answer_of (decode table.now) notice.now }
+    ensures { answered (Ok result) ≡ answer_of (decode table.now) notice.now }
 {
     let n = table::count(table);
     let m = run_indexed(table, notice, starts, n);
     let slot = m.stack[0];
     let verdict = value::truth_in(slot);
     Ran {
-        number: 0,
-        place: 0,
         verdict: verdict,
         steps: m.steps,
         undecided: m.undecided,
@@ -304,24 +289,21 @@ pub fn run_whole<'a>(table: &'a [u8], notice: &'a [u8], starts: &[u16; 64]) -> R
 
 // The guarded run of a kept table, one that is known to pass the check, on any bytes as notice: 11 with its place if the notice check fails, else verdict and steps.
 // The check is lent the notice as a part made anew: lent as it came, it would be copied right after it was stored, which the processor waits for.
-pub fn run_kept<'a>(table: &'a [u8], notice: &'a [u8]) -> Ran
+pub fn run_kept<'a>(table: &'a [u8], notice: &'a [u8]) -> Result<Ran, Refusal>
     requires { check_of table.now ≡ true }
-    ensures { result ≡ running_of table.now notice.now }
+    ensures { answered result ≡ running_of table.now notice.now }
 {
     let mut starts: [u16; 64] = [0; 64];
-    let layout = notice::index(&notice[0..], &mut starts);
-    match layout {
-        Ok(()) => run_whole(table, notice, &starts),
-        Err(r) => refused(r.number(), r.place()),
-    }
+    notice::index(&notice[0..], &mut starts)?;
+    Ok(run_whole(table, notice, &starts))
 }
 
 // The guarded run, for any bytes: 12 if the table check fails, else as of a kept table.
-pub fn run<'a>(table: &'a [u8], notice: &'a [u8]) -> Ran
-    ensures { result ≡ running_of table.now notice.now }
+pub fn run<'a>(table: &'a [u8], notice: &'a [u8]) -> Result<Ran, Refusal>
+    ensures { answered result ≡ running_of table.now notice.now }
 {
     if !table::check(table) {
-        return refused(12, 0);
+        return Err(Refusal::Table);
     }
     run_kept(table, notice)
 }

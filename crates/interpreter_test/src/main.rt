@@ -14,16 +14,16 @@ fn name_of(t: Truth) -> &'static str {
 }
 
 fn answer(to: &mut impl Write, table: &[u8], notice: &[u8]) -> io::Result<()> {
-    let ran = interpreter::run(table, notice);
-    writeln!(
-        to,
-        "{} {} {} {} {}",
-        ran.number,
-        ran.place,
-        name_of(ran.verdict),
-        ran.steps,
-        ran.undecided
-    )
+    match interpreter::run(table, notice) {
+        Ok(ran) => writeln!(
+            to,
+            "0 0 {} {} {}",
+            name_of(ran.verdict),
+            ran.steps,
+            ran.undecided
+        ),
+        Err(r) => writeln!(to, "{} {} bottom 0 65535", r.number(), r.place()),
+    }
 }
 
 // One table and one notice. Answers whether there were both.

@@ -57,13 +57,7 @@ fn put_words(to: &mut impl Write) -> io::Result<()> {
     )
 }
 
-fn compare(
-    to: &mut impl Write,
-    s: &[u8],
-    s_mark: bool,
-    t: &[u8],
-    t_mark: bool,
-) -> io::Result<()> {
+fn compare(to: &mut impl Write, s: &[u8], s_mark: bool, t: &[u8], t_mark: bool) -> io::Result<()> {
     for holds in [
         octets::same(s, s_mark, t, t_mark),
         octets::before(s, s_mark, t, t_mark),

@@ -15,8 +15,7 @@ use Rattle.common.specs.Choice.{pick}
 use Rattle.refusal.proofs.Numbers.{refuses}
 use Rattle.notice.specs.Layout.{check_of as noticeCheck}
 use Rattle.notice.specs.Layout.{Layout}
-use Rattle.interpreter.specs.Running.{running_of}
-use Rattle.interpreter.specs.declared.Ran.{Ran}
+use Rattle.interpreter.specs.Running.{RunAnswer, running_of}
 use Rattle.store.specs.declared.Part.{Part}
 use Rattle.store.specs.Layout.{right_of, places_in}
 use Rattle.store.specs.Calls.{held_refusal}
@@ -89,7 +88,7 @@ one_by_one tables notice verdicts after r d z =
     let c = all_counted tables notice verdicts after r d z in
     (c, omega (arith, (few tables notice verdicts after r d z).0), one)
   where
-    one : (i : ℕ) (ran : Ran) → i < r.count → ran ≡ running_of (get_or (stretches_of tables) i []) notice → get_or after i 0 ≡ verdict_byte ran
+    one : (i : ℕ) (ran : RunAnswer) → i < r.count → ran ≡ running_of (get_or (stretches_of tables) i []) notice → get_or after i 0 ≡ verdict_byte ran
     one i ran h e =
         let f : List ℕ → ℕ = λ t. verdict_byte (running_of t notice) in
         let l : i < length (verdicts_of tables notice) = omega (arith, all_counted tables notice verdicts after r d z, one_each tables notice verdicts after r d z) in

@@ -15,8 +15,7 @@ use Rattle.refusal.specs.Refusal.{number_of as refusal_number, place_of as refus
 use Rattle.refusal.proofs.Numbers.{not_zero}
 use Rattle.notice.specs.Layout.{check_of as noticeCheck}
 use Rattle.table.specs.Check.{check_of as tableCheck}
-use Rattle.interpreter.specs.declared.Ran.{Ran}
-use Rattle.interpreter.specs.Running.{running_of}
+use Rattle.interpreter.specs.Running.{RunAnswer, running_of}
 use Rattle.interpreter.proofs.Answers.{table_refused}
 use Rattle.many.specs.declared.Delivered.{Delivered}
 use Rattle.many.specs.Many.{stretches_of, verdict_byte, verdicts_of, Delivers}
@@ -32,7 +31,7 @@ module _ (table notice : List ℕ) where
   pub byte_refused : tableCheck table ≡ false → 3 ≡ verdict_byte (running_of table notice)
   byte_refused e = ap verdict_byte (table_refused table notice e)
 
-  pub byte_ran : (r : Ran) → r ≡ running_of table notice → r.number ≡ 0 → verdictNumber r.verdict ≡ verdict_byte (running_of table notice)
+  pub byte_ran : (r : RunAnswer) → r ≡ running_of table notice → r.number ≡ 0 → verdictNumber r.verdict ≡ verdict_byte (running_of table notice)
   byte_ran r e z = sym (rw (eq-eqb r.number 0 z)) ∙ ap verdict_byte e
 
 -- ---- the walk of `deliver`

@@ -7,8 +7,7 @@ use Rattle.word.specs.Word.{word_at}
 use Rattle.truth.specs.Truth.{number_of as verdictNumber}
 use Rattle.notice.specs.Layout.{check_of as noticeCheck, number_of, place_of}
 use Rattle.notice.specs.Layout.{Layout}
-use Rattle.interpreter.specs.Running.{running_of}
-use Rattle.interpreter.specs.declared.Ran.{Ran}
+use Rattle.interpreter.specs.Running.{RunAnswer, running_of}
 use Rattle.many.specs.declared.Delivered.{Delivered}
 
 -- ---- the tables
@@ -29,7 +28,7 @@ stretches_of s = stretches_from (length s) s
 -- ---- the verdicts
 
 -- "0 false, 1 true, 2 bottom, 3 table refused"
-abbrev pub verdict_byte : Ran → ℕ
+abbrev pub verdict_byte : RunAnswer → ℕ
 verdict_byte r = cond (eqb r.number 0) (verdictNumber r.verdict) 3
 
 -- "the same as calling one by one": the guarded run of each

@@ -1,7 +1,6 @@
 -- What holds of many tables. The proofs are in proofs/Theorems.antt, under the same names.
 use Rattle.std.specs.Prelude.{ℕ, ◌≤◌, ◌<◌, ◌≡◌, List, [], ◌∷◌, ◌++◌, length, get_or, drop}
-use Rattle.interpreter.specs.Running.{running_of}
-use Rattle.interpreter.specs.declared.Ran.{Ran}
+use Rattle.interpreter.specs.Running.{RunAnswer, running_of}
 use Rattle.store.specs.Calls.{part_of, fetched_of}
 use Rattle.store.specs.declared.Part.{Part}
 use Rattle.many.specs.Many.{stretches_of, verdict_byte, Delivers}
@@ -22,7 +21,7 @@ abbrev pub OneByOne : Type 0
 OneByOne =
     (tables notice verdicts after : List ℕ) (r : Delivered) → Delivers tables notice verdicts after r → r.number ≡ 0 →
     (r.count ≡ length (stretches_of tables)) × (r.count ≤ 64)
-    × ((i : ℕ) (ran : Ran) → i < r.count → ran ≡ running_of (get_or (stretches_of tables) i []) notice → get_or after i 0 ≡ verdict_byte ran)
+    × ((i : ℕ) (ran : RunAnswer) → i < r.count → ran ≡ running_of (get_or (stretches_of tables) i []) notice → get_or after i 0 ≡ verdict_byte ran)
 
 -- "Bytes past the last verdict stay."
 abbrev pub PastStays : Type 0
@@ -37,7 +36,7 @@ StoreOneByOne =
     (store notice verdicts after : List ℕ) (r : Matched) → Matches store notice verdicts after r → r.number ≡ 0 →
     (n : ℕ) (p : Part) → n < 64 → p ≡ part_of store n →
     ((p.refusal ≡ 0 → ⊥) → get_or after n 0 ≡ 4)
-    × (p.refusal ≡ 0 → (table : List ℕ) (ran : Ran) → table ≡ fetched_of store n → ran ≡ running_of table notice → get_or after n 0 ≡ verdict_byte ran)
+    × (p.refusal ≡ 0 → (table : List ℕ) (ran : RunAnswer) → table ≡ fetched_of store n → ran ≡ running_of table notice → get_or after n 0 ≡ verdict_byte ran)
 
 -- Bytes past the 64 stay.
 abbrev pub StorePastStays : Type 0

@@ -15,8 +15,7 @@ use Rattle.notice.specs.Layout.{Layout}
 use Rattle.notice.proofs.Faults.{fault_number}
 use Rattle.notice.specs.Layout.{check_of as noticeCheck}
 use Rattle.table.specs.Check.{check_of as tableCheck}
-use Rattle.interpreter.specs.declared.Ran.{Ran}
-use Rattle.interpreter.specs.Running.{running_of}
+use Rattle.interpreter.specs.Running.{RunAnswer, running_of}
 use Rattle.interpreter.proofs.Answers.{notice_refused, neither_refused}
 use Rattle.quorum.specs.declared.Turn.{Turn}
 use Rattle.quorum.specs.declared.Turn.TheVariants.{Keep, Add, Refuse}
@@ -57,8 +56,8 @@ run_number : (table notice : List ℕ) → tableCheck table ≡ true → 1 ≤ (
 run_number table notice e h = go (noticeCheck notice) refl
   where
     go : (l : Layout) → noticeCheck notice ≡ l → (running_of table notice).number ≡ 11
-    go (Ok u) q = let z : (running_of table notice).number ≡ 0 = ap (λ (r : Ran). r.number) (sym (neither_refused table notice e q)) in absurd (omega arith)
-    go (Err r) q = ap (λ (a : Ran). a.number) (sym (notice_refused table notice r e q)) ∙ fault_number notice r q
+    go (Ok u) q = let z : (running_of table notice).number ≡ 0 = ap (λ (r : RunAnswer). r.number) (sym (neither_refused table notice e q)) in absurd (omega arith)
+    go (Err r) q = ap (λ (a : RunAnswer). a.number) (sym (notice_refused table notice r e q)) ∙ fault_number notice r q
 
 module _ (s notice after : List ℕ) (a : Shown) (h : Holding s) (w : Shows s notice after a) where
   abbrev event : Event

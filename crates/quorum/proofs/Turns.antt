@@ -13,8 +13,7 @@ use Rattle.common.specs.Choice.{pick}
 use Rattle.common.proofs.Choice.{true_false}
 use Rattle.truth.specs.Truth.{is_true}
 use Rattle.notice.specs.Layout.{check_of as noticeCheck}
-use Rattle.interpreter.specs.declared.Ran.{Ran}
-use Rattle.interpreter.specs.Running.{running_of}
+use Rattle.interpreter.specs.Running.{RunAnswer, running_of}
 use Rattle.interpreter.proofs.Answers.{ran_well}
 use Rattle.quorum.specs.declared.Turn.{Turn}
 use Rattle.quorum.specs.declared.Turn.TheVariants.{Keep, Add, Refuse}
@@ -41,9 +40,9 @@ module _ (v : List ℕ) (vs : List (List ℕ)) where
 
 -- ---- a notice, by what its run answers
 
-module _ (d : Decision) (notice : List ℕ) (r : Ran) (e : r ≡ running_of d.table notice) where
+module _ (d : Decision) (notice : List ℕ) (r : RunAnswer) (e : r ≡ running_of d.table notice) where
   with_run : turn_by r (λ _. staff_turn (staff_of notice) d.values) ≡ turn_of d notice
-  with_run = ap (λ (x : Ran). turn_by x (λ _. staff_turn (staff_of notice) d.values)) e
+  with_run = ap (λ (x : RunAnswer). turn_by x (λ _. staff_turn (staff_of notice) d.values)) e
 
   pub run_refused : (r.number ≡ 0 → ⊥) → Refuse r.number r.place ≡ turn_of d notice
   run_refused n = sym (rw (ne_eqb r.number 0 n)) ∙ with_run
@@ -136,9 +135,9 @@ module _ (s notice : List ℕ) where
       pub free-place : adds t ≡ true → count_of s < 8
       free-place a = omega (arith, (added a).1, length_values s 0 (count_of s))
 
-      pub shows-by : (ran : Ran) (after : List ℕ) (r : Shown) → ran ≡ running_of (table_of s) notice → r ≡ answer_by t (count_of s) (needed_of s) ran.undecided → after ≡ bytes_by t s (staff_of notice) → Shows s notice after r
+      pub shows-by : (ran : RunAnswer) (after : List ℕ) (r : Shown) → ran ≡ running_of (table_of s) notice → r ≡ answer_by t (count_of s) (needed_of s) ran.undecided → after ≡ bytes_by t s (staff_of notice) → Shows s notice after r
       shows-by ran after r g p q =
-          record { answer = p ∙ (ap (λ (x : Ran). answer_by t (count_of s) (needed_of s) x.undecided) g ∙ sym (answer_by_lem t e)); bytes = q ∙ sym (bytes_by_lem t e) }
+          record { answer = p ∙ (ap (λ (x : RunAnswer). answer_by t (count_of s) (needed_of s) x.undecided) g ∙ sym (answer_by_lem t e)); bytes = q ∙ sym (bytes_by_lem t e) }
 
 -- ---- in the interface for C
 

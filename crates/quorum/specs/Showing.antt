@@ -7,9 +7,8 @@ use Rattle.notice.specs.Field.{Field}
 use Rattle.notice.specs.Layout.{unless, check_of as noticeCheck, fields_of, Indexed}
 use Rattle.notice.specs.Lookup.{field_named}
 use Rattle.table.specs.Check.{check_of as tableCheck, refusal_of}
-use Rattle.interpreter.specs.declared.Ran.{Ran}
 use Rattle.interpreter.specs.Undecided.{no_entry}
-use Rattle.interpreter.specs.Running.{running_of}
+use Rattle.interpreter.specs.Running.{RunAnswer, running_of}
 use Rattle.quorum.specs.declared.Turn.{Turn}
 use Rattle.quorum.specs.declared.Turn.TheVariants.{Keep, Add, Refuse}
 use Rattle.quorum.specs.declared.Shown.{Shown}
@@ -84,7 +83,7 @@ staff_turn v vs =
     (λ _. pick (ltb (length vs) 8) (λ _. Add) (λ _. Refuse 20 0)))
 
 -- by what its run answers: refused with it; "if the verdict is true", by its Staff; else left aside
-abbrev pub turn_by : Ran → (Unit {0} → Turn) → Turn
+abbrev pub turn_by : RunAnswer → (Unit {0} → Turn) → Turn
 turn_by r staff = pick (eqb r.number 0) (λ _. pick (is_true r.verdict) staff (λ _. Keep)) (λ _. Refuse r.number r.place)
 
 -- "Each notice shown to it is run"

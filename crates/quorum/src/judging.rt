@@ -2,7 +2,7 @@
 ghost use Rattle.std.specs.Prelude.{◌≡◌, true, length};
 ghost use Rattle.notice.specs.Layout.{check_of as noticeCheck, Indexed};
 ghost use Rattle.table.specs.Check.{check_of as tableCheck};
-ghost use Rattle.interpreter.specs.Running.{running_of};
+ghost use Rattle.interpreter.specs.Running.{answered, running_of};
 ghost use Rattle.quorum.specs.Decision.{table_of, values_of, kept, holds_of};
 ghost use Rattle.quorum.specs.Showing.{Marks, staff_of, staff_turn, turn_of};
 
@@ -10,6 +10,7 @@ use crate::Turn;
 use crate::state::{has, size_of};
 use interpreter::Ran;
 use notice::FoundField;
+use refusal::Refusal;
 use truth::Truth;
 
 // The value of the field Staff, or no bytes if it is absent, no string or not 1..64 bytes. It asks for a notice found well-formed, so that the search may stop (document 02, request 11).
@@ -56,28 +57,23 @@ fn judge(buffer: &[u8], v: &[u8]) -> Turn
 }
 
 // The guarded run of a table that passes the check, as `interpreter::run_kept`, for a caller who looks up a field afterwards: it leaves the starts of the notice's fields.
-fn run_by<'a>(table: &'a [u8], notice: &'a [u8], starts: &mut [u16; 64]) -> Ran
+fn run_by<'a>(table: &'a [u8], notice: &'a [u8], starts: &mut [u16; 64]) -> Result<Ran, Refusal>
     requires { (tableCheck table.now ≡ true) × (length starts.old ≡ 64) }
-    ensures value { result ≡ running_of table.now notice.now }
+    ensures value { answered result ≡ running_of table.now notice.now }
     ensures marks { Marks notice.now starts.new }
 {
-    let layout = notice::index(&notice[0..], starts);
-    match layout {
-        Ok(()) => interpreter::run_whole(table, notice, starts),
-        Err(r) => Ran {
-            number: r.number(),
-            place: r.place(),
-            verdict: Truth::Bottom,
-            steps: 0,
-            undecided: 65535,
-        },
-    }
+    notice::index(&notice[0..], starts)?;
+    Ok(interpreter::run_whole(table, notice, starts))
 }
 
 // The run of the table that a decision keeps.
-pub fn run_in<'a>(buffer: &'a [u8], notice: &'a [u8], starts: &mut [u16; 64]) -> Ran
+pub fn run_in<'a>(
+    buffer: &'a [u8],
+    notice: &'a [u8],
+    starts: &mut [u16; 64],
+) -> Result<Ran, Refusal>
     requires { (holds_of buffer.now ≡ true) × (length starts.old ≡ 64) }
-    ensures value { result ≡ running_of (table_of buffer.now) notice.now }
+    ensures value { answered result ≡ running_of (table_of buffer.now) notice.now }
     ensures marks { Marks notice.now starts.new }
 {
     let size = size_of(buffer);
@@ -85,16 +81,24 @@ pub fn run_in<'a>(buffer: &'a [u8], notice: &'a [u8], starts: &mut [u16; 64]) ->
 }
 
 // "Each notice shown to it is run", and `ran` is what the run answered: refused with the run; by its Staff, if the verdict is true; else left aside.
-pub fn turn_of(buffer: &[u8], notice: &[u8], starts: &[u16; 64], ran: Ran) -> Turn
-    requires { (holds_of buffer.now ≡ true) × (ran ≡ running_of (table_of buffer.now) notice.now) × Marks notice.now starts.now }
+pub fn turn_of(
+    buffer: &[u8],
+    notice: &[u8],
+    starts: &[u16; 64],
+    ran: Result<Ran, Refusal>,
+) -> Turn
+    requires { (holds_of buffer.now ≡ true) × (answered ran ≡ running_of (table_of buffer.now) notice.now) × Marks notice.now starts.now }
     ensures { result ≡ turn_of (kept buffer.now) notice.now }
 {
-    if ran.number != 0 {
-        return Turn::Refuse {
-            number: ran.number,
-            place: ran.place,
-        };
-    }
+    let ran = match ran {
+        Ok(ran) => ran,
+        Err(r) => {
+            return Turn::Refuse {
+                number: r.number(),
+                place: r.place(),
+            };
+        }
+    };
     let verdict = ran.verdict;
     if truth::is_true(verdict) {
         let v = staff(notice, starts);

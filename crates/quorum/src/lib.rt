@@ -120,7 +120,10 @@ pub fn show(buffer: &mut [u8], notice: &[u8]) -> Shown
     }
     let mut starts: [u16; 64] = [0; 64];
     let ran = run_in(buffer, notice, &mut starts);
-    let undecided = ran.undecided;
+    let undecided = match ran {
+        Ok(ran) => ran.undecided,
+        Err(_) => 65535,
+    };
     let turn = turn_of(buffer, notice, &starts, ran);
     let needed = buffer[6];
     let count = buffer[7];

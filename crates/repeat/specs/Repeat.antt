@@ -5,10 +5,9 @@ use Rattle.notice.specs.Layout.{check_of as noticeCheck}
 use Rattle.notice.specs.Layout.{Layout}
 use Rattle.table.specs.Table.{decode}
 use Rattle.table.specs.Check.{check_of as tableCheck}
-use Rattle.interpreter.specs.declared.Ran.{Ran}
-use Rattle.interpreter.specs.Running.{answer_of}
+use Rattle.interpreter.specs.Running.{RunAnswer, answer_of}
 
-abbrev pub weight_of : Ran → ℕ
+abbrev pub weight_of : RunAnswer → ℕ
 weight_of a = 4096 * a.undecided + 4 * a.steps + rank a.verdict
 
 -- 0 where the notice is not well-formed

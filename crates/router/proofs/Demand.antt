@@ -30,9 +30,8 @@ use Rattle.table.specs.Table.{Program, encode, decode}
 use Rattle.table.specs.Check.{check_of as tableCheck, refusal_of}
 use Rattle.interpreter.specs.Run.{State, run_of, verdict_of}
 use Rattle.interpreter.specs.Machine.{Visited}
-use Rattle.interpreter.specs.Running.{answer_of, running_of}
+use Rattle.interpreter.specs.Running.{RunAnswer, answer_of, running_of}
 use Rattle.interpreter.specs.declared.Machine.{Machine}
-use Rattle.interpreter.specs.declared.Ran.{Ran}
 use Rattle.interpreter.proofs.Visits.{as_many}
 use Rattle.interpreter.proofs.Answers.{neither_refused}
 use Rattle.interpreter.proofs.Theorems.{stack_small}
@@ -77,10 +76,10 @@ module _ (edition : Edition) (text notice : List ℕ) (tree : Tree) (b : Bytes t
       let e = whole.ends in
       record {
         passes = p;
-        answered = ap (λ (x : Ran). x.number) r;
-        means = text_means edition text notice tree a ∙ ap some (sym (ap (λ (x : Ran). x.verdict) r ∙ ap (λ (x : Program). verdict_of (run_of x notice)) d ∙ ap verdict_of e));
-        verdict_run = ap (λ (x : Ran). x.verdict) r;
-        steps_run = ap (λ (x : Ran). x.steps) r;
+        answered = ap (λ (x : RunAnswer). x.number) r;
+        means = text_means edition text notice tree a ∙ ap some (sym (ap (λ (x : RunAnswer). x.verdict) r ∙ ap (λ (x : Program). verdict_of (run_of x notice)) d ∙ ap verdict_of e));
+        verdict_run = ap (λ (x : RunAnswer). x.verdict) r;
+        steps_run = ap (λ (x : RunAnswer). x.steps) r;
         ends = ap (λ (x : Program). (run_of x notice).next) d ∙ ap (λ (s : State). s.next) e ∙ sym (size tree 0) ∙ sym (ap (λ (x : Program). length x.entries) d);
         run_small = stack_small table notice p;
         runner_holds = as_many table notice visits m v.state;
@@ -128,12 +127,12 @@ check_refused table notice visits r e q =
       runner = λ p. false_true (sym e ∙ p);
     }
 
-pub check_passed : (table notice : List ℕ) (visits : ℕ) (a : Ran) (m : Machine) → tableCheck table ≡ true → a ≡ running_of table notice → Visited table notice visits m
+pub check_passed : (table notice : List ℕ) (visits : ℕ) (a : RunAnswer) (m : Machine) → tableCheck table ≡ true → a ≡ running_of table notice → Visited table notice visits m
     → RunsChecked table notice visits (record { number = a.number; place = a.place; length = length table; verdict = a.verdict; steps = a.steps; undecided = a.undecided; machine = m })
 check_passed table notice visits a m p q v =
     record {
       answer =
-          ap (λ (x : Ran). record { number = x.number; place = x.place; length = length table; verdict = x.verdict; steps = x.steps; undecided = x.undecided; machine = m }) q
+          ap (λ (x : RunAnswer). record { number = x.number; place = x.place; length = length table; verdict = x.verdict; steps = x.steps; undecided = x.undecided; machine = m }) q
           ∙ sym (ap (λ (b : Bool). checked_of b table notice m) p);
       runner = λ _. v;
     }

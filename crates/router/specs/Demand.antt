@@ -24,9 +24,8 @@ use Rattle.table.specs.Check.{check_of as tableCheck, refusal_of}
 use Rattle.interpreter.specs.Run.{after, run_of, verdict_of}
 use Rattle.interpreter.specs.Undecided.{no_entry}
 use Rattle.interpreter.specs.Machine.{fresh, Visited}
-use Rattle.interpreter.specs.Running.{running_of}
+use Rattle.interpreter.specs.Running.{RunAnswer, running_of}
 use Rattle.interpreter.specs.declared.Machine.{Machine}
-use Rattle.interpreter.specs.declared.Ran.{Ran}
 use Rattle.meaning.specs.Meaning.{text_meaning}
 use Rattle.translator.specs.Compile.{compile}
 use Rattle.translator.specs.Translation.{Outcome, refusal, edition_number, translation_of, Answers}
@@ -62,7 +61,7 @@ pub record Calls (edition : Edition) (text buffer notice : List ℕ) (visits : �
   pub passed : Bool
   pub checks : passed ≡ tableCheck (take translated.length written)
   -- `run(table, notice)`
-  pub ran : Ran
+  pub ran : RunAnswer
   pub runs : ran ≡ running_of (take translated.length written) notice
   -- `run_checked(table, notice, visits)`, by which `run` makes its visits: the runner's machine after that many; it asks for a table that passes the check and a notice found well-formed
   pub machine : Machine

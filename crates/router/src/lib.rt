@@ -20,6 +20,8 @@ ghost use Rattle.ubf.specs.Answer.{read_answer, read_bytes, write_answer, write_
 ghost use Rattle.mend.specs.Mend.{mended_of, list_after, notice_after};
 ghost use Rattle.store.specs.Calls.{make_refusal, made_bytes, added_of, added_bytes, held_refusal, removed_bytes, part_of};
 
+use truth::Truth;
+
 pub mod matching;
 
 // "Translation answers number, place and table length, 0 if refused.", in the edition that the caller names. A table stands at the buffer's start; a refusal changes no byte.
@@ -78,13 +80,22 @@ pub fn virentolex_run<'a>(
     ensures steps_after { steps.new ≡ (running_of table.now notice.now).steps }
     ensures undecided_after { undecided.new ≡ (running_of table.now notice.now).undecided }
 {
-    let a = interpreter::run(table, notice);
-    let t = a.verdict;
-    *place = a.place;
-    *verdict = u8::from(t);
-    *steps = a.steps;
-    *undecided = a.undecided;
-    a.number
+    match interpreter::run(table, notice) {
+        Ok(ran) => {
+            *place = 0;
+            *verdict = u8::from(ran.verdict);
+            *steps = ran.steps;
+            *undecided = ran.undecided;
+            0
+        }
+        Err(r) => {
+            *place = r.place();
+            *verdict = u8::from(Truth::Bottom);
+            *steps = 0;
+            *undecided = 65535;
+            r.number()
+        }
+    }
 }
 
 // Request 7, for support staff: what the entry k of a table is, and for a string or a name its bytes, from `start` to `end` of the table. 12 if the table fails its check, 17 if it has no entry k.

@@ -50,20 +50,17 @@ fn check_and_run<'a>(table: &'a [u8], notice: &'a [u8], visits: usize) -> Matche
     requires { noticeCheck notice.now ≡ Ok tt }
     ensures { RunsChecked table.now notice.now visits result }
 {
-    if !table::check(table) {
-        return refused(12, 0);
-    }
-    let a = interpreter::run(table, notice);
-    let verdict = a.verdict;
-    let machine = interpreter::run_checked(table, notice, visits);
-    Matched {
-        number: a.number,
-        place: a.place,
-        length: table.len(),
-        verdict: verdict,
-        steps: a.steps,
-        undecided: a.undecided,
-        machine: machine,
+    match interpreter::run(table, notice) {
+        Ok(ran) => Matched {
+            number: 0,
+            place: 0,
+            length: table.len(),
+            verdict: ran.verdict,
+            steps: ran.steps,
+            undecided: ran.undecided,
+            machine: interpreter::run_checked(table, notice, visits),
+        },
+        Err(r) => refused(r.number(), r.place()),
     }
 }
 

@@ -10,8 +10,7 @@ use Rattle.record.specs.Line.{text_line, notice_line, kind_line, error_line}
 use Rattle.table.specs.Table.{most_bytes}
 use Rattle.table.specs.Check.{check_of}
 use Rattle.translator.specs.Translation.{Outcome, translation_of}
-use Rattle.interpreter.specs.Running.{running_of}
-use Rattle.interpreter.specs.declared.Ran.{Ran}
+use Rattle.interpreter.specs.Running.{RunAnswer, running_of}
 
 -- request 9: "`verdict` names 1"
 abbrev pub edition : ℕ
@@ -24,7 +23,7 @@ text_of r = drop 6 r
 abbrev pub translated_line : Outcome → List ℕ
 translated_line o = text_line o.number o.place (length o.table)
 
-abbrev pub ran_line : Ran → List ℕ
+abbrev pub ran_line : RunAnswer → List ℕ
 ran_line a = notice_line a.number a.verdict a.steps a.place a.undecided
 
 -- The line for a record of a kind, where `table` is the last text's table, empty if it was refused or there was none, and tables have room for so many bytes. A record of kind 1 is the notice, with its own

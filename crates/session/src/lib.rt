@@ -4,13 +4,15 @@
 ghost use Rattle.std.specs.Prelude.{◌≡◌, List, ℕ, ◌+◌, ◌-◌, ◌/◌, ◌≤◌, length, take};
 ghost use Rattle.decimal.specs.Decimal.{Put};
 ghost use Rattle.record.specs.Line.{line_room};
-ghost use Rattle.interpreter.specs.Running.{running_of};
+ghost use Rattle.interpreter.specs.Running.{answered, running_of};
 ghost use Rattle.session.specs.Session.{ran_line, Sound};
 ghost use Rattle.session.specs.Serving.{Answers, Serves, serving_of};
 ghost use Rattle.session.specs.State.{first, Stands, Ready, next_of, Turns, MakesRoom, received_of};
 
 use interpreter::Ran;
 use record::Record;
+use refusal::Refusal;
+use truth::Truth;
 
 // What a record leaves: the length of the table, 0 where there is none, and the place after the line.
 #[derive(Drop)]
@@ -33,9 +35,9 @@ fn answer_text(bytes: &[u8], table: &mut [u8], out: &mut [u8], at: usize) -> Ans
 }
 
 // The guarded run of the last text's table: an empty one fails the check, and any other that is kept passes it.
-fn run_last<'a>(table: &'a [u8], notice: &'a [u8]) -> Ran
+fn run_last<'a>(table: &'a [u8], notice: &'a [u8]) -> Result<Ran, Refusal>
     requires { Sound table.now }
-    ensures { result ≡ running_of table.now notice.now }
+    ensures { answered result ≡ running_of table.now notice.now }
 {
     if table.len() == 0 {
         return interpreter::run(table, notice);
@@ -48,17 +50,26 @@ fn put_verdict<'a>(table: &'a [u8], notice: &'a [u8], out: &mut [u8], at: usize)
     requires { Sound table.now × (at + line_room ≤ length out.old) }
     ensures { Put out.old at (ran_line (running_of table.now notice.now)) out.new result × (result ≤ at + line_room) }
 {
-    let a = run_last(table, notice);
-    let verdict = a.verdict;
-    record::put_notice_line(
-        out,
-        at,
-        a.number as u64,
-        verdict,
-        a.steps as u64,
-        a.place as u64,
-        a.undecided as u64,
-    )
+    match run_last(table, notice) {
+        Ok(ran) => record::put_notice_line(
+            out,
+            at,
+            0,
+            ran.verdict,
+            ran.steps as u64,
+            0,
+            ran.undecided as u64,
+        ),
+        Err(r) => record::put_notice_line(
+            out,
+            at,
+            r.number() as u64,
+            Truth::Bottom,
+            0,
+            r.place() as u64,
+            65535,
+        ),
+    }
 }
 
 // What the whole record `bytes` of a kind means: the line is stored in `out` from `at` on, and a text's table in `table`, of which `held` bytes are the last text's.

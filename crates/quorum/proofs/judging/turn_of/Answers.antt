@@ -2,7 +2,7 @@
 use mathlib.Core.Path.{sym, ap, ◌∙◌}
 use mathlib.Core.List.{List}
 use Prim.Native.Nat.{ℕ}
-use Rattle.interpreter.specs.declared.Ran.{Ran}
+use Rattle.interpreter.specs.Running.{RunAnswer, answered}
 use Rattle.interpreter.proofs.Answers.{ran_well}
 use Rattle.quorum.specs.Decision.{table_of, values_of, kept}
 use Rattle.quorum.specs.Showing.{staff_turn}
@@ -17,7 +17,7 @@ returns-then-ran-ne0 c =
 pub staff-v-requires : goal.staff-v-requires
 staff-v-requires c =
     let a = c.args in
-    let w = ran_well (table_of a.buffer.now) a.notice.now (sym (ap (λ (x : Ran). x.number) c.requires.1) ∙ c.if-ran-ne0.false) in
+    let w = ran_well (table_of a.buffer.now) a.notice.now (sym (ap (λ (x : RunAnswer). x.number) c.requires.1) ∙ c.if-ran-ne0.false) in
     (w, c.requires.2 w)
 
 pub judge-requires : goal.judge-requires
