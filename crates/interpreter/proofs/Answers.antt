@@ -52,6 +52,14 @@ module _ (table notice : List ℕ) where
       go true (Err r) z = refuses r z
       go false l z = absurd (omega arith)
 
+  -- .. and the table passes its check
+  pub ran_checked : (running_of table notice).number ≡ 0 → tableCheck table ≡ true
+  ran_checked = go (tableCheck table)
+    where
+      go : (b : Bool) → (pick b (λ _. on_layout (noticeCheck notice) (λ _. answer_of (decode table) notice)) (λ _. refused (refusal_of false) 0)).number ≡ 0 → b ≡ true
+      go true z = refl
+      go false z = absurd (omega arith)
+
   -- the last machine of the whole run
   module _ (m : Machine) (n : ℕ) (checked : tableCheck table ≡ true) (count : n ≡ count_of table) (ran : Visited table notice n m) where
     all : n ≡ length (decode table).entries

@@ -46,7 +46,7 @@ pub fn next_record(s: &[u8]) -> Record
     if size <= n {
         Record::Whole {
             kind: word::read_u16(s, 4),
-            size: size,
+            size,
         }
     } else {
         Record::Cut
@@ -59,9 +59,8 @@ pub fn waits(found: Record, last: bool) -> bool
 {
     match found {
         Record::End => true,
-        Record::Whole { kind: _, size: _ } => false,
         Record::Cut => !last,
-        Record::Wrong => false,
+        Record::Whole { .. } | Record::Wrong => false,
     }
 }
 

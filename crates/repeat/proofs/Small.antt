@@ -14,12 +14,13 @@ use Rattle.table.specs.Table.{count_of, decode}
 use Rattle.table.specs.Check.{check_of as tableCheck}
 use Rattle.table.proofs.Theorems.{checked_layout}
 use Rattle.table.proofs.Laid.{laid}
+use Rattle.interpreter.specs.declared.Ran.{Ran}
 use Rattle.interpreter.specs.Run.{run_of}
-use Rattle.interpreter.specs.Running.{RunAnswer, answer_of}
+use Rattle.interpreter.specs.Running.{RunAnswer, answered, answer_of}
 use Rattle.interpreter.proofs.Theorems.{run_steps}
 use Rattle.repeat.specs.Repeat.{weight_of, repeat_of}
 
-module _ (table notice : List ℕ) (checked : tableCheck table ≡ true) (r : RunAnswer) (ran : r ≡ answer_of (decode table) notice) where
+module _ (table notice : List ℕ) (checked : tableCheck table ≡ true) (r : Ran) (ran : answered (Ok r) ≡ answer_of (decode table) notice) where
   pub few : r.steps ≤ 512
   few =
       let same : r.steps ≡ (run_of (decode table) notice).steps = ap (λ (x : RunAnswer). x.steps) ran in

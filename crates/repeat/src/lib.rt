@@ -2,30 +2,19 @@
 #![tactic(auto)]
 
 ghost use Rattle.std.specs.Prelude.{◌≡◌, true, ◌+◌, ◌*◌, ◌≤◌};
-ghost use Rattle.truth.specs.Truth.{rank as rank_of};
 ghost use Rattle.notice.specs.Layout.{check_of as noticeCheck, Indexed};
 ghost use Rattle.table.specs.Table.{decode};
 ghost use Rattle.table.specs.Check.{check_of as tableCheck};
 ghost use Rattle.interpreter.specs.Running.{answer_of};
 ghost use Rattle.repeat.specs.Repeat.{weight_of, repeat_of};
 
-use truth::Truth;
-
-// The verdict's rank among the truth values.
-fn rank(t: Truth) -> u64
-    ensures { (result ≡ rank_of t) × (result ≤ 2) }
-{
-    t as u64
-}
-
 // What one run adds to the sum. It asks for a table that passes the check, a notice found well-formed and the starts of its fields.
 fn weight<'a>(table: &'a [u8], notice: &'a [u8], starts: &[u16; 64]) -> u64
     requires { (tableCheck table.now ≡ true) × (noticeCheck notice.now ≡ Ok tt) × Indexed notice.now starts.now }
     ensures { (result ≡ weight_of (answer_of (decode table.now) notice.now)) × (result ≤ 268433410) }
 {
-    let a = interpreter::run_whole(table, notice, starts);
-    let verdict = a.verdict;
-    4096 * (a.undecided as u64) + 4 * (a.steps as u64) + rank(verdict)
+    let ran = interpreter::run_whole(table, notice, starts);
+    4096 * (ran.undecided as u64) + 4 * (ran.steps as u64) + (ran.verdict as u64)
 }
 
 // The sum over so many runs. It asks for a table that passes the check, a notice found well-formed and the starts of its fields.
@@ -33,11 +22,9 @@ fn sum<'a>(table: &'a [u8], notice: &'a [u8], starts: &[u16; 64], times: u32) ->
     requires { (tableCheck table.now ≡ true) × (noticeCheck notice.now ≡ Ok tt) × Indexed notice.now starts.now }
     ensures { result ≡ times * weight_of (answer_of (decode table.now) notice.now) }
 {
-    let mut total: u64 = 0;
-    let mut i = 0;
-    while i < times {
+    let mut total = 0;
+    for i in 0..times {
         total += weight(table, notice, starts);
-        i += 1;
     }
     total
 }

@@ -30,10 +30,11 @@ use Rattle.table.specs.Table.{Program, encode, decode}
 use Rattle.table.specs.Check.{check_of as tableCheck, refusal_of}
 use Rattle.interpreter.specs.Run.{State, run_of, verdict_of}
 use Rattle.interpreter.specs.Machine.{Visited}
-use Rattle.interpreter.specs.Running.{RunAnswer, answer_of, running_of}
+use Rattle.interpreter.specs.Running.{RunAnswer, answered, answer_of, running_of}
 use Rattle.interpreter.specs.declared.Machine.{Machine}
+use Rattle.interpreter.specs.declared.Ran.{Ran}
 use Rattle.interpreter.proofs.Visits.{as_many}
-use Rattle.interpreter.proofs.Answers.{neither_refused}
+use Rattle.interpreter.proofs.Answers.{table_refused, neither_refused, ran_checked}
 use Rattle.interpreter.proofs.Theorems.{stack_small}
 use Rattle.meaning.specs.Meaning.{meaning, text_meaning}
 use Rattle.translator.specs.Compile.{compile}
@@ -136,6 +137,22 @@ check_passed table notice visits a m p q v =
           ∙ sym (ap (λ (b : Bool). checked_of b table notice m) p);
       runner = λ _. v;
     }
+
+-- .. by what the run answers of a notice found well-formed: only the table can be refused
+pub check_run : (table notice : List ℕ) (visits : ℕ) (a : Ran) (m : Machine) → answered (Ok a) ≡ running_of table notice → Visited table notice visits m
+    → RunsChecked table notice visits (record { number = 0; place = 0; length = length table; verdict = a.verdict; steps = a.steps; undecided = a.undecided; machine = m })
+check_run table notice visits a m q v =
+    check_passed table notice visits (answered (Ok a)) m (ran_checked table notice (sym (ap (λ (x : RunAnswer). x.number) q))) q v
+
+pub check_unrun : (table notice : List ℕ) (visits : ℕ) (f : Refusal) (r : Matched) → noticeCheck notice ≡ Ok tt → answered (Err f) ≡ running_of table notice
+    → r ≡ refusedWith (refusal_number f) (refusal_place f) → RunsChecked table notice visits r
+check_unrun table notice visits f r w q e = go (tableCheck table) refl
+  where
+    go : (b : Bool) → tableCheck table ≡ b → RunsChecked table notice visits r
+    go true p = refuses f (ap (λ (x : RunAnswer). x.number) (q ∙ sym (neither_refused table notice p w)))
+    go false p =
+        let s = q ∙ sym (table_refused table notice p) in
+        check_refused table notice visits r p (e ∙ ap (λ (x : RunAnswer). refusedWith x.number x.place) s)
 
 -- what is translated is of one of the two editions
 named : (number : ℕ) (text : List ℕ) (room : ℕ) → (translation_of number text room).number ≡ 0 → (edition : Edition) × (number ≡ edition_number edition)

@@ -131,8 +131,7 @@ fn serve(input: &[u8], last: bool, table: &mut [u8], held: usize, out: &mut [u8]
     let mut at = 0;
     let mut size_held = held;
     let mut written = 0;
-    let mut left = out.len() / record::LINE_ROOM;
-    while 0 < left {
+    for _ in 0..out.len() / record::LINE_ROOM {
         let found = record::next_record(&input[at..]);
         if record::waits(found, last) {
             return Served {
@@ -156,7 +155,6 @@ fn serve(input: &[u8], last: bool, table: &mut [u8], held: usize, out: &mut [u8]
         size_held = done.held;
         written = done.next;
         at = next;
-        left -= 1;
     }
     Served {
         taken: at,

@@ -6,7 +6,7 @@ use Rattle.interpreter.proofs.run.Goals as goal
 pub returns-then-not-check : goal.returns-then-not-check
 returns-then-not-check c =
     let a = c.args in
-    c.refused.ensures ∙ table_refused a.table.now a.notice.now (sym c.check.ensures ∙ c.if-not-check.true)
+    table_refused a.table.now a.notice.now (sym c.check.ensures ∙ c.if-not-check.true)
 
 pub run_kept-requires : goal.run_kept-requires
 run_kept-requires c = sym c.check.ensures ∙ c.if-not-check.false

@@ -20,15 +20,15 @@ layout_is s t e = sym (ap check_of (whole s)) ∙ sym t ∙ e
 pub run_whole-requires : goal.run_whole-requires
 run_whole-requires c =
     let s = c.args.notice.now in
-    let well = layout_is s c.index-layout.ensures.value c.in-Ok.is in
-    (c.requires, well, indexed _ _ _ (whole s) well c.index-layout.ensures.starts_after refl)
+    let well = layout_is s c.index.ensures.value c.in_ok-index.was in
+    (c.requires, well, indexed _ _ _ (whole s) well c.index.ensures.starts_after refl)
 
-pub returns-in-Ok : goal.returns-in-Ok
-returns-in-Ok c =
+pub returns : goal.returns
+returns c =
     let a = c.args in
-    c.run_whole.ensures ∙ neither_refused a.table.now a.notice.now c.requires (layout_is a.notice.now c.index-layout.ensures.value c.in-Ok.is)
+    c.run_whole.ensures ∙ neither_refused a.table.now a.notice.now c.requires (layout_is a.notice.now c.index.ensures.value c.in_ok-index.was)
 
-pub returns-in-Err : goal.returns-in-Err
-returns-in-Err c =
+pub returns-in_err-index : goal.returns-in_err-index
+returns-in_err-index c =
     let a = c.args in
-    c.refused.ensures ∙ rw (c.number.ensures, c.place.ensures) (notice_refused a.table.now a.notice.now _ c.requires (layout_is a.notice.now c.index-layout.ensures.value c.in-Err.is))
+    notice_refused a.table.now a.notice.now _ c.requires (layout_is a.notice.now c.index.ensures.value c.in_err-index.was)

@@ -8,17 +8,17 @@ overflow_mul-result c = omega arith
 
 pub overflow_mul-result-2 : goal.overflow_mul-result-2
 overflow_mul-result-2 c =
-    omega (arith, few c.args.table.now c.args.notice.now c.requires.0 c.run_whole-a.result c.run_whole-a.ensures)
+    omega (arith, few c.args.table.now c.args.notice.now c.requires.0 c.run_whole-ran.result c.run_whole-ran.ensures)
 
 pub overflow_add-result : goal.overflow_add-result
 overflow_add-result c =
-    omega (arith, few c.args.table.now c.args.notice.now c.requires.0 c.run_whole-a.result c.run_whole-a.ensures)
+    omega (arith, few c.args.table.now c.args.notice.now c.requires.0 c.run_whole-ran.result c.run_whole-ran.ensures)
 
 pub overflow_add-result-2 : goal.overflow_add-result-2
 overflow_add-result-2 c =
-    omega (arith, few c.args.table.now c.args.notice.now c.requires.0 c.run_whole-a.result c.run_whole-a.ensures, c.rank.ensures.1)
+    omega (arith, few c.args.table.now c.args.notice.now c.requires.0 c.run_whole-ran.result c.run_whole-ran.ensures, c.rank.ensures.1)
 
 pub returns : goal.returns
 returns c =
-    let m = few c.args.table.now c.args.notice.now c.requires.0 c.run_whole-a.result c.run_whole-a.ensures in
-    (is_weight c.args.table.now c.args.notice.now c.requires.0 c.run_whole-a.result c.run_whole-a.ensures c.rank.result c.rank.ensures.0, omega (arith, m, c.rank.ensures.1))
+    let m = few c.args.table.now c.args.notice.now c.requires.0 c.run_whole-ran.result c.run_whole-ran.ensures in
+    (is_weight c.args.table.now c.args.notice.now c.requires.0 c.run_whole-ran.result c.run_whole-ran.ensures c.rank.result c.rank.ensures.0, omega (arith, m, c.rank.ensures.1))
