@@ -6,7 +6,7 @@ use Prim.Native.Nat.{ℕ, zero, suc, ◌+◌, ◌-◌, ◌*◌, ◌/◌, ◌%◌
 use native.Mathlib.Nat.{le_trans, le_of_eq, le_of_lt, lt_irrefl, lt_of_le_of_lt, mul-one, zero-mul, mul_assoc, mul_comm, mul_right_comm, mul-pos, mul-lt-mul_of_pos_right, add-mul, suc-mul, mul-le-mul_right, le_of_mul-le-mul_right, div-add-mod', div-le_self, zero-lt-suc, mod-lt}
 use native.Mathlib.Omega.{arith}
 use lib.IntN.{ℤ, pos, negsuc, nat_abs}
-use lib.Signed.{mag, mag_shr, shr_z}
+use lib.Signed.{lt_z, mag, mag_shr, shr_z}
 use lib.Dec.{T, ltb, leb, eqb, ltb→lt, eqb→eq, le→leb}
 use lib.Bits.{bit_and, and_mask}
 use lib.Ieee.{Float, nan, inf, fin, binary64, up, down, lt, le, eq, fits, of_int, of_bits, in_float, neg, add, round, sum, sub, mul}
@@ -18,11 +18,11 @@ use lib.Ieee.Scale.{round_same}
 use mir.Syntax.{w64}
 use mir.Val.{SFits, to_z, of_z}
 use mir.ValLaws.{to_z-of_z}
-use borrow.Author.Tests.{ltb-true, eqb-true, lt-ltb, le-ltb}
+use borrow.Author.Tests.{ltb-false, ltb-true, eqb-true, lt-ltb, le-ltb}
 use Rattle.common.proofs.Choice.{true_false}
 use Rattle.nearest.proofs.Ints.{R}
 use Rattle.nearest.proofs.Rounding.{Cmp, parts, held, scaled_by, neg_round}
-use Rattle.nearest.proofs.Wholes.{no_gap, small, large, unread}
+use Rattle.common.proofs.Choice.{true_false}
 use Rattle.mixed.specs.Mixed.{exactly, Same}
 use Rattle.mixed.proofs.Compare.{left, Stands, alike, fins_stand, at_value, exact_left, exchanged, joined}
 
@@ -298,11 +298,24 @@ module _ (s : Bool) (a h l : ℕ) (big : 2 ^ 53 < a) (lp : l < 2 ^ 53) (parted :
   unfolding lt eq sub add neg
   beside nan x v f = absurd v
   beside (inf r) x v f = absurd v
-  beside (fin r n d) nan v f = record { under = refl; over = refl; same = refl }
-  beside (fin r n d) (inf t) v f = record { under = refl; over = refl; same = refl }
+  beside (fin r n d) nan v f = record { under = refl; over = refl; same = refl; back = refl }
+  beside (fin r n d) (inf t) v f = record { under = refl; over = refl; same = refl; back = refl }
   beside (fin r n d) (fin t m e) v f =
       subst (λ i. Same (L l) (sub binary64 (fin t m e) (fin i n d)) (fin s a (pos 0)) (fin t m e)) (sym v.0)
       (subst (λ i. Same (L l) i (fin s a (pos 0)) (fin t m e)) (sym (less_fin t m e n d v.1)) (rounded_same t m e f))
+
+-- ---- the code's test
+small : (z : ℤ) → lt_z (negsuc 9007199254740992) z ≡ true → lt_z z (pos 9007199254740993) ≡ true → nat_abs z ≤ 2 ^ 53
+small (pos n) l h = omega (arith, ltb-true n 9007199254740993 h)
+small (negsuc n) l h = omega (arith, ltb-true n 9007199254740992 l)
+
+above : (z : ℤ) → lt_z z (pos 9007199254740993) ≡ false → 2 ^ 53 < nat_abs z
+above (pos n) h = omega (arith, ltb-false n 9007199254740993 h)
+above (negsuc n) h = true_false h
+
+beneath : (z : ℤ) → lt_z (negsuc 9007199254740992) z ≡ false → 2 ^ 53 < nat_abs z
+beneath (pos n) h = true_false h
+beneath (negsuc n) h = omega (arith, ltb-false n 9007199254740992 h)
 
 -- ---- as the machine has it: an int64 z is its shift by 32 places times 2 ^ 32, and its last 32 digits
 abbrev low_of : ℤ → ℕ
@@ -360,9 +373,17 @@ module _ (z : ℤ) (f : SFits w64 z) where
       go (pos n) h = le→leb (n / 4294967296) (2 ^ 53) (omega arith)
       go (negsuc n) h = le→leb (suc (n / 4294967296)) (2 ^ 53) (omega arith)
 
-  pub near : no_gap (R z) ≡ true → (x : Float) → Same (of_int binary64 (R z)) x (exactly z) x
-  near h x = rw (to_z-of_z w64 z f) (exact_left z (small z (unread z f h)) x)
+  pub near : lt_z (negsuc 9007199254740992) (R z) ≡ true → lt_z (R z) (pos 9007199254740993) ≡ true → (x : Float) → Same (of_int binary64 (R z)) x (exactly z) x
+  near l h x = let r = to_z-of_z w64 z f in rw r (exact_left z (small z (rw r at l) (rw r at h)) x)
 
-  pub far : no_gap (R z) ≡ false → (x : Float) → T (fits binary64 x)
+  far : 2 ^ 53 < nat_abs z → (x : Float) → T (fits binary64 x)
       → Same (of_int binary64 (to_z w64 (bit_and (of_z w64 z) 4294967295))) (sub binary64 x (mul binary64 (of_int binary64 (R (shr_z (R z) 4294967296))) (of_bits binary64 0x41f0_0000_0000_0000))) (exactly z) x
-  far h x fx = rw (masked_is, shifted_is) (far_high z f.sfits (large z (unread z f h)) x fx)
+  far h x fx = rw (masked_is, shifted_is) (far_high z f.sfits h x fx)
+
+  pub far_up : lt_z (R z) (pos 9007199254740993) ≡ false → (x : Float) → T (fits binary64 x)
+      → Same (of_int binary64 (to_z w64 (bit_and (of_z w64 z) 4294967295))) (sub binary64 x (mul binary64 (of_int binary64 (R (shr_z (R z) 4294967296))) (of_bits binary64 0x41f0_0000_0000_0000))) (exactly z) x
+  far_up h = far (above z (rw (to_z-of_z w64 z f) at h))
+
+  pub far_down : lt_z (negsuc 9007199254740992) (R z) ≡ false → (x : Float) → T (fits binary64 x)
+      → Same (of_int binary64 (to_z w64 (bit_and (of_z w64 z) 4294967295))) (sub binary64 x (mul binary64 (of_int binary64 (R (shr_z (R z) 4294967296))) (of_bits binary64 0x41f0_0000_0000_0000))) (exactly z) x
+  far_down h = far (beneath z (rw (to_z-of_z w64 z f) at h))

@@ -16,11 +16,9 @@ use mir.Syntax.{Width, w64}
 use mir.Val.{bits, SFits, of_z}
 use mir.ValLaws.{to_z-of_z, pow-bits}
 use borrow.Author.Tests.{eqb-true, eqb-false, lt-ltb, le-ltb, le-leb, lt-leb, eq-eqb, ne_eqb}
-use Rattle.opcode.specs.declared.Order.{Order}
-use Rattle.opcode.specs.declared.Order.TheVariants.{Less, LessEqual, Greater, GreaterEqual}
 use Rattle.nearest.proofs.Ints.{R}
 use Rattle.nearest.proofs.Rounding.{Cmp, cmp, parts}
-use Rattle.mixed.specs.Mixed.{exactly, order_real, Same, flipped_of}
+use Rattle.mixed.specs.Mixed.{exactly, Same}
 use Rattle.mixed.specs.Theorems.{equal_z}
 use Rattle.mixed.proofs.Theorems.{integers}
 use Rattle.mixed.proofs.Weights.{own, other, weights_scale, told, below_is, level_is}
@@ -50,24 +48,11 @@ eq_back (fin s m e) (fin t n d) =
     level_is s A t B ∙ eqb_back (left s A t B) (left t B s A) ∙ sym (level_is t B s A)
 
 -- ---- u beside v compares as x beside y
-pub same_order : (op : Order) (u v x y : Float) → Same u v x y → order_real op u v ≡ order_real op x y
-unfolding le
-same_order Less u v x y s = s.under
-same_order LessEqual u v x y s = rw (s.under, s.same)
-same_order Greater u v x y s = s.over
-same_order GreaterEqual u v x y s = rw (s.over, eq_back v u, s.same, eq_back y x)
-
-pub flip_says : (op : Order) (x y : Float) → order_real (flipped_of op) y x ≡ order_real op x y
-flip_says Less x y = refl
-flip_says LessEqual x y = refl
-flip_says Greater x y = refl
-flip_says GreaterEqual x y = refl
-
 pub exchanged : {u v x y : Float} → Same u v x y → Same v u y x
-exchanged {u} {v} {x} {y} s = record { under = s.over; over = s.under; same = eq_back v u ∙ s.same ∙ eq_back x y }
+exchanged {u} {v} {x} {y} s = record { under = s.over; over = s.under; same = s.back; back = s.same }
 
 pub joined : {u v x y p q : Float} → Same u v x y → Same x y p q → Same u v p q
-joined s t = record { under = s.under ∙ t.under; over = s.over ∙ t.over; same = s.same ∙ t.same }
+joined s t = record { under = s.under ∙ t.under; over = s.over ∙ t.over; same = s.same ∙ t.same; back = s.back ∙ t.back }
 
 -- ---- how u stands to v
 abbrev pub Stands : Ordering → Float → Float → Type 0
@@ -76,9 +61,9 @@ Stands Ordering.eq u v = (lt u v ≡ false) × (lt v u ≡ false) × (eq u v ≡
 Stands Ordering.gt u v = (lt u v ≡ false) × (lt v u ≡ true) × (eq u v ≡ false)
 
 pub alike : (o : Ordering) (u v x y : Float) → Stands o u v → Stands o x y → Same u v x y
-alike Ordering.lt u v x y p q = record { under = p.0 ∙ sym q.0; over = p.1 ∙ sym q.1; same = p.2 ∙ sym q.2 }
-alike Ordering.eq u v x y p q = record { under = p.0 ∙ sym q.0; over = p.1 ∙ sym q.1; same = p.2 ∙ sym q.2 }
-alike Ordering.gt u v x y p q = record { under = p.0 ∙ sym q.0; over = p.1 ∙ sym q.1; same = p.2 ∙ sym q.2 }
+alike Ordering.lt u v x y p q = record { under = p.0 ∙ sym q.0; over = p.1 ∙ sym q.1; same = p.2 ∙ sym q.2; back = eq_back v u ∙ p.2 ∙ sym q.2 ∙ eq_back x y }
+alike Ordering.eq u v x y p q = record { under = p.0 ∙ sym q.0; over = p.1 ∙ sym q.1; same = p.2 ∙ sym q.2; back = eq_back v u ∙ p.2 ∙ sym q.2 ∙ eq_back x y }
+alike Ordering.gt u v x y p q = record { under = p.0 ∙ sym q.0; over = p.1 ∙ sym q.1; same = p.2 ∙ sym q.2; back = eq_back v u ∙ p.2 ∙ sym q.2 ∙ eq_back x y }
 
 module _ (s : Bool) (m : ℕ) (e : ℤ) (t : Bool) (n : ℕ) (d : ℤ) where
   abbrev A : ℕ
@@ -123,18 +108,6 @@ le_integers : (a b : ℤ) → le (exactly a) (exactly b) ≡ le_z a b
 unfolding le
 le_integers a b = let p = integers a b in rw (p.0, p.1) (sym (le_z_is a b))
 
-abbrev order_z : Order → ℤ → ℤ → Bool
-order_z Less a b = lt_z a b
-order_z LessEqual a b = le_z a b
-order_z Greater a b = lt_z b a
-order_z GreaterEqual a b = le_z b a
-
-order_is : (op : Order) (a b : ℤ) → order_z op a b ≡ order_real op (exactly a) (exactly b)
-order_is Less a b = sym (integers a b).0
-order_is LessEqual a b = sym (le_integers a b)
-order_is Greater a b = sym (integers b a).0
-order_is GreaterEqual a b = sym (le_integers b a)
-
 -- two integers are the same where their bits are, over the width
 same_bits : (w : Width) (a b : ℤ) → SFits w a → SFits w b → eqb (of_z w a) (of_z w b) ≡ equal_z a b
 same_bits w (pos m) (pos n) f g = refl
@@ -154,8 +127,11 @@ module _ (a b : ℤ) (fa : SFits w64 a) (fb : SFits w64 b) where
   pub equal_integers : eqb (of_z w64 a) (of_z w64 b) ≡ eq (exactly a) (exactly b)
   equal_integers = same_bits w64 a b fa fb ∙ sym (integers a b).1
 
-  pub ordered : {o op : Order} → op ≡ o → order_z o (R a) (R b) ≡ order_real op (exactly a) (exactly b)
-  ordered {o} {op} e = rw (to_z-of_z w64 a fa, to_z-of_z w64 b fb) (order_is o a b ∙ sym (ap (λ (x : Order). order_real x (exactly a) (exactly b)) e))
+  pub below_integers : lt_z (R a) (R b) ≡ lt (exactly a) (exactly b)
+  below_integers = rw (to_z-of_z w64 a fa, to_z-of_z w64 b fb) (sym (integers a b).0)
+
+  pub at_most_integers : le_z (R a) (R b) ≡ le (exactly a) (exactly b)
+  at_most_integers = rw (to_z-of_z w64 a fa, to_z-of_z w64 b fb) (sym (le_integers a b))
 
 -- ---- a real of the integer's value compares as the integer
 cmp_scaled : (o : Ordering) (p q c : ℕ) → 0 < c → Cmp o p q → Cmp o (p * c) (q * c)
@@ -181,8 +157,8 @@ pub at_value : (u : Float) (s : Bool) (a : ℕ) → HasValue u s a 1 → (x : Fl
 unfolding lt eq
 at_value nan s a h x = absurd h
 at_value (inf t) s a h x = absurd h
-at_value (fin t m e) s a h nan = record { under = refl; over = refl; same = refl }
-at_value (fin t m e) s a h (inf r) = record { under = refl; over = refl; same = refl }
+at_value (fin t m e) s a h nan = record { under = refl; over = refl; same = refl; back = refl }
+at_value (fin t m e) s a h (inf r) = record { under = refl; over = refl; same = refl; back = refl }
 at_value (fin t m e) s a h (fin r n d) = subst (λ y. Same (fin y m e) (fin r n d) (fin s a (pos 0)) (fin r n d)) (sym h.0) (at_fin s m e a h.1 r n d)
 
 pub exact_left : (z : ℤ) → nat_abs z ≤ 2 ^ 53 → (x : Float) → Same (of_int binary64 z) x (exactly z) x

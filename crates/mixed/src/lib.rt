@@ -1,40 +1,96 @@
 // Comparison of two integers, of two reals, and of an integer with a real by exact value. Document 02, request 6.
 #![tactic(auto)]
 
-ghost use Rattle.std.specs.Prelude.{◌≡◌};
-ghost use Rattle.std.specs.Float.Ieee.{eq};
-ghost use Rattle.mixed.specs.Mixed.{exactly, order_real, Same, flipped_of};
+ghost use Rattle.std.specs.Prelude.{◌≡◌, Bool, Float};
+ghost use Rattle.std.specs.Float.Ieee.{lt, le, eq};
+ghost use Rattle.mixed.specs.Mixed.{exactly, order_real, Same, same_equal, same_order};
 
 use opcode::Order;
 
-// Two integers.
-pub fn equal_i64(a: i64, b: i64) -> bool
-    ensures { result ≡ eq (exactly a) (exactly b) }
-{
-    a == b
+// A number as the real that it is exactly, with the comparisons of its own type.
+pub trait Exact: Copy {
+    ghost exact: { Self → Float };
+
+    fn is(self, other: Self) -> bool
+        ensures { result ≡ eq (exact self) (exact other) };
+
+    fn below(self, other: Self) -> bool
+        ensures { result ≡ lt (exact self) (exact other) };
+
+    fn at_most(self, other: Self) -> bool
+        ensures { result ≡ le (exact self) (exact other) };
 }
 
-pub fn order_i64(op: Order, a: i64, b: i64) -> bool
-    ensures { result ≡ order_real op (exactly a) (exactly b) }
-{
-    match op {
-        Order::Less => a < b,
-        Order::LessEqual => a <= b,
-        Order::Greater => b < a,
-        Order::GreaterEqual => b <= a,
+impl Exact for i64 {
+    ghost exact = { exactly };
+
+    fn is(self, other: i64) -> bool {
+        self == other
+    }
+
+    fn below(self, other: i64) -> bool {
+        self < other
+    }
+
+    fn at_most(self, other: i64) -> bool {
+        self <= other
     }
 }
 
-// Two reals.
-pub fn order_real(op: Order, x: f64, y: f64) -> bool
-    ensures { result ≡ order_real op x y }
-{
-    match op {
-        Order::Less => x < y,
-        Order::LessEqual => x <= y,
-        Order::Greater => y < x,
-        Order::GreaterEqual => y <= x,
+impl Exact for f64 {
+    ghost exact = { λ x. x };
+
+    fn is(self, other: f64) -> bool {
+        self == other
     }
+
+    fn below(self, other: f64) -> bool {
+        self < other
+    }
+
+    fn at_most(self, other: f64) -> bool {
+        self <= other
+    }
+}
+
+// A comparison of two numbers of one type. It says the same of numbers that compare alike.
+pub trait Comparison: Copy {
+    ghost says: { Self → Float → Float → Bool };
+
+    fn holds<T: Exact>(self, a: T, b: T) -> bool
+        ensures { result ≡ says self (T.exact a) (T.exact b) };
+
+    ghost alike: { (c : Self) (u v x y : Float) → Same u v x y → says c u v ≡ says c x y };
+}
+
+// `==`
+#[derive(Clone, Copy)]
+pub struct Equal;
+
+impl Comparison for Equal {
+    ghost says = { λ c. eq };
+
+    fn holds<T: Exact>(self, a: T, b: T) -> bool {
+        a.is(b)
+    }
+
+    ghost alike = { same_equal };
+}
+
+// `< <= > >=`
+impl Comparison for Order {
+    ghost says = { order_real };
+
+    fn holds<T: Exact>(self, a: T, b: T) -> bool {
+        match self {
+            Order::Less => a.below(b),
+            Order::LessEqual => a.at_most(b),
+            Order::Greater => b.below(a),
+            Order::GreaterEqual => b.at_most(a),
+        }
+    }
+
+    ghost alike = { same_order };
 }
 
 // Two reals that compare as an integer and a real do.
@@ -49,7 +105,7 @@ struct Reals {
 fn sides(z: i64, x: f64) -> Reals
     ensures { Same result.left result.right (exactly z) x }
 {
-    if (-9007199254740993 < z) & (z < 9007199254740993) {
+    if -9007199254740993 < z && z < 9007199254740993 {
         return Reals {
             left: z as f64,
             right: x,
@@ -61,29 +117,17 @@ fn sides(z: i64, x: f64) -> Reals
     }
 }
 
-// An integer and a real: "compared by exact value".
-pub fn equal(z: i64, x: f64) -> bool
-    ensures { result ≡ eq (exactly z) x }
+// An integer beside a real, on either side: "compared by exact value".
+pub fn with_real<C: Comparison>(c: C, z: i64, x: f64) -> bool
+    ensures { result ≡ C.says c (exactly z) x }
 {
     let s = sides(z, x);
-    s.left == s.right
+    c.holds(s.left, s.right)
 }
 
-pub fn order(op: Order, z: i64, x: f64) -> bool
-    ensures { result ≡ order_real op (exactly z) x }
+pub fn with_integer<C: Comparison>(c: C, x: f64, z: i64) -> bool
+    ensures { result ≡ C.says c x (exactly z) }
 {
     let s = sides(z, x);
-    order_real(op, s.left, s.right)
-}
-
-// The operator that says of the sides exchanged what `op` says of them.
-pub fn flipped(op: Order) -> Order
-    ensures { result ≡ flipped_of op }
-{
-    match op {
-        Order::Less => Order::Greater,
-        Order::LessEqual => Order::GreaterEqual,
-        Order::Greater => Order::Less,
-        Order::GreaterEqual => Order::LessEqual,
-    }
+    c.holds(s.right, s.left)
 }

@@ -1,6 +1,5 @@
 pub mod Ints
 pub mod Wholes
-pub mod Digits
 pub mod Rounding
 pub mod Signed
 pub mod Theorems

@@ -1,10 +1,17 @@
 -- What rounding to the nearest sees of an integer. Assumes nothing.
 -- `whole_sum`, `add_at`, `whole_scaled`, `scale_at`, `negated` are those of std's proofs/num/Nearest.antt, which keeps them private; `scale_at` is over the sign here.
-use Rattle.std.proofs.Common.{◌≡◌, ℕ, zero, suc, ◌+◌, ◌-◌, ◌*◌, ◌/◌, ◌%◌, ◌^◌, ◌<◌, ◌≤◌, Bool, true, false, cond, not, T, eqb, ltb, ◌⊎◌, pos, negsuc, sym, refl, ap, ◌∙◌, subst, inl, inr, le_trans, le_of_eq, lt_of_lt_of_le, lt_of_le_of_lt, le_of_lt, lt_irrefl, mul-le-mul_right, zero-lt-suc, mul_assoc, suc-mul, mul_comm, add-mul, le_antisymm, lt_of_mul-lt-mul_right, mul-pos, one-mul, lt_of_not-le, zero-mul, mul-one, mul_right_comm, div-one, arith, lit≤, eqb→eq, leb→le, pow_pos, pow_mono, pow-add, shl_lt}
+use Rattle.std.proofs.Common.{◌≡◌, ℕ, zero, suc, ◌+◌, ◌-◌, ◌*◌, ◌/◌, ◌%◌, ◌^◌, ◌<◌, ◌≤◌, min, Bool, true, false, cond, not, T, eqb, ltb, ◌⊎◌, pos, negsuc, sym, refl, ap, ◌∙◌, subst, inl, inr, le_trans, le_of_eq, lt_of_lt_of_le, lt_of_le_of_lt, le_of_lt, lt_irrefl, mul-le-mul_right, zero-lt-suc, mul_assoc, suc-mul, mul_comm, add-mul, le_antisymm, lt_of_mul-lt-mul_right, mul-pos, one-mul, lt_of_not-le, zero-mul, mul-one, mul_right_comm, div-one, arith, lit≤, eqb→eq, leb→le, pow_pos, pow_mono, pow-add, shl_lt}
 use Prim.Native.Nat.{compare, Ordering}
 use native.Mathlib.Nat.{div-div-eq-div-mul}
 use lib.Dec.{is_le, compare_is_eq, nleb→lt, eqb_refl}
 use lib.Arith.{lt_of_le-ne}
+use lib.IntN.{nat_abs}
+use lib.Signed.{lt_z}
+use mir.Syntax.{w128}
+use mir.Val.{SFits, to_z, of_z}
+use mir.ValLaws.{to_z-of_z}
+use borrow.Author.Tests.{ltb-true}
+use Rattle.std.proofs.Common.{ℤ}
 use lib.Pow.{high, low, mod-pow-add}
 use lib.Ieee.{Float, nan, inf, fin, Format, binary64, prec, emax, up, down, size, odd, units, round, neg, add, sum, mul, of_int, in_float, of_bits}
 use lib.Ieee as I
@@ -283,7 +290,15 @@ pub negated : (f : Format) (n : ℕ) → neg (of_int f (pos (suc n))) ≡ of_int
 unfolding of_int
 negated f n = neg_round f (suc n) 1
 
--- ---- `nearest_wide`, by its two ranges
+neg_zero : (z : ℤ) → lt_z z (pos 0) ≡ true → neg (of_int binary64 (pos (nat_abs z))) ≡ of_int binary64 z
+neg_zero (pos n) h = absurd (let l : n < 0 = ltb-true n 0 h in omega arith)
+neg_zero (negsuc n) h = negated binary64 n
+
+-- as the machine has it
+pub below_zero : (z : ℤ) → SFits w128 z → lt_z (to_z w128 (of_z w128 z)) (pos 0) ≡ true → (m : ℕ) → m ≡ nat_abs (to_z w128 (of_z w128 z)) → neg (of_int binary64 (pos m)) ≡ of_int binary64 z
+below_zero z f h m e = let r = to_z-of_z w128 z f in rw (e, r) (neg_zero z (rw r at h))
+
+-- ---- `magnitude_real`, by its two ranges
 pub two_to_53 : of_bits binary64 0x4340_0000_0000_0000 ≡ fin false 1 (pos 53)
 unfolding of_bits
 two_to_53 = refl
@@ -296,31 +311,28 @@ pub two_to_31 : of_bits binary64 0x41e0_0000_0000_0000 ≡ fin false 1 (pos 31)
 unfolding of_bits
 two_to_31 = refl
 
-module _ (hi lo : ℕ) (fh : hi < 2 ^ 64) (fl : lo < 2 ^ 64) where
-  pub few : hi < 2 ^ 42 → add binary64 (mul binary64 (of_int binary64 (pos (hi * 2048 + lo / 2 ^ 53))) (of_bits binary64 0x4340_0000_0000_0000)) (of_int binary64 (pos (lo % 2 ^ 53))) ≡ of_int binary64 (pos (hi * 2 ^ 64 + lo))
-  few h =
-      joined (mul binary64 (of_int binary64 (pos (hi * 2048 + lo / 2 ^ 53))) (of_bits binary64 0x4340_0000_0000_0000)) (of_int binary64 (pos (lo % 2 ^ 53)))
-      ((hi * 2048 + lo / 2 ^ 53) * 2 ^ 53) (lo % 2 ^ 53) (hi * 2 ^ 64 + lo)
-      (scaled (hi * 2048 + lo / 2 ^ 53) 53 (of_bits binary64 0x4340_0000_0000_0000) two_to_53 (omega arith) (lit≤ tt)) (held (lo % 2 ^ 53) (omega arith)) (omega arith)
+pub few : (n : ℕ) → n < 2 ^ 106 → add binary64 (mul binary64 (of_int binary64 (pos (n / 2 ^ 53))) (of_bits binary64 0x4340_0000_0000_0000)) (of_int binary64 (pos (n % 2 ^ 53))) ≡ of_int binary64 (pos n)
+few n h =
+    joined (mul binary64 (of_int binary64 (pos (n / 2 ^ 53))) (of_bits binary64 0x4340_0000_0000_0000)) (of_int binary64 (pos (n % 2 ^ 53)))
+    (n / 2 ^ 53 * 2 ^ 53) (n % 2 ^ 53) n
+    (scaled (n / 2 ^ 53) 53 (of_bits binary64 0x4340_0000_0000_0000) two_to_53 (omega arith) (lit≤ tt)) (held (n % 2 ^ 53) (omega arith)) (omega arith)
 
-  abbrev a : ℕ
-  a = hi / 1048576
+-- t is 1 where any of the last 32 digits is 1
+module _ (n t : ℕ) where
+  abbrev b : ℕ
+  b = n / 2 ^ 32 % 2 ^ 52 * 2 + t
 
-  abbrev b : ℕ → ℕ
-  b t = hi % 1048576 * 8589934592 + lo / 4294967296 * 2 + t
-
-  -- t is 1 where any of the last 32 digits is 1
-  pub many : 2 ^ 42 ≤ hi → (t : ℕ) → t ≤ 1 → (lo % 4294967296 ≡ 0 → t ≡ 0) → (t ≡ 0 → lo % 4294967296 ≡ 0)
-      → add binary64 (mul binary64 (of_int binary64 (pos a)) (of_bits binary64 0x4530_0000_0000_0000)) (mul binary64 (of_int binary64 (pos (b t))) (of_bits binary64 0x41e0_0000_0000_0000)) ≡ of_int binary64 (pos (hi * 2 ^ 64 + lo))
-  many h t T1 z w =
-      let q = hi * 4294967296 + lo / 4294967296 in
-      let back : q * 2 ^ 32 + lo % 4294967296 ≡ hi * 2 ^ 64 + lo = omega arith in
-      joined (mul binary64 (of_int binary64 (pos a)) (of_bits binary64 0x4530_0000_0000_0000)) (mul binary64 (of_int binary64 (pos (b t))) (of_bits binary64 0x41e0_0000_0000_0000))
-      (a * 2 ^ 84) (b t * 2 ^ 31) (q * 2 ^ 32 + t * 2 ^ 31)
-      (scaled a 84 (of_bits binary64 0x4530_0000_0000_0000) two_to_84 (omega arith) (lit≤ tt))
-      (scaled (b t) 31 (of_bits binary64 0x41e0_0000_0000_0000) two_to_31 (omega arith) (lit≤ tt))
+  pub many : 2 ^ 106 ≤ n → n < 2 ^ 128 → t ≡ min (n % 2 ^ 32) 1
+      → add binary64 (mul binary64 (of_int binary64 (pos (n / 2 ^ 84))) (of_bits binary64 0x4530_0000_0000_0000)) (mul binary64 (of_int binary64 (pos b)) (of_bits binary64 0x41e0_0000_0000_0000)) ≡ of_int binary64 (pos n)
+  many h f e =
+      let q = n / 2 ^ 32 in
+      let back : q * 2 ^ 32 + n % 2 ^ 32 ≡ n = omega arith in
+      joined (mul binary64 (of_int binary64 (pos (n / 2 ^ 84))) (of_bits binary64 0x4530_0000_0000_0000)) (mul binary64 (of_int binary64 (pos b)) (of_bits binary64 0x41e0_0000_0000_0000))
+      (n / 2 ^ 84 * 2 ^ 84) (b * 2 ^ 31) (q * 2 ^ 32 + t * 2 ^ 31)
+      (scaled (n / 2 ^ 84) 84 (of_bits binary64 0x4530_0000_0000_0000) two_to_84 (omega arith) (lit≤ tt))
+      (scaled b 31 (of_bits binary64 0x41e0_0000_0000_0000) two_to_31 (omega arith) (lit≤ tt))
       (omega arith)
       ∙ of_int_is binary64 (q * 2 ^ 32 + t * 2 ^ 31)
-      ∙ sticky binary64 false q 32 (t * 2 ^ 31) (lo % 4294967296) (omega arith) (omega arith) (omega arith) (λ e. w (omega arith)) (λ e. ap (λ (y : ℕ). y * 2 ^ 31) (z e))
+      ∙ sticky binary64 false q 32 (t * 2 ^ 31) (n % 2 ^ 32) (omega arith) (omega arith) (omega arith) (λ z. omega arith) (λ z. omega arith)
       ∙ ap (λ (y : ℕ). round binary64 false y 1) back
-      ∙ sym (of_int_is binary64 (hi * 2 ^ 64 + lo))
+      ∙ sym (of_int_is binary64 n)

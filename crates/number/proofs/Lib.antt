@@ -1,11 +1,6 @@
-pub mod Nans
+pub mod Integers
+pub mod Reals
 pub mod Table
 pub mod Tens
 pub mod Literals
-pub mod Sums
-pub mod Products
-pub mod Quotients
-pub mod Integers
-pub mod Numbers
-pub mod Shifts
 pub mod Theorems

@@ -1,5 +1,5 @@
 -- The theorems that specs/Theorems.antt states. Assumes nothing.
-use Rattle.std.proofs.Common.{◌≡◌, ℕ, zero, suc, ◌+◌, ◌-◌, ◌*◌, ◌/◌, ◌%◌, ◌^◌, ◌<◌, Bool, true, false, cond, ◌&&◌, ◌⊎◌, ℤ, pos, negsuc, ◌+ℤ◌, ◌-ℤ◌, ◌*ℤ◌, neg_ℤ, nat_abs, sym, refl, ap, ◌∙◌, ap₂, inl, inr, mod-lt, mod-eq_of_lt, suc-mul, mul-zero, div-add-mod', zero-mul, arith, to_z, ltb-true, le-ltb, lt-ltb}
+use Rattle.std.proofs.Common.{◌≡◌, ℕ, zero, suc, ◌+◌, ◌-◌, ◌*◌, ◌/◌, ◌%◌, ◌^◌, ◌<◌, Bool, true, false, cond, ◌&&◌, ◌⊎◌, ℤ, pos, negsuc, ◌+ℤ◌, ◌-ℤ◌, ◌*ℤ◌, neg_ℤ, nat_abs, sym, refl, ap, ◌∙◌, ap₂, None as Nothing, inl, inr, mod-lt, mod-eq_of_lt, suc-mul, mul-zero, div-add-mod', zero-mul, arith, to_z, ltb-true, le-ltb, lt-ltb}
 use lib.IntN.{neg_ℤ-+ℤ, pos-+ℤ-pos}
 use lib.Signed.{quot_z, rem_z}
 use lib.Ieee.{Float, nan, inf, fin, binary64, of_int, to_bits, unlike, eq, lt, le}
@@ -9,7 +9,6 @@ use mir.Val.{bits}
 use mir.ValLaws.{half_full, to_z_pos, to_z-neg}
 use Rattle.common.proofs.Choice.{true_false}
 use Rattle.truth.specs.Truth.{of_bool}
-use Rattle.number.specs.declared.Count.TheVariants.{Outside}
 use Rattle.number.specs.declared.Number.{Number}
 use Rattle.number.specs.declared.Number.TheVariants.{Int32, Int64, Real, None}
 use Rattle.opcode.specs.declared.Edition.{Edition}
@@ -18,11 +17,15 @@ use Rattle.opcode.specs.declared.Order.TheVariants.{Less, LessEqual, Greater, Gr
 use Rattle.nearest.specs.Nearest.{is_negative, signed_of}
 use Rattle.mixed.specs.Mixed.{order_real}
 use Rattle.mixed.proofs.Theorems.{integers}
-use Rattle.number.specs.Number.{is_integer, is_real, is_number, value_of, divides, zero_divisor, in_arithmetic, count_in, shift_of}
+use Rattle.number.specs.Number.{is_integer, is_real, is_number, value_of, divides, zero_divisor, in_arithmetic, remainder, count_in, shift_of}
 use Rattle.number.specs.Theorems.{QuotientRemainder, Ends, Complement, LeftNone, RightNone, Remainder, MinusOne, CountsAgree, ZeroDivisor, NegativeZero, MixedExact, IntegersCompared, Odometer, NanFalse, ZerosEqual, WholesExact, PowersExact, RealBits, BitsReal, NanBits, BitsBounded}
 use Rattle.nearest.proofs.Ints.{and_no}
-use Rattle.number.proofs.Numbers.{remainder_below}
 use Rattle.number.proofs.Tens.{powers_hold}
+
+-- a remainder by a width lies below it
+remainder_below : (width : ℕ) (z : ℤ) → 0 < width → remainder width z < width
+remainder_below width (pos n) h = mod-lt n h
+remainder_below width (negsuc n) h = let l : n % width < width = mod-lt n h in omega arith
 
 -- by sign and magnitude
 product_of : (s t : Bool) (m n : ℕ) → signed_of s m *ℤ signed_of t n ≡ signed_of (unlike s t) (m * n)
@@ -117,7 +120,7 @@ pub left_none : LeftNone
 left_none b o p e q r = (alike (zero_divisor o b) None, refl, refl, refl, refl)
 
 -- what is no integer counts no places
-none_counts : (e : Edition) (width : ℕ) → count_in e width None ≡ Outside
+none_counts : (e : Edition) (width : ℕ) → count_in e width None ≡ Nothing
 none_counts Edition.First width = refl
 none_counts Edition.Second width = refl
 

@@ -1,5 +1,5 @@
 -- Numbers and the operators on them. Document 01, "Meaning". `None` is no number: bottom, which every operator hands on.
-use Rattle.std.specs.Prelude.{ℕ, ◌-◌, ◌%◌, ◌^◌, Bool, true, false, cond, ◌&&◌, ◌||◌, ℤ, pos, negsuc, ◌==◌, nat_lt, unsigned_abs, Float}
+use Rattle.std.specs.Prelude.{ℕ, ◌-◌, ◌%◌, Bool, true, false, cond, Option, Some, None as Outside, ◌&&◌, ◌||◌, ℤ, pos, negsuc, ◌==◌, nat_lt, unsigned_abs, Float}
 use Rattle.std.specs.Float.{nan, fin, binary64}
 use Rattle.std.specs.Float.Ieee.{add, sub, mul, div, eq}
 use Rattle.std.specs.Int.{w32, w64}
@@ -8,10 +8,6 @@ use Rattle.truth.specs.declared.Truth.TheVariants.{Bottom}
 use Rattle.truth.specs.Truth.{of_bool}
 use Rattle.number.specs.declared.Number.{Number}
 use Rattle.number.specs.declared.Number.TheVariants.{Int32, Int64, Real, None}
-use Rattle.number.specs.declared.Count.{Count}
-use Rattle.number.specs.declared.Count.TheVariants.{Places, Outside}
-use Rattle.number.specs.declared.integer.Magnitude.{Magnitude}
-use Rattle.number.specs.declared.integer.Magnitude.TheVariants.{Fits, Over}
 use Rattle.opcode.specs.declared.Arithmetic.{Arithmetic}
 use Rattle.opcode.specs.declared.Arithmetic.TheVariants.{Mul, Div, Rem, Add, Sub}
 use Rattle.opcode.specs.declared.Bitwise.{Bitwise}
@@ -125,24 +121,24 @@ abbrev pub places_in : ℕ → ℤ → Bool
 places_in width (pos k) = nat_lt k width
 places_in width (negsuc k) = false
 
-abbrev pub count_of : ℕ → Number → Count
-count_of width b = cond (is_integer b && places_in width (integer_of b)) (Places (unsigned_abs (integer_of b))) Outside
+abbrev pub count_of : ℕ → Number → Option ℕ
+count_of width b = cond (is_integer b && places_in width (integer_of b)) (Some (unsigned_abs (integer_of b))) Outside
 
 -- Document 02, request 9: "the count's remainder by the width, 0 to width less 1, so -1 shifts an int32 by 31"
 abbrev pub remainder : ℕ → ℤ → ℕ
 remainder width (pos k) = k % width
 remainder width (negsuc k) = width - 1 - k % width
 
-abbrev pub remainder_of : ℕ → Number → Count
-remainder_of width b = cond (is_integer b) (Places (remainder width (integer_of b))) Outside
+abbrev pub remainder_of : ℕ → Number → Option ℕ
+remainder_of width b = cond (is_integer b) (Some (remainder width (integer_of b))) Outside
 
 -- the places of a shift in each edition
-abbrev pub count_in : Edition → ℕ → Number → Count
+abbrev pub count_in : Edition → ℕ → Number → Option ℕ
 count_in Edition.First width b = count_of width b
 count_in Edition.Second width b = remainder_of width b
 
-abbrev pub counted : Count → (ℕ → Number) → Number
-counted (Places k) f = f k
+abbrev pub counted : Option ℕ → (ℕ → Number) → Number
+counted (Some k) f = f k
 counted Outside f = None
 
 -- "A shift has its left side's width and type"
@@ -173,12 +169,21 @@ equal_of a b = compared_by eq a b
 abbrev pub order_of : Order → Number → Number → Truth
 order_of op a b = compared_by (order_real op) a b
 
--- Inside the code: an int32's value, and a magnitude that 64 bits hold.
+-- Inside the code: an int32's value, and 0 where there is none; the integer that a number is, and the real that it is in arithmetic with a real.
+abbrev pub integer_in : Number → Option ℤ
+integer_in (Int32 z) = Some z
+integer_in (Int64 z) = Some z
+integer_in (Real x) = Outside
+integer_in None = Outside
+
+abbrev pub real_in : Number → Option Float
+real_in (Int32 z) = Some (nearest_real z)
+real_in (Int64 z) = Some (nearest_real z)
+real_in (Real x) = Some x
+real_in None = Outside
+
 abbrev pub int32_of : Number → ℤ
 int32_of (Int32 z) = z
 int32_of (Int64 z) = pos 0
 int32_of (Real x) = pos 0
 int32_of None = pos 0
-
-abbrev pub magnitude_of : ℕ → Magnitude
-magnitude_of p = cond (nat_lt p (2 ^ 64)) (Fits p) Over

@@ -1,7 +1,7 @@
 // Reals: the value of a real literal, the bits of a real, and f64's own operators.
 // Document 01, "Tokens" ("Reals"), "Notice" ("real64 (8, bits)"), "Meaning".
 ghost use Rattle.std.specs.Prelude.{◌≡◌, ◌<◌, from_bits, is_nan, to_bits};
-ghost use Rattle.std.specs.Float.{binary64, nan};
+ghost use Rattle.std.specs.Float.{binary64};
 ghost use Rattle.number.specs.Real.{ten_to, scaled_of, decimal_of};
 ghost use Rattle.number.specs.Number.{real_arithmetic};
 
@@ -60,46 +60,31 @@ fn scaled(digits: u64, exponent: usize, down: bool) -> f64
 pub fn decimal(digits: u64, exponent: u64, down: bool, negative: bool) -> f64
     ensures { result ≡ decimal_of digits exponent down negative }
 {
-    if 999_999_999_999_999 < digits {
-        return no_number();
-    }
-    if 22 < exponent {
-        return no_number();
+    if 999_999_999_999_999 < digits || 22 < exponent {
+        return f64::NAN;
     }
     let x = scaled(digits, exponent as usize, down);
     if negative { -x } else { x }
 }
 
-fn no_number() -> f64
-    ensures { result ≡ nan }
-{
-    0.0 / 0.0
-}
-
 pub fn is_nan(x: f64) -> bool
     ensures { result ≡ is_nan x }
 {
-    x != x
+    x.is_nan()
 }
 
 // The real of a pattern of 64 bits; "All NaNs count as one value."
 pub fn real_of_bits(n: u64) -> f64
     ensures { result ≡ from_bits binary64 n }
 {
-    if 0x7ff0_0000_0000_0000 < n % 0x8000_0000_0000_0000 {
-        return no_number();
-    }
-    f64::from_bits(n)
+    std::num::f64_from_bits_with_nan(n)
 }
 
 // The pattern of a real; NaN has the one pattern 0x7ff8000000000000.
 pub fn bits_of_real(x: f64) -> u64
     ensures { result ≡ to_bits binary64 x }
 {
-    if x != x {
-        return 0x7ff8_0000_0000_0000;
-    }
-    f64::to_bits(x)
+    std::num::f64_to_bits_with_nan(x)
 }
 
 // "Real with real is f64's own `+ - * /`"; "`%` with a real" is bottom.
