@@ -20,7 +20,7 @@ use mir.Val.{SFits, to_z, of_z}
 use mir.ValLaws.{to_z-of_z}
 use borrow.Author.Tests.{ltb-false, ltb-true, eqb-true, lt-ltb, le-ltb}
 use Rattle.common.proofs.Choice.{true_false}
-use Rattle.nearest.proofs.Ints.{R}
+use Rattle.mixed.proofs.Ints.{R}
 use Rattle.nearest.proofs.Rounding.{Cmp, parts, held, scaled_by, neg_round}
 use Rattle.common.proofs.Choice.{true_false}
 use Rattle.mixed.specs.Mixed.{exactly, Same}

@@ -16,7 +16,7 @@ use mir.Syntax.{Width, w64}
 use mir.Val.{bits, SFits, of_z}
 use mir.ValLaws.{to_z-of_z, pow-bits}
 use borrow.Author.Tests.{eqb-true, eqb-false, lt-ltb, le-ltb, le-leb, lt-leb, eq-eqb, ne_eqb}
-use Rattle.nearest.proofs.Ints.{R}
+use Rattle.mixed.proofs.Ints.{R}
 use Rattle.nearest.proofs.Rounding.{Cmp, cmp, parts}
 use Rattle.mixed.specs.Mixed.{exactly, Same}
 use Rattle.mixed.specs.Theorems.{equal_z}

@@ -1,3 +1,4 @@
+pub mod Ints
 pub mod Weights
 pub mod Theorems
 pub mod Compare

@@ -12,7 +12,7 @@ use lib.Ieee.{below, level}
 use borrow.Author.Tests.{eqb-true, lt-ltb, le-ltb, eq-eqb, ne_eqb}
 use Rattle.common.proofs.Choice.{false_true}
 use Rattle.nearest.specs.Nearest.{signed_of}
-use Rattle.nearest.proofs.Ints.{up, dn, neg}
+use Rattle.mixed.proofs.Ints.{up, dn, neg}
 use Rattle.mixed.specs.Theorems.{equal_z}
 
 -- ---- what ±a weighs on its own side, and on the other

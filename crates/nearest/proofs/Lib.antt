@@ -1,5 +1,2 @@
-pub mod Ints
-pub mod Wholes
 pub mod Rounding
-pub mod Signed
 pub mod Theorems

@@ -19,7 +19,7 @@ use Rattle.mixed.specs.Mixed.{order_real}
 use Rattle.mixed.proofs.Theorems.{integers}
 use Rattle.number.specs.Number.{is_integer, is_real, is_number, value_of, divides, zero_divisor, in_arithmetic, remainder, count_in, shift_of}
 use Rattle.number.specs.Theorems.{QuotientRemainder, Ends, Complement, LeftNone, RightNone, Remainder, MinusOne, CountsAgree, ZeroDivisor, NegativeZero, MixedExact, IntegersCompared, Odometer, NanFalse, ZerosEqual, WholesExact, PowersExact, RealBits, BitsReal, NanBits, BitsBounded}
-use Rattle.nearest.proofs.Ints.{and_no}
+use Rattle.number.proofs.Literals.{and_no}
 use Rattle.number.proofs.Tens.{powers_hold}
 
 -- a remainder by a width lies below it
