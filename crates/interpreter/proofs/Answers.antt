@@ -13,7 +13,7 @@ use Rattle.refusal.specs.declared.Refusal.{Refusal}
 use Rattle.refusal.specs.Refusal.{number_of as refusal_number, place_of as refusal_place}
 use Rattle.refusal.proofs.Numbers.{refuses}
 use Rattle.notice.specs.Layout.{Layout}
-use Rattle.notice.specs.Layout.{check_of as noticeCheck, number_of, stood_of, Indexed}
+use Rattle.notice.specs.Layout.{check_of as noticeCheck, stood_of, Indexed}
 use Rattle.notice.proofs.Stood.{stood_indexed}
 use Rattle.table.specs.Table.{count_of, pool_of, decode}
 use Rattle.table.specs.Check.{check_of as tableCheck, refusal_of}

@@ -5,6 +5,7 @@ use Prim.Native.Nat.{ℕ, ◌-◌}
 use lib.ListN.{length, take}
 use lib.Seq.{take_all}
 use native.Mathlib.Omega.{arith}
+use Rattle.std.proofs.lemmas.Result.{err_from_is_err_and}
 use Rattle.notice.specs.Layout.{check_of}
 use Rattle.notice.specs.Layout.{Layout}
 use Rattle.interpreter.proofs.Answers.{indexed, notice_refused, neither_refused}
@@ -31,4 +32,5 @@ returns c =
 pub returns-in_err-index : goal.returns-in_err-index
 returns-in_err-index c =
     let a = c.args in
-    notice_refused a.table.now a.notice.now _ c.requires (layout_is a.notice.now c.index.ensures.value c.in_err-index.was)
+    let p = err_from_is_err_and c.from_residual.result c.from_residual.ensures.1 in
+    rw (p.1, p.2) (notice_refused a.table.now a.notice.now _ c.requires (layout_is a.notice.now c.index.ensures.value c.in_err-index.was))
