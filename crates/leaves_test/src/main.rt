@@ -52,7 +52,7 @@ fn put_words(to: &mut impl Write) -> io::Result<()> {
         word::read_u16(&s, 0),
         word::read_u32(&s, 2),
         word::read_u64(&s, 6),
-        word::bits_of_i64(word::read_i64(&s, 6)),
+        word::read_i64(&s, 6).cast_unsigned(),
         (word::read_i32(&s, 2) == -2) as u8
     )
 }

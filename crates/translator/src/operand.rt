@@ -146,5 +146,5 @@ pub fn int_bits(text: &[u8], place: usize) -> u64
     if 0 < v {
         return v;
     }
-    word::bits_of_i64(lexer::int_value(text, place))
+    lexer::int_value(text, place).cast_unsigned()
 }

@@ -13,8 +13,8 @@ pub fn field_value(notice: &[u8], kind: u16, start: u16, len: u16) -> Typed
 {
     let at = start as usize;
     match kind {
-        1 => Typed::Int32(word::i32_of_bits(word::read_u32(notice, at))),
-        2 => Typed::Int64(word::i64_of_bits(word::read_u64(notice, at))),
+        1 => Typed::Int32(word::read_u32(notice, at).cast_signed()),
+        2 => Typed::Int64(word::read_u64(notice, at).cast_signed()),
         3 => Typed::Real(number::real_of_bits(word::read_u64(notice, at))),
         4 => Typed::Text(in_notice(start, len)),
         5 => Typed::Opaque(in_notice(start, len)),

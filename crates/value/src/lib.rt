@@ -296,13 +296,13 @@ fn join(op: Many, s: Truth, t: Truth) -> Truth
 pub fn load_int32(b: u64) -> Slot
     ensures { (p : List ℕ) → (q : List ℕ) → (a : ℕ) → item_in p q result ≡ load_of p q Load.Int32 a b }
 {
-    valued(Typed::Int32(word::i32_of_bits((b % 0x1_0000_0000) as u32)))
+    valued(Typed::Int32(((b % 0x1_0000_0000) as u32).cast_signed()))
 }
 
 pub fn load_int64(b: u64) -> Slot
     ensures { (p : List ℕ) → (q : List ℕ) → (a : ℕ) → item_in p q result ≡ load_of p q Load.Int64 a b }
 {
-    valued(Typed::Int64(word::i64_of_bits(b)))
+    valued(Typed::Int64(b.cast_signed()))
 }
 
 pub fn load_real64(b: u64) -> Slot

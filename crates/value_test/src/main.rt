@@ -26,8 +26,8 @@ fn put_piece(to: &mut impl Write, pool: &[u8], notice: &[u8], p: Piece) -> io::R
 fn put_value(to: &mut impl Write, pool: &[u8], notice: &[u8], v: Typed) -> io::Result<()> {
     match v {
         Typed::Bottom => write!(to, "bottom"),
-        Typed::Int32(x) => write!(to, "int32 {:016x}", word::bits_of_i32(x)),
-        Typed::Int64(x) => write!(to, "int64 {:016x}", word::bits_of_i64(x)),
+        Typed::Int32(x) => write!(to, "int32 {:016x}", x.cast_unsigned()),
+        Typed::Int64(x) => write!(to, "int64 {:016x}", x.cast_unsigned()),
         Typed::Real(x) => write!(to, "real64 {:016x}", number::bits_of_real(x)),
         Typed::Text(p) => {
             write!(to, "string ")?;

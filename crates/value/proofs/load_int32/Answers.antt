@@ -7,4 +7,4 @@ use Rattle.value.proofs.load_int32.Goals as goal
 
 pub returns : goal.returns
 returns c =
-    λ p q a. c.valued.ensures p q ∙ ap (λ (z : ℤ). value (int32 z)) (to_z-of_z w32 c.i32_of_bits.result (record { sfits = c.i32_of_bits.type_inv }) ∙ c.i32_of_bits.ensures)
+    λ p q a. c.valued.ensures p q ∙ ap (λ (z : ℤ). value (int32 z)) (to_z-of_z w32 c.cast_signed.result (record { sfits = c.cast_signed.type_inv }) ∙ c.cast_signed.ensures)

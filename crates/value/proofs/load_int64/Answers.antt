@@ -7,4 +7,4 @@ use Rattle.value.proofs.load_int64.Goals as goal
 
 pub returns : goal.returns
 returns c =
-    λ p q a. c.valued.ensures p q ∙ ap (λ (z : ℤ). value (int64 z)) (to_z-of_z w64 c.i64_of_bits.result (record { sfits = c.i64_of_bits.type_inv }) ∙ c.i64_of_bits.ensures)
+    λ p q a. c.valued.ensures p q ∙ ap (λ (z : ℤ). value (int64 z)) (to_z-of_z w64 c.cast_signed.result (record { sfits = c.cast_signed.type_inv }) ∙ c.cast_signed.ensures)

@@ -1,4 +1,4 @@
-use mathlib.Core.Path.{◌≡◌}
+use mathlib.Core.Path.{◌≡◌, refl}
 use Prim.Native.Nat.{◌<◌, ◌+◌, ◌-◌, ◌^◌}
 use native.Mathlib.Omega.{arith}
 use borrow.Author.Rules.{rules}
@@ -10,26 +10,26 @@ pub loop-i-init : goal.loop-i-init
 unfolding word_at
 loop-i-init c =
     let z : c.args.k - c.args.k ≡ 0 = omega arith in
-    (search rules, rw (z, word_at), rw z (search rules))
+    (rw (z, word_at), rw z (search rules))
 
 pub overflow_mul-v : goal.overflow_mul-v
 overflow_mul-v c =
     let j = c.args.k - c.loop-i.i in
-    let m : c.loop-i.v < 256 ^ 7 = fits7 j c.loop-i.invariant.2 (omega arith) in
+    let m : c.loop-i.v < 256 ^ 7 = fits7 j c.loop-i.invariant.1 (omega arith) in
     omega arith
 
-pub overflow_add-v : goal.overflow_add-v
-overflow_add-v c =
+pub overflow_add-v-in-loop-i : goal.overflow_add-v-in-loop-i
+overflow_add-v-in-loop-i c =
     let j = c.args.k - c.loop-i.i in
-    let m : c.loop-i.v < 256 ^ 7 = fits7 j c.loop-i.invariant.2 (omega arith) in
+    let m : c.loop-i.v < 256 ^ 7 = fits7 j c.loop-i.invariant.1 (omega arith) in
+    let b = (c.type_inv.s (c.args.at + (c.loop-i.i - 1))).fits in
     omega arith
 
 pub loop-i-preserved : goal.loop-i-preserved
 loop-i-preserved c =
     let a = c.args in
     let l = c.loop-i in
-    let m = read_more a.k l.i a.at l.v c.wide.result a.s.now (omega arith) l.invariant.0 l.invariant.1 l.invariant.2 c.wide.ensures.0 c.wide.ensures.1 in
-    (omega arith, m.0, m.1)
+    read_more a.k l.i a.at l.v _ a.s.now c.loop-i-test.true l.auto.i l.invariant.0 l.invariant.1 refl (c.type_inv.s (a.at + (l.i - 1))).fits
 
 pub returns : goal.returns
 returns c =
@@ -38,4 +38,4 @@ returns c =
     let z : l.i ≡ 0 = omega arith in
     let e1 : a.k - l.i ≡ a.k = omega arith in
     let e2 : a.at + l.i ≡ a.at = omega arith in
-    (rw (e1, e2) at l.invariant.1, rw e1 at l.invariant.2)
+    (rw (e1, e2) at l.invariant.0, rw e1 at l.invariant.1)

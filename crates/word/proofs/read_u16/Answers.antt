@@ -6,4 +6,4 @@ use Rattle.word.proofs.read_u16.Goals as goal
 pub returns : goal.returns
 returns c =
     let a = c.args in
-    omega (arith, word_parts 1 1 a.at a.s.now, word_one a.at a.s.now, word_one (a.at + 1) a.s.now, c.wide.ensures.0, c.wide-2.ensures.0)
+    omega (arith, c.from_le_bytes.ensures, word_parts 1 1 a.at a.s.now, word_one a.at a.s.now, word_one (a.at + 1) a.s.now)

@@ -9,4 +9,4 @@ returns-then-v-gt0 c = c.few_digits-v.ensures c.if-v-gt0.true
 
 pub returns : goal.returns
 returns c =
-    (rw (to_z-of_z w64 c.int_value.result (record { sfits = c.int_value.type_inv })) at c.bits_of_i64.ensures) ∙ ap (of_z w64) c.int_value.ensures
+    (rw (to_z-of_z w64 c.int_value.result (record { sfits = c.int_value.type_inv })) at c.cast_unsigned.ensures) ∙ ap (of_z w64) c.int_value.ensures

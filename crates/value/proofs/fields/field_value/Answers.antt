@@ -37,13 +37,13 @@ pub returns-in-1 : goal.returns-in-1
 returns-in-1 c =
     let a = c.args in
     let w = word_part 4 a.start a.len a.notice.now (search rules) (four a.kind a.len c.requires.0 c.in-1.is) c.requires.1 in
-    λ p. rw c.in-1.is (ap int32 (to_z-of_z w32 c.i32_of_bits.result (record { sfits = c.i32_of_bits.type_inv }) ∙ c.i32_of_bits.ensures ∙ ap (to_z w32) (c.read_u32.ensures ∙ w)))
+    λ p. rw c.in-1.is (ap int32 (to_z-of_z w32 c.cast_signed.result (record { sfits = c.cast_signed.type_inv }) ∙ c.cast_signed.ensures ∙ ap (to_z w32) (c.read_u32.ensures ∙ w)))
 
 pub returns-in-2 : goal.returns-in-2
 returns-in-2 c =
     let a = c.args in
     let w = word_part 8 a.start a.len a.notice.now (search rules) (eight a.kind a.len c.requires.0 c.in-2.is) c.requires.1 in
-    λ p. rw c.in-2.is (ap int64 (to_z-of_z w64 c.i64_of_bits.result (record { sfits = c.i64_of_bits.type_inv }) ∙ c.i64_of_bits.ensures ∙ ap (to_z w64) (c.read_u64.ensures ∙ w)))
+    λ p. rw c.in-2.is (ap int64 (to_z-of_z w64 c.cast_signed.result (record { sfits = c.cast_signed.type_inv }) ∙ c.cast_signed.ensures ∙ ap (to_z w64) (c.read_u64.ensures ∙ w)))
 
 pub returns-in-3 : goal.returns-in-3
 returns-in-3 c =
