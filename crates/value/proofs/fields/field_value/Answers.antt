@@ -43,7 +43,7 @@ pub returns-in-2 : goal.returns-in-2
 returns-in-2 c =
     let a = c.args in
     let w = word_part 8 a.start a.len a.notice.now (search rules) (eight a.kind a.len c.requires.0 c.in-2.is) c.requires.1 in
-    λ p. rw c.in-2.is (ap int64 (to_z-of_z w64 c.cast_signed.result (record { sfits = c.cast_signed.type_inv }) ∙ c.cast_signed.ensures ∙ ap (to_z w64) (c.read_u64.ensures ∙ w)))
+    λ p. rw c.in-2.is (ap int64 (to_z-of_z w64 c.cast_signed-in-2.result (record { sfits = c.cast_signed-in-2.type_inv }) ∙ c.cast_signed-in-2.ensures ∙ ap (to_z w64) (c.read_u64.ensures ∙ w)))
 
 pub returns-in-3 : goal.returns-in-3
 returns-in-3 c =
