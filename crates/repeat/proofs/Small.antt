@@ -1,12 +1,16 @@
 -- What one run adds, and that it is small. Assumes nothing.
 use Rattle.std.specs.Prelude.{Ok, Err}
-use mathlib.Core.Path.{◌≡◌, sym, ap, ◌∙◌}
+use mathlib.Core.Path.{◌≡◌, refl, sym, ap, ◌∙◌}
 use mathlib.Core.Bool.{true, false}
 use mathlib.Core.List.{List}
 use Prim.Native.Nat.{ℕ, ◌+◌, ◌*◌, ◌≤◌}
 use native.Mathlib.Nat.{suc-mul}
 use native.Mathlib.Numerals.{add-one}
 use native.Mathlib.Omega.{arith}
+use denote.Enum.Declared.{tag_of}
+use Rattle.truth.specs.contracts.Truth.{the_type}
+use Rattle.truth.specs.declared.Truth.{Truth}
+use Rattle.truth.specs.declared.Truth.TheVariants.{False, Bottom, True}
 use Rattle.truth.specs.Truth.{rank}
 use Rattle.refusal.specs.declared.Refusal.{Refusal}
 use Rattle.notice.specs.Layout.{check_of as noticeCheck}
@@ -19,6 +23,12 @@ use Rattle.interpreter.specs.Run.{run_of}
 use Rattle.interpreter.specs.Running.{RunAnswer, answered, answer_of}
 use Rattle.interpreter.proofs.Theorems.{run_steps}
 use Rattle.repeat.specs.Repeat.{weight_of, repeat_of}
+
+-- a verdict's number in the code is its rank
+pub as_rank : (t : Truth) → (tag_of the_type t ≡ rank t) × (tag_of the_type t ≤ 2)
+as_rank False = (refl, omega arith)
+as_rank Bottom = (refl, omega arith)
+as_rank True = (refl, omega arith)
 
 module _ (table notice : List ℕ) (checked : tableCheck table ≡ true) (r : Ran) (ran : answered (Ok r) ≡ answer_of (decode table) notice) where
   pub few : r.steps ≤ 512
