@@ -9,6 +9,7 @@ use borrow.Author.Tests.{lt-ltb, le-ltb}
 use lib.ListN.{length, set, length-append}
 use lib.Seq.{sets, set_comm}
 use Rattle.common.proofs.Stores.{sets_append}
+use Rattle.std.specs.Prelude.{Option, Some, None, IfSome, IfNone, unwrap_or}
 use Rattle.decimal.specs.Decimal.{digits, decimal_of, Put}
 
 -- ---- decimal digits
@@ -33,6 +34,14 @@ digits_more k n h = rw (le-ltb n 10 h)
 pub decimal_small : (n : ℕ) → n < 10 → decimal_of n ≡ (48 + n) ∷ []
 unfolding digits
 decimal_small n h = rw (lt-ltb n 10 h)
+
+digits_last : (k n : ℕ) → n < 10 → digits (suc k) n ≡ (48 + n) ∷ []
+unfolding digits
+digits_last k n h = rw (lt-ltb n 10 h)
+
+digits_none : (n : ℕ) → digits 0 n ≡ []
+unfolding digits
+digits_none n = refl
 
 pub decimal_more : (n : ℕ) → 10 ≤ n → decimal_of n ≡ decimal_of (n / 10) ++ ((48 + n % 10) ∷ [])
 decimal_more n h =
@@ -70,6 +79,37 @@ length_most (suc k) n h =
 pub twenty : (n : ℕ) → n < 18446744073709551616 → length (decimal_of n) ≤ 20
 twenty n h = let l : n < 100000000000000000000 = omega arith in length_most 19 n l
 
+-- as many digits as the power of ten below it says
+pub length_between : (k n : ℕ) → 10 ^ k ≤ n → n < 10 * 10 ^ k → length (decimal_of n) ≡ k + 1
+length_between zero n p q = let s : 10 * 10 ^ zero ≡ 10 = refl in length_small n (omega arith)
+length_between (suc k) n p q =
+    let e = pow-suc 10 k in
+    let o : 1 ≤ 10 ^ k = one_at_least k in
+    let m = length_more n (omega arith) in
+    let ih = length_between k (n / 10) (omega arith) (omega arith) in
+    omega arith
+  where
+    one_at_least : (k : ℕ) → 1 ≤ 10 ^ k
+    one_at_least zero = omega arith
+    one_at_least (suc k) = let e = pow-suc 10 k in let h = one_at_least k in omega arith
+
+-- as many places as there are digits are enough
+pub enough : (k n : ℕ) → length (decimal_of n) ≤ k → digits k n ≡ decimal_of n
+enough zero n h = let s = length_some n in absurd (omega arith)
+enough (suc k) n h = go (dec_lt n 10) (λ f. enough k (n / 10) (let m = length_more n f in omega arith))
+  where
+    go : Dec (n < 10) → (10 ≤ n → digits k (n / 10) ≡ decimal_of (n / 10)) → digits (suc k) n ≡ decimal_of n
+    go (yes l) ih = digits_last k n l ∙ sym (decimal_small n l)
+    go (no l) ih =
+        let f : 10 ≤ n = omega arith in
+        digits_more k n f ∙ ap (λ (l : List ℕ). l ++ ((48 + n % 10) ∷ [])) (ih f) ∙ sym (decimal_more n f)
+
+-- how many digits n has, by the greatest power of ten that is not above it
+pub counted : (o : Option ℕ) (n : ℕ) → n < 18446744073709551616 → IfNone o (n ≡ 0) → IfSome o (λ k. 10 ^ k ≤ n) → IfSome o (λ k. n < 10 * 10 ^ k)
+    → (unwrap_or o 0 + 1 ≡ length (decimal_of n)) × (unwrap_or o 0 + 1 ≤ 20)
+counted None n l z p q = let e = length_small n (omega arith) in (omega arith, omega arith)
+counted (Some k) n l z p q = let e = length_between k n p q in (omega arith, omega (arith, twenty n l))
+
 -- ---- stores one after the other
 
 -- a store after a run of stores is as good before it
@@ -79,22 +119,37 @@ sets_set (x ∷ xs) d at j v h =
     let c : set (set d j v) at x ≡ set (set d at x) j v = set_comm d j at v x (λ e. omega arith) in
     ap (λ (l : List ℕ). sets l (suc at) xs) c ∙ sets_set xs (set d at x) (suc at) j v (omega arith)
 
--- the digits from the last to the first
-pub store_digit : (d : List ℕ) (at n j : ℕ) → 10 ≤ n → j + 1 ≡ at + length (decimal_of n)
-    → sets (set d j (48 + n % 10)) at (decimal_of (n / 10)) ≡ sets d at (decimal_of n)
-store_digit d at n j h e =
-    let m = length_more n h in
-    let i : at + length (decimal_of (n / 10)) ≡ j = omega arith in
-    sets_set (decimal_of (n / 10)) d at j (48 + n % 10) (omega arith)
-    ∙ ap (λ (k : ℕ). set (sets d at (decimal_of (n / 10))) k (48 + n % 10)) (sym i)
-    ∙ sym (sets_append (decimal_of (n / 10)) ((48 + n % 10) ∷ []) d at)
-    ∙ ap (λ (l : List ℕ). sets d at l) (sym (decimal_more n h))
+-- what the k digits of n that are left make of the bytes d from `at` on
+pub record Left (d : List ℕ) (at k n : ℕ) (all : List ℕ) : Type 0 where
+  pub many : length (digits k n) ≡ k
+  pub same : sets d at (digits k n) ≡ all
 
-pub store_last : (d : List ℕ) (at n j : ℕ) → n < 10 → j + 1 ≡ at + length (decimal_of n) → set d j (48 + n) ≡ sets d at (decimal_of n)
-store_last d at n j h e =
-    let m = length_small n h in
-    let i : j ≡ at = omega arith in
-    ap (λ (k : ℕ). set d k (48 + n)) i ∙ ap (λ (l : List ℕ). sets d at l) (sym (decimal_small n h))
+pub all_left : (d : List ℕ) (at n k : ℕ) → k ≡ length (decimal_of n) → Left d at k n (sets d at (decimal_of n))
+all_left d at n k e =
+    let m : digits k n ≡ decimal_of n = enough k n (omega arith) in
+    record { many = ap length m ∙ sym e; same = ap (sets d at) m }
+
+-- the last of them is stored
+pub one_stored : (d : List ℕ) (at k n j : ℕ) (all : List ℕ) → Left d at (suc k) n all → j ≡ at + k → Left (set d j (48 + n % 10)) at k (n / 10) all
+one_stored d at k n j all p e = go (dec_lt n 10)
+  where
+    go : Dec (n < 10) → Left (set d j (48 + n % 10)) at k (n / 10) all
+    go (yes l) =
+        let f = digits_last k n l in
+        let m : k ≡ 0 = omega (arith, p.many, ap length f) in
+        let v : n % 10 ≡ n = omega arith in
+        let i : j ≡ at = omega arith in
+        let x : digits k (n / 10) ≡ [] = ap (λ (u : ℕ). digits u (n / 10)) m ∙ digits_none (n / 10) in
+        record { many = ap length x ∙ sym m; same = rw (x, i, v) (rw f at p.same) }
+    go (no l) =
+        let xs = digits k (n / 10) in
+        let f : digits (suc k) n ≡ xs ++ ((48 + n % 10) ∷ []) = digits_more k n (omega arith) in
+        let m : length xs ≡ k = omega (arith, p.many, ap length f, length-append xs ((48 + n % 10) ∷ [])) in
+        let i : j ≡ at + length xs = omega arith in
+        record {
+          many = m;
+          same = sets_set xs d at j (48 + n % 10) (omega arith) ∙ ap (λ (u : ℕ). set (sets d at xs) u (48 + n % 10)) i ∙ sym (sets_append xs ((48 + n % 10) ∷ []) d at) ∙ ap (sets d at) (sym f) ∙ p.same;
+        }
 
 -- what is put after what was put
 pub joined : {d d1 d2 : List ℕ} {at a b : ℕ} (xs ys : List ℕ) → Put d at xs d1 a → Put d1 a ys d2 b → Put d at (xs ++ ys) d2 b

@@ -24,13 +24,7 @@ pub fn put_bytes(out: &mut [u8], at: usize, s: &[u8]) -> usize
 pub fn places(n: u64) -> usize
     ensures { (result ≡ length (decimal_of n)) × (result ≤ 20) }
 {
-    let mut rest = n;
-    let mut k = 1;
-    while 10 <= rest {
-        rest /= 10;
-        k += 1;
-    }
-    k
+    n.checked_ilog10().unwrap_or(0) as usize + 1
 }
 
 // The digits from the last to the first. Every u64 has at most 20.
@@ -39,13 +33,10 @@ pub fn put_decimal(out: &mut [u8], at: usize, n: u64) -> usize
     ensures { Put out.old at (decimal_of n) out.new result × (result ≤ at + 20) }
 {
     let end = at + places(n);
-    let mut i = end - 1;
     let mut rest = n;
-    while 10 <= rest {
-        out[i] = 48 + (rest % 10) as u8;
+    for i in (at..end).rev() {
+        out[i] = b'0' + (rest % 10) as u8;
         rest /= 10;
-        i -= 1;
     }
-    out[i] = 48 + rest as u8;
     end
 }

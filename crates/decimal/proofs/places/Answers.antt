@@ -1,12 +1,7 @@
-use native.Mathlib.Omega.{arith}
-use Rattle.decimal.proofs.Laws.{length_small, length_more, twenty}
+use Rattle.decimal.proofs.Laws.{counted}
 use Rattle.decimal.proofs.places.Goals as goal
 
-pub loop-rest-init : goal.loop-rest-init
-loop-rest-init c = let h = twenty c.args.n c.ranges.n.fits in (omega arith, h)
-
-pub loop-rest-preserved : goal.loop-rest-preserved
-loop-rest-preserved c = let e = length_more c.loop-rest.rest c.loop-rest-test.true in (omega arith, c.loop-rest.invariant.1)
-
 pub returns : goal.returns
-returns c = let e = length_small c.loop-rest.rest c.loop-rest-test.false in omega arith
+returns c =
+    let e = c.checked_ilog10.ensures in
+    rw c.unwrap_or.ensures (counted c.checked_ilog10.result c.args.n c.ranges.n.fits e.none e.power_le e.next_power_gt)
