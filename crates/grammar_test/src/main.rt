@@ -4,52 +4,46 @@
 ghost use Rattle.postfix.specs.Answer.{Ready};
 
 use postfix::Judged;
+use refusal::Refusal;
 use std::io;
 use std::io::{Read, Write};
-use translator::read::Reading;
 use translator::{read, write};
 
-// The number and place of a refusal.
-type Refused = (u8, usize);
-
 // The grammar's part: of marks that fit the parser.
-fn parsed(text: &[u8], marks: &[u8]) -> Result<Judged, Refused>
+fn parsed(text: &[u8], marks: &[u8]) -> Result<Judged, Refusal>
     requires { Ready marks.now 0 0 }
 {
     let mut codes = [0u16; 512];
-    postfix::parse(marks, &mut codes).map_err(|at| (2, read::place(text, at)))
+    postfix::parse(marks, &mut codes).map_err(|at| Refusal::Grammar(read::place(text, at)))
 }
 
 // What is refused of a text that keeps the grammar.
-fn accepted(judged: Judged, patterns: bool) -> Result<Judged, Refused> {
+fn accepted(judged: Judged, patterns: bool) -> Result<Judged, Refusal> {
     if !judged.forms {
-        return Err((4, 0));
+        return Err(Refusal::Call);
     }
     if !patterns {
-        return Err((18, 0));
+        return Err(Refusal::Pattern);
     }
     if !(judged.kinds & judged.logic) {
-        return Err((5, 0));
+        return Err(Refusal::Kind);
     }
     if 512 < judged.entries {
-        return Err((7, 0));
+        return Err(Refusal::Entries);
     }
     Ok(judged)
 }
 
 // The entries, the pool's bytes and the slots of a text's code.
-fn sizes_of(text: &[u8]) -> Result<(usize, usize, usize), Refused> {
+fn sizes_of(text: &[u8]) -> Result<(usize, usize, usize), Refusal> {
     let mut marks = [0u8; 4096];
     let mut places = [0u16; 512];
     let mut sizes = [0u16; 512];
-    match read::read(text, &mut marks, &mut places, &mut sizes) {
-        Reading::Refused(number, place) => Err((number, place)),
-        Reading::Tokens(n, count, patterns) => {
-            let judged = accepted(parsed(text, &marks[..n])?, patterns)?;
-            let pool = write::pool_length(&sizes, count.min(4096));
-            Ok((judged.entries, pool, judged.depth))
-        }
-    }
+    let reading = read::read(text, &mut marks, &mut places, &mut sizes)?;
+    let n = reading.tokens;
+    let judged = accepted(parsed(text, &marks[..n])?, reading.patterns)?;
+    let pool = write::pool_length(&sizes, reading.operands.min(4096));
+    Ok((judged.entries, pool, judged.depth))
 }
 
 // One text. Answers whether there was one.
@@ -60,7 +54,7 @@ fn next_case(from: &mut impl Read, to: &mut impl Write) -> io::Result<bool> {
     };
     match sizes_of(&text[..n]) {
         Ok((entries, pool, slots)) => writeln!(to, "0 {entries} {pool} {slots} ")?,
-        Err((number, place)) => writeln!(to, "{number} {place} ")?,
+        Err(r) => writeln!(to, "{} {} ", r.number(), r.place())?,
     }
     Ok(true)
 }

@@ -40,7 +40,7 @@ use Rattle.meaning.specs.Meaning.{meaning, text_meaning}
 use Rattle.translator.specs.Compile.{compile}
 use Rattle.translator.specs.Translation.{Outcome, edition_number, translation_of, Answers}
 use Rattle.translator.specs.Theorems.{Accepted}
-use Rattle.translator.specs.declared.Translated.{Translated}
+use Rattle.translator.specs.Translation.{Translated}
 use Rattle.translator.proofs.Sound.{size}
 use Rattle.translator.proofs.Lexed.{lexed_text}
 use Rattle.translator.proofs.Fits.{fits_room, refused_empty}

@@ -30,7 +30,7 @@ use Rattle.meaning.specs.Meaning.{text_meaning}
 use Rattle.translator.specs.Compile.{compile}
 use Rattle.translator.specs.Translation.{Outcome, refusal, edition_number, translation_of, Answers}
 use Rattle.translator.specs.Theorems.{Accepted}
-use Rattle.translator.specs.declared.Translated.{Translated}
+use Rattle.translator.specs.Translation.{Translated}
 use Rattle.router.specs.declared.matching.Matched.{Matched}
 
 -- What the demand asks of a table, of the number, verdict and steps answered for it on a notice, and of the runner's machine after so many visits.

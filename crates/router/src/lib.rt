@@ -34,10 +34,18 @@ pub fn virentolex_translate(
 ) -> u8
     ensures { Answers (translation_of edition text.now (length buffer.old)) buffer.old buffer.new (record { number = result; place = place.new; length = len.new }) }
 {
-    let t = translator::translate(edition, text, buffer);
-    *place = t.place;
-    *len = t.length;
-    t.number
+    match translator::translate(edition, text, buffer) {
+        Ok(n) => {
+            *place = 0;
+            *len = n;
+            0
+        }
+        Err(r) => {
+            *place = r.place();
+            *len = 0;
+            r.number()
+        }
+    }
 }
 
 // "12 | table fails layout or check"

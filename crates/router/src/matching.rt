@@ -75,12 +75,10 @@ fn translate_and_run(
     requires { noticeCheck notice.now ≡ Ok tt }
     ensures { RunsTable (translation_of edition text.now (length buffer.old)) buffer.old notice.now buffer.new visits result }
 {
-    let t = translator::translate(edition, text, buffer);
-    if t.number != 0 {
-        return refused(t.number, t.place);
+    match translator::translate(edition, text, buffer) {
+        Ok(end) => check_and_run(&buffer[0..end], notice, visits),
+        Err(r) => refused(r.number(), r.place()),
     }
-    let end = t.length;
-    check_and_run(&buffer[0..end], notice, visits)
 }
 
 // Judges the notice, then translates the text into the buffer in the edition named, checks the table and runs it on the notice. A refusal leaves every byte of the buffer as it was; a table stands at the buffer's start, and every later byte stays.

@@ -16,7 +16,7 @@ use Rattle.record.specs.Record.{record_of, waits_of}
 use Rattle.decimal.specs.Decimal.{Put}
 use Rattle.record.specs.Line.{text_line, kind_line, error_line, line_room}
 use Rattle.decimal.proofs.Laws.{renamed, joined}
-use Rattle.translator.specs.declared.Translated.{Translated}
+use Rattle.translator.specs.Translation.{Translated}
 use Rattle.translator.specs.Translation.{Outcome, translation_of, answer_of, Answers as Translates}
 use Rattle.translator.proofs.Fits.{fits_room}
 use Rattle.interpreter.specs.Running.{running_of}

@@ -26,11 +26,15 @@ fn answer_text(bytes: &[u8], table: &mut [u8], out: &mut [u8], at: usize) -> Ans
     requires { (6 ≤ length bytes.now) × (at + line_room ≤ length out.old) }
     ensures { (t : List ℕ) → Answers 3 bytes.now t table.old out.old at table.new out.new result }
 {
-    let t = translator::translate(1, &bytes[6..], table);
-    let next = record::put_text_line(out, at, t.number as u64, t.place as u64, t.length as u64);
-    Answered {
-        held: t.length,
-        next: next,
+    match translator::translate(1, &bytes[6..], table) {
+        Ok(n) => Answered {
+            held: n,
+            next: record::put_text_line(out, at, 0, 0, n as u64),
+        },
+        Err(r) => Answered {
+            held: 0,
+            next: record::put_text_line(out, at, r.number() as u64, r.place() as u64, 0),
+        },
     }
 }
 

@@ -13,8 +13,13 @@ use Rattle.common.specs.Choice.{pick}
 use Rattle.word.specs.Word.{Bytes}
 use Rattle.opcode.specs.declared.Edition.{Edition}
 use Rattle.lexer.specs.Token.{Token, Placed, kind_of, Lexed, tokens, refused, tokens_of, kinds_of, starts_of}
-use Rattle.lexer.specs.Answer.{lexing_of}
-use Rattle.lexer.specs.Answer.{Lexing}
+use Rattle.refusal.specs.Refusal.{number_of, place_of}
+use Rattle.refusal.specs.declared.Refusal.{Refusal}
+use Rattle.refusal.proofs.Numbers.{refuses}
+use Rattle.refusal.specs.declared.Refusal.TheVariants as why
+use Rattle.refusal.specs.declared.Refusal.TheVariants.{Call, Kind, Nesting, Entries, Stack, Pattern, Grammar}
+use Rattle.std.specs.Prelude.{Ok, Err, Result as Reply}
+use Rattle.lexer.specs.Answer.{lexing_of, Lexing}
 use Rattle.lexer.specs.Answer as lexing
 use Rattle.grammar.specs.Tree.{Tree}
 use Rattle.grammar.specs.Grammar.{Level}
@@ -36,15 +41,11 @@ use Rattle.postfix.proofs.Codes.{length_codes}
 use Rattle.postfix.specs.Packed.{counted_to}
 use Rattle.postfix.specs.Answer.{judged_of, answer_of as parsedOf, Leaves, Ready}
 use Rattle.postfix.specs.declared.Judged.{Judged}
-use Rattle.postfix.specs.declared.Parsed.{Parsed}
-use Rattle.postfix.specs.declared.Parsed.TheVariants.{Whole, Broken}
 use Rattle.translator.specs.Expand.{expand, pooled, Sized, sum_from}
 use Rattle.translator.specs.Emit.{Roomy, kinds_in, starts_in, Tokened, read_of, Reads, PlaceOf, Known, first_by, Coded}
-use Rattle.translator.specs.Translation.{refusal, answer_of, refusal_of, of_tree, of_result, of_tokens, of_lexed, translation_in, is_edition, edition_by, translation_of, Answers}
+use Rattle.translator.specs.Translation.{refusal, answer_of, refusal_of, of_tree, of_result, of_tokens, of_lexed, translation_in, is_edition, edition_by, edition_named, translation_of, Translated, answered, Answers}
 use Rattle.translator.specs.Theorems.{Right}
-use Rattle.translator.specs.declared.Translated.{Translated}
 use Rattle.translator.specs.declared.read.Reading.{Reading}
-use Rattle.translator.specs.declared.read.Reading.TheVariants.{Tokens, Refused}
 use Rattle.translator.proofs.Derived.{AllRight, level_sound}
 use Rattle.translator.proofs.Sound.{Sound}
 use Rattle.translator.proofs.Bounded.{total_of, bounded}
@@ -132,16 +133,16 @@ no_place s p a b ps e =
 
 -- ---- reading
 
-pub reads_refused : (s marks places sizes : List ℕ) {q : Lexing} {k at : ℕ} → q ≡ lexing_of (tokens_of s) → q ≡ lexing.Refused k at → Reads s marks places sizes (Refused k at)
+pub reads_refused : (s marks places sizes : List ℕ) (r : Refusal) {q : Lexing} → q ≡ lexing_of (tokens_of s) → q ≡ lexing.Refused (number_of r) (place_of r) → Reads s marks places sizes (Err r)
 unfolding translation_in of_lexed
-reads_refused s marks places sizes a b e room = rw (refused_told (tokens_of s) (sym a ∙ b)).1
+reads_refused s marks places sizes r a b e room = rw (refused_told (tokens_of s) (sym a ∙ b)).1
 
 module _ {s : List ℕ} {n : ℕ} (t : Lexes s n) {kinds starts : List ℕ} (ek : kinds ≡ kinds_in t.placed) (es : starts ≡ starts_in t.placed) where
   abbrev those : List ℕ
   those = marks_of (tokens_in s kinds starts)
 
   -- the marks are a front of their array
-  pub reads_tokens : (front rest : List ℕ) {places sizes : List ℕ} (was-places was-sizes : List ℕ) {r : Reading} → front ≡ those
+  pub reads_tokens : (front rest : List ℕ) {places sizes : List ℕ} (was-places was-sizes : List ℕ) {r : Reply Reading Refusal} → front ≡ those
       → places ≡ sets was-places 0 (operand_places front starts) → sizes ≡ sets was-sizes 0 (operand_sizes s front starts) → r ≡ read_of s kinds starts → Reads s (front ++ rest) places sizes r
   unfolding read_of translation_in of_lexed of_tokens
   reads_tokens front rest {places} {sizes} wp wz {r} em ep ez er = rw er (go (too_deep those) refl)
@@ -152,7 +153,7 @@ module _ {s : List ℕ} {n : ℕ} (t : Lexes s n) {kinds starts : List ℕ} (ek 
       taken : take (length those) (front ++ rest) ≡ those
       taken = ap (λ (xs : List ℕ). take (length those) (xs ++ rest)) em ∙ take-append_seam those rest
 
-      go : (b : Bool) → too_deep those ≡ b → Reads s (front ++ rest) places sizes (pick b (λ _. Refused 6 0) (λ _. Tokens (length those) (length (operand_places those starts)) (patterns_by s those starts)))
+      go : (b : Bool) → too_deep those ≡ b → Reads s (front ++ rest) places sizes (pick b (λ _. Err Nesting) (λ _. Ok (record { tokens = length those; operands = length (operand_places those starts); patterns = patterns_by s those starts })))
       go true e = λ edition room. rw (t.are, sym same ∙ e)
       go false e = (
         omega (arith, ap length em, length-append front rest),
@@ -169,21 +170,19 @@ module _ {s : List ℕ} {n : ℕ} (t : Lexes s n) {kinds starts : List ℕ} (ek 
       )
 
 module _ (s kinds starts : List ℕ) {k : List ℕ} (e : k ≡ marks_of (tokens_in s kinds starts)) where
-  pub read_deep : too_deep k ≡ true → Refused 6 0 ≡ read_of s kinds starts
+  pub read_deep : too_deep k ≡ true → Err Nesting ≡ read_of s kinds starts
   unfolding read_of
   read_deep d = rw (sym (ap too_deep e) ∙ d)
 
-  pub read_marks : {count : ℕ} {right : Bool} → too_deep k ≡ false → count ≡ length (operand_places k starts) → right ≡ patterns_by s k starts → Tokens (length k) count right ≡ read_of s kinds starts
+  pub read_marks : {count : ℕ} {right : Bool} → too_deep k ≡ false → count ≡ length (operand_places k starts) → right ≡ patterns_by s k starts → Ok (record { tokens = length k; operands = count; patterns = right }) ≡ read_of s kinds starts
   unfolding read_of
-  read_marks {count} {right} d ec er =
-      let told : Tokens (length k) count right ≡ Tokens (length k) (length (operand_places k starts)) (patterns_by s k starts) = ap₂ (λ (n : ℕ) (b : Bool). Tokens (length k) n b) ec er in
-      told ∙ ap (λ (ms : List ℕ). Tokens (length ms) (length (operand_places ms starts)) (patterns_by s ms starts)) e ∙ rw (sym (ap too_deep e) ∙ d)
+  read_marks {count} {right} d ec er = rw (ec, er, e, sym (ap too_deep e) ∙ d)
 
 pub front_as : (n : ℕ) (xs : List ℕ) → take (n - 0) (drop 0 xs) ≡ take n xs
 front_as n xs = let e : n - 0 ≡ n = omega arith in ap (λ (m : ℕ). take m xs) e
 
-pub answers_read : (s : List ℕ) {number place : ℕ} (e : Edition) (room : ℕ) {was : List ℕ} {r : Translated} → ((e : Edition) (room : ℕ) → translation_in e s room ≡ refusal number place) → r ≡ answer_of (refusal number place) → Answers (translation_in e s room) was was r
-answers_read s e room f q = answers_as (f e room) (record { answer = q; bytes = refl })
+pub answers_read : (s : List ℕ) (r : Refusal) (e : Edition) (room : ℕ) {was : List ℕ} → ((e : Edition) (room : ℕ) → translation_in e s room ≡ refusal (number_of r) (place_of r)) → Answers (translation_in e s room) was was (answered (Err r))
+answers_read s r e room f = answers_as (f e room) (record { answer = refl; bytes = refl })
 
 -- ---- the parser's answer
 
@@ -220,20 +219,20 @@ module _ {s marks places sizes : List ℕ} {count : ℕ} {patterns : Bool} (byte
   unfolding translation_in of_lexed of_tokens
   outcome e room {x} q = rw (g.lexed, g.shallow, ← lexed.stand, q)
 
-  broken_told : (x : Result) {p : ℕ} → parsedOf x ≡ Broken p → x ≡ bad p
+  broken_told : (x : Result) {p : ℕ} → parsedOf x ≡ Err p → x ≡ bad p
   broken_told (ok t m) e = let z : ◌≡◌ {A = ℕ} 0 1 = cc in absurd (omega arith)
   broken_told (bad q) {p} e = let a : q ≡ p = cc in ap bad a
 
-  pub answers_broken : {q : Parsed} {p n : ℕ} (e : Edition) (room : ℕ) {was : List ℕ} {r : Translated} → q ≡ parsedOf (parse_all ks) → q ≡ Broken p → PlaceOf s p n → r ≡ answer_of (refusal 2 n) → Answers (translation_in e s room) was was r
+  pub answers_broken : {q : Reply Judged ℕ} {p n : ℕ} (e : Edition) (room : ℕ) {was : List ℕ} → q ≡ parsedOf (parse_all ks) → q ≡ Err p → PlaceOf s p n → Answers (translation_in e s room) was was (answered (Err (Grammar n)))
   unfolding of_result
-  answers_broken e room a b pl er =
-      rw (outcome e room (broken_told (parse_all ks) (sym a ∙ b))) (record { answer = er ∙ ap (λ (m : ℕ). answer_of (refusal 2 m)) (pl g.placed g.lexed); bytes = refl })
+  answers_broken e room a b pl =
+      rw (outcome e room (broken_told (parse_all ks) (sym a ∙ b))) (record { answer = ap (λ (m : ℕ). answer_of (refusal 2 m)) (pl g.placed g.lexed); bytes = refl })
 
-  whole_told : (x : Result) {j : Judged} → parsedOf x ≡ Whole j → (t : Tree) × (m : ℕ) × (x ≡ ok t m) × (j ≡ judged_of t)
+  whole_told : (x : Result) {j : Judged} → parsedOf x ≡ Ok j → (t : Tree) × (m : ℕ) × (x ≡ ok t m) × (j ≡ judged_of t)
   whole_told (ok t m) {j} e = let a : j ≡ judged_of t = cc in (t, m, refl, a)
   whole_told (bad p) e = let z : ◌≡◌ {A = ℕ} 0 1 = cc in absurd (omega arith)
 
-  pub known : (codes was : List ℕ) {q : Parsed} {j : Judged} → q ≡ parsedOf (parse_all ks) → q ≡ Whole j → Leaves (parse_all ks) 0 was codes → Known s places sizes codes count patterns j
+  pub known : (codes was : List ℕ) {q : Reply Judged ℕ} {j : Judged} → q ≡ parsedOf (parse_all ks) → q ≡ Ok j → Leaves (parse_all ks) 0 was codes → Known s places sizes codes count patterns j
   known codes was {q} {j} a b l =
       let w = whole_told (parse_all ks) (sym a ∙ b) in
       let e = w.2 in
@@ -281,20 +280,41 @@ operands_few xs i (suc n) = go (is_operand (mark_at xs i)) (operands_few xs (i +
     go true h = omega arith
     go false h = omega arith
 
--- the refusals up to 8
-module _ (j : Judged) (p : Bool) (a : not j.forms ≡ false) (b : not p ≡ false) where
-  pub first_5 : not (j.kinds && j.logic) ≡ true → 5 ≡ first_by j p
-  first_5 c = rw (a, b, c)
+-- the refusals up to 8, by number
+abbrev first_number : Reply (Unit {0}) Refusal → ℕ
+first_number (Ok u) = 0
+first_number (Err r) = number_of r
 
-  module _ (c : not (j.kinds && j.logic) ≡ false) where
-    pub first_7 : 512 < j.entries → 7 ≡ first_by j p
-    first_7 d = rw (a, b, c, lt-ltb 512 j.entries d)
+-- a refusal is one of them, with no place
+pub record First (q : Reply (Unit {0}) Refusal) (r : Refusal) : Type 0 where
+  pub number : first_number q ≡ number_of r
+  pub some : number_of r ≡ 0 → ⊥
+  pub none : place_of r ≡ 0
 
-    pub first_8 : j.entries ≤ 512 → 32 < j.depth → 8 ≡ first_by j p
-    first_8 d e = rw (a, b, c, le-ltb 512 j.entries d, lt-ltb 32 j.depth e)
+first_one : (j : Judged) (p : Bool) {r : Refusal} → first_by j p ≡ Err r → First (first_by j p) r
+first_one j p {r} = go (not j.forms) (not p) (not (j.kinds && j.logic)) (ltb 512 j.entries) (ltb 32 j.depth)
+  where
+    is : (a : Refusal) → place_of a ≡ 0 → ◌≡◌ {A = Reply (Unit {0}) Refusal} (Err a) (Err r) → First (Err a) r
+    is a n e = let q : a ≡ r = cc in record { number = ap number_of q; some = λ z. refuses r z; none = sym (ap place_of q) ∙ n }
 
-    pub first_0 : j.entries ≤ 512 → j.depth ≤ 32 → 0 ≡ first_by j p
-    first_0 d e = rw (a, b, c, le-ltb 512 j.entries d, le-ltb 32 j.depth e)
+    go : (a b c d e : Bool) → ◌≡◌ {A = Reply (Unit {0}) Refusal} (cond a (Err Call) (cond b (Err Pattern) (cond c (Err Kind) (cond d (Err Entries) (cond e (Err Stack) (Ok tt)))))) (Err r)
+        → First (cond a (Err Call) (cond b (Err Pattern) (cond c (Err Kind) (cond d (Err Entries) (cond e (Err Stack) (Ok tt)))))) r
+    go true b c d e = is Call refl
+    go false true c d e = is Pattern refl
+    go false false true d e = is Kind refl
+    go false false false true e = is Entries refl
+    go false false false false true = is Stack refl
+    go false false false false false = λ q. cc
+
+first_number_is : (a p b c d g : Bool) → first_number (cond (not a) (Err Call) (cond (not p) (Err Pattern) (cond (not (b && c)) (Err Kind) (cond d (Err Entries) (cond g (Err Stack) (Ok tt))))))
+    ≡ cond (not a) 4 (cond (not p) 18 (cond (not (b && c)) 5 (cond d 7 (cond g 8 0))))
+first_number_is false p b c d g = refl
+first_number_is true false b c d g = refl
+first_number_is true true false c d g = refl
+first_number_is true true true false d g = refl
+first_number_is true true true true true g = refl
+first_number_is true true true true false true = refl
+first_number_is true true true true false false = refl
 
 -- 63 are counted, and asked is whether they are over 32
 over_32 : (n : ℕ) → ltb 32 (counted_to n) ≡ ltb 32 n
@@ -329,20 +349,28 @@ module _ {s places sizes codes : List ℕ} {count : ℕ} {patterns : Bool} {j : 
       let g = k.tokened in
       parsed_patterns s (kinds_in g.placed) (starts_in g.placed) t k.is_ok ∙ ap (λ (ms : List ℕ). patterns_by s ms (starts_in g.placed)) (sym g.marks_are) ∙ sym g.patterns_are
 
-  first_is : first_by j patterns ≡ found_number (found_of t)
-  first_is = ap₂ first_by k.has (sym patterns_told) ∙ rw (over_32 (depth_of t))
+  first_is : first_number (first_by j patterns) ≡ found_number (found_of t)
+  first_is =
+      ap₂ (λ (x : Judged) (p : Bool). first_number (first_by x p)) k.has (sym patterns_told)
+      ∙ first_number_is (forms_right t) (patterns_right t) (kinds_right t) (is_logic t) (ltb 512 (entries_of t)) (ltb 32 (counted_to (depth_of t)))
+      ∙ rw (over_32 (depth_of t))
 
   tree_outcome : (e : Edition) (room : ℕ) → translation_in e s room ≡ of_tree e t room
   unfolding of_result
   tree_outcome e room = outcome bytes k.tokened e room k.is_ok
 
-  pub first_refused : (e : Edition) (room : ℕ) {n : ℕ} {was : List ℕ} {r : Translated} → n ≡ first_by j patterns → (n ≡ 0 → ⊥) → r ≡ answer_of (refusal n 0) → Answers (translation_in e s room) was was r
-  first_refused e room {n} en z q =
-      let f : found_number (found_of t) ≡ n = sym (en ∙ first_is) in
-      let num : refusal_of e t room ≡ n = refusal_by_lem e t room ∙ rw (f, ne_eqb n 0 z) in
-      answers_as (tree_outcome e room) (tree_refused e t room num z q)
+  pub first_refused : (e : Edition) (room : ℕ) {q : Reply (Unit {0}) Refusal} {r : Refusal} {was : List ℕ} → q ≡ first_by j patterns → q ≡ Err r → Answers (translation_in e s room) was was (answered (Err r))
+  first_refused e room {q} {r} eq er =
+      let n = number_of r in
+      let h = first_one j patterns (sym eq ∙ er) in
+      let f : found_number (found_of t) ≡ n = sym first_is ∙ h.number in
+      let num : refusal_of e t room ≡ n = refusal_by_lem e t room ∙ rw (f, ne_eqb n 0 h.some) in
+      answers_as (tree_outcome e room) (tree_refused e t room num h.some (rw h.none))
 
-  module _ (none : first_by j patterns ≡ 0) where
+  module _ (passed : first_by j patterns ≡ Ok tt) where
+    none : first_number (first_by j patterns) ≡ 0
+    none = ap first_number passed
+
     right_few : Right t × (entries_of t ≤ 512) × (depth_of t ≤ 32)
     right_few = first_none t (forms_right t) (patterns_right t) (kinds_right t) (is_logic t) (ltb 512 (entries_of t)) (ltb 32 (depth_of t)) refl refl refl refl refl refl (sym first_is ∙ none)
 
@@ -443,20 +471,22 @@ module _ {s places sizes codes : List ℕ} {count : ℕ} {patterns : Bool} {j : 
 
 -- ---- the edition's number
 
-module _ (number : ℕ) where
-  is_edition_lem : {t : Bool} → (not (eqb number 1) && not (eqb number 2)) ≡ t → is_edition number ≡ not t
-  is_edition_lem = go (eqb number 1) (eqb number 2)
+module _ (number : ℕ) (s : List ℕ) (room : ℕ) {was : List ℕ} where
+  pub answers_other : {r : Refusal} → edition_named number ≡ Err r → Answers (translation_of number s room) was was (answered (Err r))
+  unfolding translation_of
+  answers_other {r} = go (eqb number 1) (eqb number 2)
     where
-      go : (a b : Bool) {t : Bool} → (not a && not b) ≡ t → (a || b) ≡ not t
-      go true b e = ap not e
-      go false b e = sym (not-not b) ∙ ap not e
+      go : (a b : Bool) → cond a (Ok Edition.First) (cond b (Ok Edition.Second) (Err why.Edition)) ≡ Err r → Answers (pick (a || b) (λ _. translation_in (cond a Edition.First Edition.Second) s room) (λ _. refusal 25 0)) was was (answered (Err r))
+      go true b e = cc
+      go false true e = cc
+      go false false e = let q : why.Edition ≡ r = cc in rw (← q) (record { answer = refl; bytes = refl })
 
-  module _ (s : List ℕ) (room : ℕ) {was : List ℕ} {r : Translated} where
-    pub answers_other : (not (eqb number 1) && not (eqb number 2)) ≡ true → r ≡ answer_of (refusal 25 0) → Answers (translation_of number s room) was was r
-    unfolding translation_of
-    answers_other h e = rw (is_edition_lem h) (record { answer = e; bytes = refl })
-
-    pub answers_edition : {now : List ℕ} {edition : Edition} → (not (eqb number 1) && not (eqb number 2)) ≡ false → edition ≡ edition_by number → Answers (translation_in edition s room) was now r
-        → Answers (translation_of number s room) was now r
-    unfolding translation_of
-    answers_edition h e a = rw (is_edition_lem h, ← e) a
+  pub answers_edition : {now : List ℕ} {edition : Edition} {r : Translated} → edition_named number ≡ Ok edition → Answers (translation_in edition s room) was now r → Answers (translation_of number s room) was now r
+  unfolding translation_of
+  answers_edition {now} {edition} {r} = go (eqb number 1) (eqb number 2)
+    where
+      go : (a b : Bool) → cond a (Ok Edition.First) (cond b (Ok Edition.Second) (Err why.Edition)) ≡ Ok edition → Answers (translation_in edition s room) was now r
+          → Answers (pick (a || b) (λ _. translation_in (cond a Edition.First Edition.Second) s room) (λ _. refusal 25 0)) was now r
+      go true b e h = let q : Edition.First ≡ edition = cc in rw q h
+      go false true e h = let q : Edition.Second ≡ edition = cc in rw q h
+      go false false e h = cc

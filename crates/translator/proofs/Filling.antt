@@ -26,8 +26,7 @@ use Rattle.grammar.specs.Answer.{Found, found_of}
 use Rattle.translator.specs.Compile.{code_of, bytes_of, compile}
 use Rattle.translator.specs.Expand.{expand, pooled}
 use Rattle.translator.specs.Emit.{entry_start, Coded, table_answer, header_bytes, refusal_by}
-use Rattle.translator.specs.Translation.{Outcome, refusal_of, of_tree, refusal, answer_of, Answers, translation_in}
-use Rattle.translator.specs.declared.Translated.{Translated}
+use Rattle.translator.specs.Translation.{Outcome, refusal_of, of_tree, refusal, answer_of, Answers, translation_in, Translated}
 use Rattle.translator.proofs.Sound.{size, pool_size}
 
 -- ---- the header

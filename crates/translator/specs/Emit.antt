@@ -1,8 +1,11 @@
 -- What each step of translation asks of the steps before it: of the arrays that reading fills, of an expression that the parser accepts, and of its codes.
-use Rattle.std.specs.Prelude.{ℕ, ◌+◌, ◌*◌, ◌≤◌, ◌≡◌, Bool, false, cond, not, ◌&&◌, List, ◌++◌, map, ltb, length, get_or, take}
+use Rattle.std.specs.Prelude.{ℕ, Ok, Err, Result as Reply, ◌+◌, ◌*◌, ◌≤◌, ◌≡◌, Bool, false, cond, not, ◌&&◌, List, ◌++◌, map, ltb, length, get_or, take}
 use Rattle.std.proofs.lemmas.List.Edits.{sets}
 use Rattle.common.specs.Choice.{pick}
 use Rattle.word.specs.Word.{word_bytes}
+use Rattle.refusal.specs.Refusal.{number_of, place_of}
+use Rattle.refusal.specs.declared.Refusal.{Refusal}
+use Rattle.refusal.specs.declared.Refusal.TheVariants.{Call, Kind, Nesting, Entries, Stack, Pattern}
 use Rattle.opcode.specs.declared.Edition.{Edition}
 use Rattle.table.specs.Table.{table_kind}
 use Rattle.lexer.specs.Token.{Placed, kind_of, tokens, tokens_of}
@@ -20,15 +23,16 @@ use Rattle.postfix.specs.Answer.{judged_of}
 use Rattle.postfix.specs.declared.Judged.{Judged}
 use Rattle.translator.specs.Compile.{code_of, bytes_of}
 use Rattle.translator.specs.Expand.{expand, pooled, Sized}
-use Rattle.translator.specs.Translation.{refusal, or_short, of_tree, translation_in}
+use Rattle.translator.specs.Translation.{refusal, or_short, Translated, of_tree, translation_in}
 use Rattle.translator.specs.Theorems.{Right}
-use Rattle.translator.specs.declared.Translated.{Translated}
 use Rattle.translator.specs.declared.read.Reading.{Reading}
-use Rattle.translator.specs.declared.read.Reading.TheVariants.{Tokens, Refused}
 
 -- ---- reading
 
--- whatever is at most 512, and at most n, is within an array
+-- whatever is at most 512, and at most n, is within a size, which may be an array's
+abbrev pub Room : ℕ → ℕ → Type 0
+Room n size = (m : ℕ) → m ≤ 512 → m ≤ n → m ≤ size
+
 abbrev pub Roomy : ℕ → List ℕ → Type 0
 Roomy n array = (m : ℕ) → m ≤ 512 → m ≤ n → m ≤ length array
 
@@ -54,15 +58,15 @@ pub record Tokened (s marks places sizes : List ℕ) (count : ℕ) (patterns : B
   pub patterns_are : patterns ≡ patterns_by s marks (starts_in placed)
 
 -- what reading answers of the kinds and starts of legal tokens
-unfoldable pub read_of : List ℕ → List ℕ → List ℕ → Reading
+unfoldable pub read_of : List ℕ → List ℕ → List ℕ → Reply Reading Refusal
 read_of s kinds starts =
     let marks = marks_of (tokens_in s kinds starts) in
-    pick (too_deep marks) (λ _. Refused 6 0) (λ _. Tokens (length marks) (length (operand_places marks starts)) (patterns_by s marks starts))
+    pick (too_deep marks) (λ _. Err Nesting) (λ _. Ok (record { tokens = length marks; operands = length (operand_places marks starts); patterns = patterns_by s marks starts }))
 
 -- what reading answers of a text, and leaves in the arrays: the front of the marks are those of its tokens
-abbrev pub Reads : List ℕ → List ℕ → List ℕ → List ℕ → Reading → Type 0
-Reads s marks places sizes (Tokens n count patterns) = (n ≤ length marks) × Tokened s (take n marks) places sizes count patterns
-Reads s marks places sizes (Refused number place) = (e : Edition) (room : ℕ) → translation_in e s room ≡ refusal number place
+abbrev pub Reads : List ℕ → List ℕ → List ℕ → List ℕ → Reply Reading Refusal → Type 0
+Reads s marks places sizes (Ok r) = (r.tokens ≤ length marks) × Tokened s (take r.tokens marks) places sizes r.operands r.patterns
+Reads s marks places sizes (Err r) = (e : Edition) (room : ℕ) → translation_in e s room ≡ refusal (number_of r) (place_of r)
 
 -- the place of a token in a text of legal tokens, or the text's length
 abbrev pub PlaceOf : List ℕ → ℕ → ℕ → Type 0
@@ -79,9 +83,9 @@ pub record Known (s places sizes codes : List ℕ) (count : ℕ) (patterns : Boo
   pub has : j ≡ judged_of tree
   pub codes_are : Fronts (codes_of tree) codes
 
--- the first of the refusals 4, 18, 5, 7 and 8, 0 if none applies
-abbrev pub first_by : Judged → Bool → ℕ
-first_by j patterns = cond (not j.forms) 4 (cond (not patterns) 18 (cond (not (j.kinds && j.logic)) 5 (cond (ltb 512 j.entries) 7 (cond (ltb 32 j.depth) 8 0))))
+-- the first of the refusals 4, 18, 5, 7 and 8, if one applies
+abbrev pub first_by : Judged → Bool → Reply (Unit {0}) Refusal
+first_by j patterns = cond (not j.forms) (Err Call) (cond (not patterns) (Err Pattern) (cond (not (j.kinds && j.logic)) (Err Kind) (cond (ltb 512 j.entries) (Err Entries) (cond (ltb 32 j.depth) (Err Stack) (Ok tt)))))
 
 -- Codes of an expression to which these refusals do not apply: by one pass over them and the places and sizes of the operands come its entries and its pool.
 pub record Coded (s places sizes codes : List ℕ) (pool : ℕ) : Type 0 where

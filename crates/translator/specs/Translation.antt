@@ -1,7 +1,10 @@
 -- Translation: number, place and table for every text and every buffer. Document 01, "Refusals by number".
-use Rattle.std.specs.Prelude.{ℕ, ◌≡◌, Bool, cond, ◌||◌, List, [], map, eqb, ltb, length, get_or}
+use Rattle.std.specs.Prelude.{ℕ, ◌≡◌, Ok, Err, Result as Reply, Bool, cond, ◌||◌, List, [], map, eqb, ltb, length, get_or}
 use Rattle.std.proofs.lemmas.List.Edits.{sets}
 use Rattle.common.specs.Choice.{pick}
+use Rattle.refusal.specs.Refusal.{number_of as refusal_number, place_of as refusal_place}
+use Rattle.refusal.specs.declared.Refusal.{Refusal}
+use Rattle.refusal.specs.declared.Refusal.TheVariants as why
 use Rattle.opcode.specs.declared.Edition.{Edition}
 use Rattle.lexer.specs.Token.{Token, kind_of, Lexed, tokens, refused, tokens_of}
 use Rattle.lexer.specs.Answer as lexing
@@ -13,7 +16,6 @@ use Rattle.grammar.specs.Function.{or_else}
 use Rattle.grammar.specs.Answer.{Broken, found_of, found_number, number_of, place_of}
 use Rattle.table.specs.Table.{encode}
 use Rattle.translator.specs.Compile.{compile}
-use Rattle.translator.specs.declared.Translated.{Translated}
 
 -- the number and place of a refusal, and no table; or 0, 0 and the table's bytes
 pub record Outcome : Type 0 where
@@ -64,13 +66,27 @@ is_edition number = eqb number 1 || eqb number 2
 abbrev pub edition_by : ℕ → Edition
 edition_by number = cond (eqb number 1) Edition.First Edition.Second
 
+-- the same as the code names it
+abbrev pub edition_named : ℕ → Reply Edition Refusal
+edition_named number = cond (eqb number 1) (Ok Edition.First) (cond (eqb number 2) (Ok Edition.Second) (Err why.Edition))
+
 -- .. "25 for an edition other than 1 or 2, before 10."
 unfoldable pub translation_of : ℕ → List ℕ → ℕ → Outcome
 translation_of edition text room = pick (is_edition edition) (λ _. translation_in (edition_by edition) text room) (λ _. refusal 25 0)
 
 -- "Translation answers number, place and table length, 0 if refused."
+pub record Translated : Type 0 where
+  pub number : ℕ
+  pub place : ℕ
+  pub length : ℕ
+
 abbrev pub answer_of : Outcome → Translated
 answer_of o = record { number = o.number; place = o.place; length = length o.table }
+
+-- the same of the answer of the code: a table's length, or a refusal
+abbrev pub answered : Reply ℕ Refusal → Translated
+answered (Ok n) = record { number = 0; place = 0; length = n }
+answered (Err r) = record { number = refusal_number r; place = refusal_place r; length = 0 }
 
 -- What a translation answers and leaves: the table's bytes, none where it is refused, over the start of the buffer, and every later byte as it was.
 pub record Answers (o : Outcome) (was now : List ℕ) (r : Translated) : Type 0 where

@@ -5,12 +5,13 @@ ghost use Rattle.std.specs.Prelude.{◌≡◌, ◌++◌, ◌+◌, ◌*◌, ◌�
 ghost use Rattle.std.proofs.lemmas.List.Edits.{sets};
 ghost use Rattle.table.specs.Table.{entries_bytes};
 ghost use Rattle.translator.specs.Expand.{expand, pooled, Sized};
-ghost use Rattle.translator.specs.Emit.{Roomy, Tokened, Known, first_by, Coded, entry_start, header_bytes, table_answer};
-ghost use Rattle.translator.specs.Translation.{refusal, answer_of, translation_in, edition_by, translation_of, Answers};
+ghost use Rattle.translator.specs.Emit.{Room, Roomy, Tokened, Known, first_by, Coded, entry_start, header_bytes};
+ghost use Rattle.translator.specs.Translation.{translation_in, edition_named, translation_of, answered, Answers};
 
 use opcode::Edition;
 use postfix::Judged;
 use read::Reading;
+use refusal::Refusal;
 
 mod entry;
 mod operand;
@@ -45,46 +46,6 @@ fn put_table(
     write::write(text, places, sizes, codes, out);
 }
 
-// Number, place and table length.
-#[derive(Drop)]
-pub struct Translated {
-    pub number: u8,
-    pub place: usize,
-    pub length: usize,
-}
-
-fn refused(number: u8, place: usize) -> Translated
-    ensures { result ≡ answer_of (refusal number place) }
-{
-    Translated {
-        number: number,
-        place: place,
-        length: 0,
-    }
-}
-
-// Writes the table over the start of the buffer, once all is judged, and answers its length.
-fn accepted(
-    edition: Edition,
-    text: &[u8],
-    places: &[u16],
-    sizes: &[u16],
-    codes: &[u16],
-    pool: usize,
-    buffer: &mut [u8],
-) -> Translated
-    requires { (length codes.now ≤ 512) × (pool ≤ 4096) × (pool ≡ length (pooled text.now places.now codes.now 0)) × (entry_start (length codes.now) + pool ≤ length buffer.old) × Sized text.now places.now sizes.now codes.now 0 }
-    ensures value { result ≡ table_answer (length codes.now) pool }
-    ensures buffer_after { buffer.new ≡ sets buffer.old 0 (header_bytes edition (length codes.now) pool ++ (entries_bytes (expand text.now places.now codes.now 0 0) ++ pooled text.now places.now codes.now 0)) }
-{
-    put_table(edition, text, places, sizes, codes, pool, buffer);
-    Translated {
-        number: 0,
-        place: 0,
-        length: 10 + 12 * codes.len() + pool,
-    }
-}
-
 // Of an expression to which none of 4, 18, 5, 7 and 8 applies: 9, or its table, written once all is judged.
 fn coded(
     edition: Edition,
@@ -94,40 +55,41 @@ fn coded(
     codes: &[u16],
     pool: usize,
     buffer: &mut [u8],
-) -> Translated
+) -> Result<usize, Refusal>
     requires { Coded text.now places.now sizes.now codes.now pool }
-    ensures { Answers (translation_in edition text.now (length buffer.old)) buffer.old buffer.new result }
+    ensures { Answers (translation_in edition text.now (length buffer.old)) buffer.old buffer.new (answered result) }
 {
     let length = 10 + 12 * codes.len() + pool;
     if buffer.len() < length {
-        return refused(9, 0);
+        return Err(Refusal::Buffer);
     }
-    accepted(edition, text, places, sizes, codes, pool, buffer)
+    put_table(edition, text, places, sizes, codes, pool, buffer);
+    Ok(length)
 }
 
-// The first of the refusals 4, 18, 5, 7 and 8; 0 if none applies.
-fn first_refusal(j: Judged, patterns: bool) -> u8
+// The first of the refusals 4, 18, 5, 7 and 8, if one applies.
+fn judged(j: Judged, patterns: bool) -> Result<(), Refusal>
     ensures { result ≡ first_by j patterns }
 {
     if !j.forms {
-        return 4;
+        return Err(Refusal::Call);
     }
     if !patterns {
-        return 18;
+        return Err(Refusal::Pattern);
     }
     if !(j.kinds & j.logic) {
-        return 5;
+        return Err(Refusal::Kind);
     }
     if 512 < j.entries {
-        return 7;
+        return Err(Refusal::Entries);
     }
     if 32 < j.depth {
-        return 8;
+        return Err(Refusal::Stack);
     }
-    0
+    Ok(())
 }
 
-// Of an expression, of which so many operands were gathered.
+// Of an expression.
 fn expression(
     edition: Edition,
     text: &[u8],
@@ -135,19 +97,15 @@ fn expression(
     sizes: &[u16],
     codes: &[u16],
     buffer: &mut [u8],
-    count: usize,
-    patterns: bool,
+    reading: Reading,
     j: Judged,
-) -> Translated
-    requires { Roomy (length text.now) places.now × Roomy (length text.now) sizes.now × Roomy (2 * length text.now) codes.now × Known text.now places.now sizes.now codes.now count patterns j }
-    ensures { Answers (translation_in edition text.now (length buffer.old)) buffer.old buffer.new result }
+) -> Result<usize, Refusal>
+    requires { Roomy (length text.now) places.now × Roomy (length text.now) sizes.now × Roomy (2 * length text.now) codes.now × Known text.now places.now sizes.now codes.now reading.operands reading.patterns j }
+    ensures { Answers (translation_in edition text.now (length buffer.old)) buffer.old buffer.new (answered result) }
 {
-    let number = first_refusal(j, patterns);
-    if number != 0 {
-        return refused(number, 0);
-    }
+    judged(j, reading.patterns)?;
     let n = j.entries;
-    let pool = write::pool_length(sizes, count);
+    let pool = write::pool_length(sizes, reading.operands);
     coded(edition, text, places, sizes, &codes[0..n], pool, buffer)
 }
 
@@ -160,121 +118,74 @@ fn tokens(
     sizes: &[u16],
     codes: &mut [u16],
     buffer: &mut [u8],
-    count: usize,
-    patterns: bool,
-) -> Translated
-    requires { Roomy (length text.now) places.now × Roomy (length text.now) sizes.now × Roomy (2 * length text.now) codes.old × Tokened text.now marks.now places.now sizes.now count patterns }
-    ensures { Answers (translation_in edition text.now (length buffer.old)) buffer.old buffer.new result }
+    reading: Reading,
+) -> Result<usize, Refusal>
+    requires { Roomy (length text.now) places.now × Roomy (length text.now) sizes.now × Roomy (2 * length text.now) codes.old × Tokened text.now marks.now places.now sizes.now reading.operands reading.patterns }
+    ensures { Answers (translation_in edition text.now (length buffer.old)) buffer.old buffer.new (answered result) }
 {
     match postfix::parse(marks, codes) {
-        Ok(j) => {
-            expression(
-                edition, text, places, sizes, codes, buffer, count, patterns, j,
-            )
-        }
-        Err(p) => refused(2, read::place(text, p)),
+        Ok(j) => expression(edition, text, places, sizes, codes, buffer, reading, j),
+        Err(p) => Err(Refusal::Grammar(read::place(text, p))),
     }
 }
 
-// Text to table, with room lent for marks, operands and codes.
-fn translate_in(
+// With arrays of these lengths: an element for each token, operand and code that the text can have, as far as translation reads them.
+fn translate_in<const TOKENS: usize, const OPERANDS: usize, const CODES: usize>(
     edition: Edition,
     text: &[u8],
-    marks: &mut [u8],
-    places: &mut [u16],
-    sizes: &mut [u16],
-    codes: &mut [u16],
     buffer: &mut [u8],
-) -> Translated
-    requires { (length text.now ≤ 4096 → length text.now ≤ length marks.old) × Roomy (length text.now) places.old × Roomy (length text.now) sizes.old × Roomy (2 * length text.now) codes.old }
-    ensures { Answers (translation_in edition text.now (length buffer.old)) buffer.old buffer.new result }
+) -> Result<usize, Refusal>
+    requires { (length text.now ≤ 4096 → length text.now ≤ TOKENS) × Room (length text.now) OPERANDS × Room (2 * length text.now) CODES × ((TOKENS ≤ 4096) × (OPERANDS ≤ 512) × (CODES ≤ 512)) }
+    ensures { Answers (translation_in edition text.now (length buffer.old)) buffer.old buffer.new (answered result) }
 {
-    match read::read(text, marks, places, sizes) {
-        Reading::Tokens(n, count, patterns) => tokens(
-            edition,
-            text,
-            &marks[0..n],
-            places,
-            sizes,
-            codes,
-            buffer,
-            count,
-            patterns,
-        ),
-        Reading::Refused(number, place) => refused(number, place),
-    }
-}
-
-fn translate_short(edition: Edition, text: &[u8], buffer: &mut [u8]) -> Translated
-    requires { length text.now ≤ 64 }
-    ensures { Answers (translation_in edition text.now (length buffer.old)) buffer.old buffer.new result }
-{
-    let mut marks = [0u8; 64];
-    let mut places = [0u16; 64];
-    let mut sizes = [0u16; 64];
-    let mut codes = [0u16; 128];
-    translate_in(
+    let mut array = [0u8; TOKENS];
+    let marks = &mut array[..];
+    let mut places = [0u16; OPERANDS];
+    let mut sizes = [0u16; OPERANDS];
+    let mut codes = [0u16; CODES];
+    let reading = read::read(text, marks, &mut places, &mut sizes)?;
+    let n = reading.tokens;
+    tokens(
         edition,
         text,
-        &mut marks,
-        &mut places,
-        &mut sizes,
+        &marks[0..n],
+        &places,
+        &sizes,
         &mut codes,
         buffer,
-    )
-}
-
-fn translate_long(edition: Edition, text: &[u8], marks: &mut [u8], buffer: &mut [u8]) -> Translated
-    requires { length text.now ≤ 4096 → length text.now ≤ length marks.old }
-    ensures { Answers (translation_in edition text.now (length buffer.old)) buffer.old buffer.new result }
-{
-    let mut places = [0u16; 512];
-    let mut sizes = [0u16; 512];
-    let mut codes = [0u16; 512];
-    translate_in(
-        edition,
-        text,
-        marks,
-        &mut places,
-        &mut sizes,
-        &mut codes,
-        buffer,
+        reading,
     )
 }
 
 // Text to table of an edition. A refusal leaves every byte of the buffer as it was; a table stands at the buffer's start, and every later byte stays.
 // A short text has short arrays, since every element of an array is set before it is used.
-fn translate_edition(edition: Edition, text: &[u8], buffer: &mut [u8]) -> Translated
-    ensures { Answers (translation_in edition text.now (length buffer.old)) buffer.old buffer.new result }
+fn translate_edition(edition: Edition, text: &[u8], buffer: &mut [u8]) -> Result<usize, Refusal>
+    ensures { Answers (translation_in edition text.now (length buffer.old)) buffer.old buffer.new (answered result) }
 {
     if text.len() <= 64 {
-        return translate_short(edition, text, buffer);
+        return translate_in::<64, 64, 128>(edition, text, buffer);
     }
     if text.len() <= 512 {
-        let mut few = [0u8; 512];
-        return translate_long(edition, text, &mut few, buffer);
+        return translate_in::<512, 512, 512>(edition, text, buffer);
     }
-    let mut marks = [0u8; 4096];
-    translate_long(edition, text, &mut marks, buffer)
+    translate_in::<4096, 512, 512>(edition, text, buffer)
 }
 
 // Request 9: "The caller names the edition when translating", 1 or 2.
-fn named(number: usize) -> Edition
-    ensures { result ≡ edition_by number }
+fn named(number: usize) -> Result<Edition, Refusal>
+    ensures { result ≡ edition_named number }
 {
-    if number == 1 {
-        Edition::First
-    } else {
-        Edition::Second
+    match number {
+        1 => Ok(Edition::First),
+        2 => Ok(Edition::Second),
+        _ => Err(Refusal::Edition),
     }
 }
 
-// Text to table of the edition named; "25 for an edition other than 1 or 2, before 10."
-pub fn translate(edition: usize, text: &[u8], buffer: &mut [u8]) -> Translated
-    ensures { Answers (translation_of edition text.now (length buffer.old)) buffer.old buffer.new result }
+// Text to table of the edition named, and the table's length; "25 for an edition other than 1 or 2, before 10."
+pub fn translate(edition: usize, text: &[u8], buffer: &mut [u8]) -> Result<usize, Refusal>
+    ensures { Answers (translation_of edition text.now (length buffer.old)) buffer.old buffer.new (answered result) }
 {
-    if (edition != 1) & (edition != 2) {
-        return refused(25, 0);
-    }
-    translate_edition(named(edition), text, buffer)
+    let named = named(edition)?;
+    translate_edition(named, text, buffer)
 }

@@ -9,13 +9,14 @@ ghost use Rattle.operands.specs.Patterns.{asks_patterns, patterns_by};
 ghost use Rattle.translator.specs.Emit.{Reads, PlaceOf, read_of};
 
 use grammar::stream;
+use refusal::Refusal;
 
-#[derive(Drop)]
-pub enum Reading {
-    // So many tokens and operands, and whether refusal 18 does not apply.
-    Tokens(usize, usize, bool),
-    // A refusal and its place.
-    Refused(u8, usize),
+// How many tokens and operands a text has, and whether refusal 18 does not apply.
+#[derive(Clone, Copy)]
+pub struct Reading {
+    pub tokens: usize,
+    pub operands: usize,
+    pub patterns: bool,
 }
 
 // Refusal 18, which only a function that takes patterns brings.
@@ -23,11 +24,7 @@ fn patterns_right(text: &[u8], marks: &[u8], starts: &[u16], asked: bool) -> boo
     requires { (length text.now ≤ 4096) × (too_deep marks.now ≡ false) × (asked ≡ asks_patterns marks.now) }
     ensures { result ≡ patterns_by text.now marks.now starts.now }
 {
-    if asked {
-        operands::patterns(text, marks, starts)
-    } else {
-        true
-    }
+    !asked || operands::patterns(text, marks, starts)
 }
 
 // Of the kinds and starts of a text's tokens. The kinds become marks.
@@ -37,7 +34,7 @@ fn marked(
     starts: &[u16],
     places: &mut [u16],
     sizes: &mut [u16],
-) -> Reading
+) -> Result<Reading, Refusal>
     requires { length text.now ≤ 4096 }
     ensures value { result ≡ read_of text.now kinds.old starts.now }
     ensures kinds_after { kinds.new ≡ marks_of (tokens_in text.now kinds.old starts.now) }
@@ -47,57 +44,65 @@ fn marked(
     let asked = operands::mark(text, kinds, starts);
     let count = operands::gather(text, kinds, starts, places, sizes);
     if grammar::too_deep(kinds) {
-        return Reading::Refused(6, 0);
+        return Err(Refusal::Nesting);
     }
-    let right = patterns_right(text, kinds, starts, asked);
-    Reading::Tokens(kinds.len(), count, right)
+    let patterns = patterns_right(text, kinds, starts, asked);
+    Ok(Reading {
+        tokens: kinds.len(),
+        operands: count,
+        patterns: patterns,
+    })
 }
 
-// With room lent for the starts: an element for each byte, if the text is not too long.
-fn read_in(
+// With an element for the start of each token.
+fn read_in<const TOKENS: usize>(
     text: &[u8],
     marks: &mut [u8],
-    starts: &mut [u16],
     places: &mut [u16],
     sizes: &mut [u16],
-) -> Reading
-    requires { (length text.now ≤ 4096 → length text.now ≤ length marks.old) × (length text.now ≤ 4096 → length text.now ≤ length starts.old) }
+) -> Result<Reading, Refusal>
+    requires { (length text.now ≤ 4096 → length text.now ≤ length marks.old) × (length text.now ≤ 4096 → length text.now ≤ TOKENS) × (TOKENS ≤ 4096) }
     ensures reads { Reads text.now marks.new places.new sizes.new result }
     ensures marks_len_unchanged { (length marks.new ≡ length marks.old) × (length places.new ≡ length places.old) × (length sizes.new ≡ length sizes.old) }
 {
-    match lexer::lex(text, marks, starts) {
-        Ok(n) => marked(text, &mut marks[0..n], &starts[0..n], places, sizes),
-        Err(refusal) => Reading::Refused(refusal.number(), refusal.place()),
-    }
+    let mut array = [0u16; TOKENS];
+    let starts = &mut array[..];
+    let n = lexer::lex(text, marks, starts)?;
+    marked(text, &mut marks[0..n], &starts[0..n], places, sizes)
 }
 
 // Reads a text: a refusal of 10, 1, 3 or 6 with its place; else how many tokens and operands it has, whether refusal 18 does not apply, and in the lent arrays, as far as they go, the marks of the tokens and the places and sizes of the operands.
 // What the arrays hold after a refusal, and past what is told of, is left free; their lengths stay. A short text has short arrays, since every element of an array is set before it is used.
-pub fn read(text: &[u8], marks: &mut [u8], places: &mut [u16], sizes: &mut [u16]) -> Reading
+pub fn read(
+    text: &[u8],
+    marks: &mut [u8],
+    places: &mut [u16],
+    sizes: &mut [u16],
+) -> Result<Reading, Refusal>
     requires { length text.now ≤ 4096 → length text.now ≤ length marks.old }
     ensures reads { Reads text.now marks.new places.new sizes.new result }
     ensures marks_len_unchanged { (length marks.new ≡ length marks.old) × (length places.new ≡ length places.old) × (length sizes.new ≡ length sizes.old) }
 {
     if text.len() <= 64 {
-        let mut few = [0u16; 64];
-        return read_in(text, marks, &mut few, places, sizes);
+        return read_in::<64>(text, marks, places, sizes);
     }
     if text.len() <= 512 {
-        let mut some = [0u16; 512];
-        return read_in(text, marks, &mut some, places, sizes);
+        return read_in::<512>(text, marks, places, sizes);
     }
-    let mut starts = [0u16; 4096];
-    read_in(text, marks, &mut starts, places, sizes)
+    read_in::<4096>(text, marks, places, sizes)
 }
 
-fn place_in(text: &[u8], kinds: &mut [u8], starts: &mut [u16], p: usize) -> usize
-    requires { (length text.now ≤ 4096 → length text.now ≤ length kinds.old) × (length text.now ≤ 4096 → length text.now ≤ length starts.old) }
+// With an element for each token.
+fn place_in<const TOKENS: usize>(text: &[u8], p: usize) -> usize
+    requires { (length text.now ≤ 4096 → length text.now ≤ TOKENS) × (TOKENS ≤ 4096) }
     ensures { PlaceOf text.now p result }
 {
-    match lexer::lex(text, kinds, starts) {
+    let mut kinds = [0u8; TOKENS];
+    let mut starts = [0u16; TOKENS];
+    match lexer::lex(text, &mut kinds, &mut starts) {
         Ok(n) => {
             if p < n {
-                stream::start(starts, p)
+                stream::start(&starts, p)
             } else {
                 text.len()
             }
@@ -111,11 +116,7 @@ pub fn place(text: &[u8], p: usize) -> usize
     ensures { PlaceOf text.now p result }
 {
     if text.len() <= 512 {
-        let mut few = [0u8; 512];
-        let mut some = [0u16; 512];
-        return place_in(text, &mut few, &mut some, p);
+        return place_in::<512>(text, p);
     }
-    let mut kinds = [0u8; 4096];
-    let mut starts = [0u16; 4096];
-    place_in(text, &mut kinds, &mut starts, p)
+    place_in::<4096>(text, p)
 }

@@ -21,9 +21,16 @@ fn next_case(from: &mut impl Read, to: &mut impl Write) -> io::Result<bool> {
     if buffer.len() < room {
         return Ok(false);
     }
-    let t = translator::translate(edition, &text[..n], &mut buffer[..room]);
-    write!(to, "{} {} {} ", t.number, t.place, t.length)?;
-    cases::print_written(to, &buffer, t.length)?;
+    match translator::translate(edition, &text[..n], &mut buffer[..room]) {
+        Ok(len) => {
+            write!(to, "0 0 {len} ")?;
+            cases::print_written(to, &buffer, len)?;
+        }
+        Err(r) => {
+            write!(to, "{} {} 0 ", r.number(), r.place())?;
+            cases::print_written(to, &buffer, 0)?;
+        }
+    }
     Ok(true)
 }
 

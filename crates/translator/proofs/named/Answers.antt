@@ -1,8 +1,6 @@
-use borrow.Author.Tests.{eq-eqb, ne_eqb}
+use native.Mathlib.Omega.{arith}
+use Rattle.std.proofs.lemmas.Bool.Decides.{nat_tests}
 use Rattle.translator.proofs.named.Goals as goal
 
-pub returns-then-number-eq1 : goal.returns-then-number-eq1
-returns-then-number-eq1 c = rw (eq-eqb _ 1 c.if-number-eq1.true)
-
-pub returns-else-number-eq1 : goal.returns-else-number-eq1
-returns-else-number-eq1 c = rw (ne_eqb _ 1 c.if-number-eq1.false)
+pub returns-in_default : goal.returns-in_default
+returns-in_default c = grind (arith, nat_tests)

@@ -8,11 +8,11 @@ parse-requires c = ready (λ i. omega (arith, c.shared_slice_known-1.given i)) c
 
 pub expression-requires : goal.expression-requires
 expression-requires c =
-    (c.requires.0, c.requires.1, (λ m x y. omega (arith, c.requires.2 m x y, c.parse.auto.codes)), known (λ i. omega (arith, c.shared_slice_known-1.given i)) c.requires.3 c.parse.new.codes c.args.codes.now (c.parse.ensures (ks (λ i. omega (arith, c.shared_slice_known-1.given i)) c.requires.3) (marked (λ i. omega (arith, c.shared_slice_known-1.given i)) c.requires.3)).0 c.in-Whole.is (c.parse.ensures (ks (λ i. omega (arith, c.shared_slice_known-1.given i)) c.requires.3) (marked (λ i. omega (arith, c.shared_slice_known-1.given i)) c.requires.3)).1)
+    (c.requires.0, c.requires.1, (λ m x y. omega (arith, c.requires.2 m x y, c.parse.auto.codes)), known (λ i. omega (arith, c.shared_slice_known-1.given i)) c.requires.3 c.parse.new.codes c.args.codes.now (c.parse.ensures (ks (λ i. omega (arith, c.shared_slice_known-1.given i)) c.requires.3) (marked (λ i. omega (arith, c.shared_slice_known-1.given i)) c.requires.3)).0 c.in-Ok.is (c.parse.ensures (ks (λ i. omega (arith, c.shared_slice_known-1.given i)) c.requires.3) (marked (λ i. omega (arith, c.shared_slice_known-1.given i)) c.requires.3)).1)
 
-pub returns-in-Whole : goal.returns-in-Whole
-returns-in-Whole c = c.expression.ensures
+pub returns-in-Ok : goal.returns-in-Ok
+returns-in-Ok c = c.expression.ensures
 
-pub returns-in-Broken : goal.returns-in-Broken
-returns-in-Broken c =
-    answers_broken (λ i. omega (arith, c.shared_slice_known-1.given i)) c.requires.3 c.args.edition (length c.args.buffer.now) (c.parse.ensures (ks (λ i. omega (arith, c.shared_slice_known-1.given i)) c.requires.3) (marked (λ i. omega (arith, c.shared_slice_known-1.given i)) c.requires.3)).0 c.in-Broken.is c.place.ensures c.refused.ensures
+pub returns-in-Err : goal.returns-in-Err
+returns-in-Err c =
+    answers_broken (λ i. omega (arith, c.shared_slice_known-1.given i)) c.requires.3 c.args.edition (length c.args.buffer.now) (c.parse.ensures (ks (λ i. omega (arith, c.shared_slice_known-1.given i)) c.requires.3) (marked (λ i. omega (arith, c.shared_slice_known-1.given i)) c.requires.3)).0 c.in-Err.is c.place.ensures

@@ -13,15 +13,15 @@ returns-then-too_deep c =
       sizes_after = c.gather-count.ensures.sizes_after;
     }
 
-pub patterns_right-right-requires : goal.patterns_right-right-requires
-patterns_right-right-requires c =
+pub patterns_right-patterns-requires : goal.patterns_right-patterns-requires
+patterns_right-patterns-requires c =
     (c.requires, sym c.too_deep.ensures ∙ c.if-too_deep.false, c.mark-asked.ensures.value ∙ ap asks_patterns (sym c.mark-asked.ensures.kinds_after))
 
 pub returns : goal.returns
 returns c =
     let a = c.args in
     record {
-      value = read_marks a.text.now a.kinds.now a.starts.now c.mark-asked.ensures.kinds_after (sym c.too_deep.ensures ∙ c.if-too_deep.false) c.gather-count.ensures.value c.patterns_right-right.ensures;
+      value = read_marks a.text.now a.kinds.now a.starts.now c.mark-asked.ensures.kinds_after (sym c.too_deep.ensures ∙ c.if-too_deep.false) c.gather-count.ensures.value c.patterns_right-patterns.ensures;
       kinds_after = c.mark-asked.ensures.kinds_after;
       places_after = c.gather-count.ensures.places_after;
       sizes_after = c.gather-count.ensures.sizes_after;
