@@ -1,14 +1,16 @@
 -- Where the search may begin. Assumes nothing.
 use mathlib.Core.Path.{◌≡◌, refl, sym, ap, ◌∙◌}
-use mathlib.Core.Bool.{Bool, true, false, and-false}
+use mathlib.Core.Bool.{Bool, true, false, not, and-false}
 use mathlib.Core.List.{List, [], ◌∷◌, map}
 use Prim.Native.Nat.{ℕ, suc, ◌+◌, ◌≤◌, ◌<◌}
-use native.Mathlib.Numerals.{add-one}
 use native.Mathlib.Omega.{arith}
-use lib.ListN.{length, get_or, drop, replicate, drop_of_length-le}
-use lib.Seq.{drop-cons}
-use lib.Dec.{eqb}
-use borrow.Author.Tests.{eqb-false, eq-eqb, ne_eqb}
+use lib.ListN.{length, get_or, drop, replicate}
+use lib.Dec.{eqb, ltb}
+use Rattle.std.specs.Prelude.{unwrap_or, Some, None, position, ◌==◌, cond}
+use Rattle.std.specs.List.{position_or_len}
+use Rattle.std.proofs.lemmas.List.Recursion.{is_position_or_len}
+use Rattle.std.proofs.lemmas.List.Sums.{prefix_len-le-length}
+use borrow.Author.Tests.{ltb-false, eqb-false, ne_eqb}
 use Rattle.octets.proofs.Laws.{drop_map}
 use Rattle.octets.proofs.Theorems.{and_parts}
 use Rattle.automaton.specs.Pass.{Token, started, left, pass}
@@ -19,19 +21,29 @@ use Rattle.automaton.proofs.Word.{lev, quiet, small_parts}
 
 -- ---- the bytes before the first of a kind
 
-module _ (b : ℕ) (f : ℕ → ℕ) (v : List ℕ) (i : ℕ) where
-  pub ahead_here : i < length v → (c : ℕ) → c ≡ f (get_or v i 0) → c ≡ b → i ≡ i + ahead b (map f (drop i v))
-  ahead_here h c ec e =
-      let q : f (get_or v i 0) ≡ b = sym ec ∙ e in
-      rw (drop-cons v i 0 h, eq-eqb (f (get_or v i 0)) b q) (omega arith)
+first_place : (p : ℕ → Bool) (v : List ℕ) → unwrap_or (position p v) (length v) ≡ position_or_len p v
+first_place p v = go (ltb (position_or_len p v) (length v)) refl
+  where
+    go : (t : Bool) → ltb (position_or_len p v) (length v) ≡ t → unwrap_or (cond t (Some (position_or_len p v)) None) (length v) ≡ position_or_len p v
+    go true e = refl
+    go false e =
+        let h = ltb-false (position_or_len p v) (length v) e in
+        let g = prefix_len-le-length (λ x. not (p x)) v in omega (arith, h, g)
 
-  pub ahead_on : i < length v → (c : ℕ) → c ≡ f (get_or v i 0) → (c ≡ b → ⊥) → i + 1 + ahead b (map f (drop (i + 1) v)) ≡ i + ahead b (map f (drop i v))
-  ahead_on h c ec e =
-      let q = ne_eqb (f (get_or v i 0)) b (λ p. e (ec ∙ p)) in
-      rw (drop-cons v i 0 h, q, add-one i) (omega arith)
+pub ahead_position : (b : ℕ) (f : ℕ → ℕ) (v : List ℕ) → unwrap_or (position (λ c. f c == b) v) (length v) ≡ ahead b (map f v)
+ahead_position b f v = first_place (λ c. f c == b) v ∙ sym (is_position_or_len (λ x. ahead b (map f x)) (λ c. f c == b) refl (λ c x. one (eqb (f c) b) (ahead b (map f x))) v)
+  where
+    one : (t : Bool) (n : ℕ) → cond t 0 (suc n) ≡ cond t 0 (1 + n)
+    one true n = refl
+    one false n = omega arith
 
-  pub ahead_end : length v ≤ i → i ≡ i + ahead b (map f (drop i v))
-  ahead_end h = rw (drop_of_length-le v h) (omega arith)
+pub ahead_within : (b : ℕ) (f : ℕ → ℕ) (v : List ℕ) → ahead b (map f v) ≤ length v
+ahead_within b f [] = omega arith
+ahead_within b f (c ∷ v) = go (eqb (f c) b) (ahead_within b f v)
+  where
+    go : (t : Bool) → ahead b (map f v) ≤ length v → cond t 0 (suc (ahead b (map f v))) ≤ suc (length v)
+    go true h = omega arith
+    go false h = omega (arith, h)
 
 -- ---- a table that begins with one byte of the text
 

@@ -5,10 +5,10 @@ use mathlib.Core.List.{List, [], ◌∷◌, append-nil}
 use Prim.Native.Nat.{ℕ, zero, suc, ◌+◌, ◌-◌, ◌≤◌, ◌<◌}
 use native.Mathlib.Numerals.{add-one}
 use native.Mathlib.Omega.{arith}
-use lib.ListN.{get_or-eq_default, length, get_or, set, take, drop, drop_of_length-le}
+use lib.ListN.{length, get_or, set, take, drop, drop_of_length-le}
 use lib.Seq.{drop-cons, get_or-set_same, get_or-set_other, get_or-drop, take-suc-set, drop-set-lt, take_all}
 use lib.Dec.{ltb, eqb}
-use borrow.Author.Tests.{lt-ltb, le-ltb, eq-eqb, ne_eqb}
+use borrow.Author.Tests.{le-ltb, ne_eqb}
 use Rattle.automaton.specs.Pass.{Token, started, passed, Left, left, onto, push, top, rest, pass, stack_of, depth_by, up_of}
 use Rattle.automaton.specs.Table.{repeats, absent, sort, hits, token_by, tokens_of, mark_by, level_by, outside, held_of}
 use Rattle.pattern.specs.Steps.{turned, test_at}
@@ -102,18 +102,6 @@ get_d_any (x ∷ l) (suc i) a b h = get_d_any l i a b (omega arith)
 
 -- the answers of `hits`
 module _ (text : List ℕ) (k a c : ℕ) where
-  pub hits_other : 2 < sort k → false ≡ hits text k a c
-  hits_other e = rw (lt-ltb 2 (sort k) e)
-
-  pub hits_plain : sort k ≡ 0 → a < length text → eqb (get_or text a 0) c ≡ hits text k a c
-  hits_plain e h = rw (le-ltb 2 (sort k) (omega arith), eq-eqb (sort k) 0 e, get_d_any text a 0 256 h)
-
-  pub hits_past : sort k ≡ 0 → length text ≤ a → c < 256 → false ≡ hits text k a c
-  hits_past e h l = rw (le-ltb 2 (sort k) (omega arith), eq-eqb (sort k) 0 e, get_or-eq_default text 256 h, ne_eqb 256 c (λ q. omega arith))
-
-  pub hits_all : sort k ≡ 1 → true ≡ hits text k a c
-  hits_all e = rw (le-ltb 2 (sort k) (omega arith), ne_eqb (sort k) 0 (λ q. omega arith), eq-eqb (sort k) 1 e)
-
   pub hits_set : sort k ≤ 2 → (sort k ≡ 0 → ⊥) → (sort k ≡ 1 → ⊥) → turned (outside k) (held_of (test_at a (drop a text) c)) ≡ hits text k a c
   hits_set l e f = rw (le-ltb 2 (sort k) l, ne_eqb (sort k) 0 e, ne_eqb (sort k) 1 f)
 

@@ -1,15 +1,15 @@
 -- Cells as a word and back, and what is told of words. Assumes nothing.
 use mathlib.Core.Path.{◌≡◌, refl, sym, ap, ◌∙◌}
 use mathlib.Core.Logic.{◌⊎◌, inl, inr}
-use mathlib.Core.Bool.{Bool, true, false, cond, ◌&&◌, ◌||◌}
+use mathlib.Core.Bool.{Bool, true, false, ◌&&◌, ◌||◌}
 use mathlib.Core.List.{List, [], ◌∷◌, ◌++◌, map, append_assoc, append-nil}
-use Prim.Native.Nat.{ℕ, zero, suc, ◌+◌, ◌-◌, ◌*◌, ◌/◌, ◌%◌, ◌^◌, ◌≤◌, ◌<◌}
+use Prim.Native.Nat.{ℕ, zero, suc, ◌+◌, ◌-◌, ◌*◌, ◌/◌, ◌%◌, ◌^◌, ◌≤◌, ◌<◌, max}
 use native.Mathlib.Numerals.{add-one}
 use native.Mathlib.Omega.{arith}
 use lib.ListN.{length, get_or, set, take, drop, replicate}
 use lib.Seq.{take-suc, take-suc-set, take_all, get_or-set_same, get_or-set_other}
-use lib.Dec.{eqb, ltb, leb}
-use borrow.Author.Tests.{leb-true, ltb-true, ltb-false, eqb-true, eqb-false}
+use lib.Dec.{eqb, leb}
+use borrow.Author.Tests.{leb-true, eqb-true, eqb-false}
 use Rattle.octets.proofs.Theorems.{and_parts}
 use Rattle.automaton.specs.Pass.{Token, started, left, pass}
 use Rattle.automaton.specs.Word.{bits_of, bit_if, cells_in, ended_in, Leads}
@@ -27,11 +27,6 @@ unpack_one ms i n rest h l =
     let e : n - i ≡ suc (n - suc i) = omega arith in
     rw (add-one i, take-suc-set ms i (eqb (rest % 2) 1) p, e) (append_assoc (take i ms) (eqb (rest % 2) 1 ∷ []) (bits_of (n - suc i) (rest / 2)))
 
-pub unpack_all : (ms : List Bool) (i n rest : ℕ) → n ≤ i → length ms ≡ n → ms ≡ take i ms ++ bits_of (n - i) rest
-unpack_all ms i n rest h l =
-    let e : n - i ≡ 0 = omega arith in
-    rw (e, take_all i ms (omega arith)) (sym (append-nil ms))
-
 pub pack_one : (ms : List Bool) (i out bit b : ℕ) → i < length ms → bit ≡ 2 ^ i → out < 2 ^ i → bits_of i out ≡ take i ms → b ≡ bit_if (get_or ms i false) bit
     → bits_of (i + 1) (out + b) ≡ take (i + 1) ms
 pack_one ms i out bit b h e o t eb =
@@ -47,12 +42,8 @@ pack_all ms i out b fin h g t eb =
 -- ---- where words lead
 
 -- the greater of two numbers
-pub most : (a b r : ℕ) → r ≡ cond (ltb a b) b a → (a ≤ r) × (b ≤ r) × ((u : ℕ) → a ≤ u → b ≤ u → r ≤ u)
-most a b r e = go (ltb a b) refl
-  where
-    go : (t : Bool) → ltb a b ≡ t → (a ≤ r) × (b ≤ r) × ((u : ℕ) → a ≤ u → b ≤ u → r ≤ u)
-    go true q = let h = ltb-true a b q in let z : r ≡ b = rw q at e in (omega arith, omega arith, λ u f g. omega arith)
-    go false q = let h = ltb-false a b q in let z : r ≡ a = rw q at e in (omega arith, omega arith, λ u f g. omega arith)
+pub most : (a b r : ℕ) → r ≡ max a b → (a ≤ r) × (b ≤ r) × ((u : ℕ) → a ≤ u → b ≤ u → r ≤ u)
+most a b r e = (omega (arith, e), omega (arith, e), λ u f g. omega (arith, e, f, g))
 
 module _ (ts : List Token) (n : ℕ) (k : Bool) where
   -- by the cells
@@ -93,7 +84,7 @@ module _ (ts : List Token) (n : ℕ) (k : Bool) where
         go true e = let q = eqb-true i m e in rw q (get_or-set_same held m x 0 mh ∙ sym (m2 (omega arith)))
         go false e = get_or-set_other held m i x 0 (eqb-false i m e)
 
-    pub told_more : (count2 : ℕ) → count2 ≡ cond (ltb count m) m count → Told (set next j m) (set held m x) count2
+    pub told_more : (count2 : ℕ) → count2 ≡ max count m → Told (set next j m) (set held m x) count2
     told_more count2 ec i = go (eqb i j) refl
       where
         up : (count ≤ count2) × (m ≤ count2) × ((u : ℕ) → count ≤ u → m ≤ u → count2 ≤ u)

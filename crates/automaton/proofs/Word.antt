@@ -10,13 +10,14 @@ use lib.ListN.{length, get_or, drop, replicate, length-drop, drop_of_length-le}
 use lib.Pow.{pow_mono}
 use lib.Seq.{drop-cons}
 use lib.Dec.{eqb, leb, ltb}
-use borrow.Author.Tests.{ltb-true, leb-true, le-leb, lt-leb, eqb-true, not-true, ne_eqb}
+use mir.Val.{bool_byte}
+use borrow.Author.Tests.{ltb-true, leb-true, le-leb, eqb-true, not-true, ne_eqb}
 use Rattle.common.proofs.Choice.{true_false}
 use Rattle.octets.proofs.Theorems.{and_parts}
 use Rattle.automaton.specs.Pass.{Token, one, started, Left, left, onto, pass}
 use Rattle.automaton.specs.Table.{repeats, absent, sort, hits, token_of, tokens_of}
 use Rattle.automaton.specs.Decide.{walk_on, decide}
-use Rattle.automaton.specs.Word.{bits_of, bit_if, cells_in, ended_in, every, plain, optional, small, Leads}
+use Rattle.automaton.specs.Word.{bits_of, bit_if, cells_in, ended_in, plain, optional, small, Leads}
 use Rattle.automaton.specs.declared.Level.{Level}
 use Rattle.automaton.proofs.Pass.{and_assoc, and_t, onto_onto, onto_nil}
 use Rattle.automaton.proofs.Value.{onward, ran}
@@ -80,29 +81,32 @@ grown i out bit b h e o l =
     let m : 2 ^ (i + 1) ≤ 2 ^ 62 = pow_mono h in
     (omega (arith, p, m, e, o, l), omega (arith, p, m, e), omega (arith, p, e), omega (arith, p, e, o, l))
 
+-- a bit is added where the flag is set
+pub added : (b : Bool) (x out bit : ℕ) → b ≡ true → x ≡ out + bit → x ≡ out + bit_if b bit
+added b x out bit e h = rw e h
+
+pub none_added : (b : Bool) (x out bit : ℕ) → b ≡ false → x ≡ out → x ≡ out + bit_if b bit
+none_added b x out bit e h = rw e (omega (arith, h))
+
+pub bit_least : (b : Bool) (bit : ℕ) → bit_if b bit ≤ bit
+bit_least true bit = omega arith
+bit_least false bit = omega arith
+
+pub bit_small : (b : Bool) → bool_byte b ≤ 1
+bit_small true = omega arith
+bit_small false = omega arith
+
+pub bit_byte : (b : Bool) → bool_byte b ≡ bit_if b 1
+bit_byte true = refl
+bit_byte false = refl
+
 -- ---- tables without groups
-
-module _ (p : ℕ → Bool) (ks : List ℕ) (i : ℕ) where
-  pub every_no : (b : Bool) → i < length ks → b ≡ p (get_or ks i 0) → b ≡ false → false ≡ every p (drop i ks)
-  every_no b h e f = let g = sym e ∙ f in rw (drop-cons ks i 0 h, g)
-
-  pub every_on : (b : Bool) → i < length ks → b ≡ p (get_or ks i 0) → b ≡ true → every p (drop (i + 1) ks) ≡ every p (drop i ks)
-  every_on b h e f = let g = sym e ∙ f in rw (add-one i, drop-cons ks i 0 h, g)
-
-  pub every_end : length ks ≤ i → true ≡ every p (drop i ks)
-  every_end h = rw (drop_of_length-le ks h)
 
 pub small_parts : (ks : List ℕ) → small ks ≡ true → (length ks ≤ 62) × (plain ks ≡ true)
 small_parts ks h = let p = and_parts (leb (length ks) 62) (plain ks) h in (leb-true (length ks) 62 p.0, p.1)
 
-pub small_no : (ks : List ℕ) → 62 < length ks → false ≡ small ks
-small_no ks h = rw (lt-leb (length ks) 62 h)
-
-pub small_yes : (ks : List ℕ) (r : Bool) → length ks ≤ 62 → r ≡ plain ks → r ≡ small ks
-small_yes ks r h e = rw (le-leb (length ks) 62 h) e
-
 pub small_of : (ks : List ℕ) (r : Bool) → length ks ≤ 62 → r ≡ plain ks → r ≡ true → small ks ≡ true
-small_of ks r h e t = sym (small_yes ks r h e) ∙ t
+small_of ks r h e t = rw (le-leb (length ks) 62 h) (sym e ∙ t)
 
 pub plain_at : (ks : List ℕ) (i : ℕ) → plain ks ≡ true → i < length ks → sort (get_or ks i 0) < 3
 plain_at [] i h l = absurd (omega arith)

@@ -1,5 +1,6 @@
 -- Small tables: the cells as bits of a word, the first one lowest, above a bit that says whether a way has ended.
 use Rattle.std.specs.Prelude.{ℕ, zero, suc, ◌/◌, ◌%◌, ◌≤◌, ◌≡◌, Bool, true, false, cond, ◌&&◌, List, [], ◌∷◌, length, get_or, eqb, leb, ltb}
+use Rattle.std.specs.List.{list_all}
 use Rattle.automaton.specs.Pass.{Token, started, left, pass}
 use Rattle.automaton.specs.Table.{sort, absent}
 use Rattle.automaton.specs.declared.Level.{Level}
@@ -20,21 +21,17 @@ cells_in n w = bits_of n (w / 2)
 abbrev pub ended_in : ℕ → Bool
 ended_in w = eqb (w % 2) 1
 
-abbrev pub every : (ℕ → Bool) → List ℕ → Bool
-every p [] = true
-every p (k ∷ ks) = p k && every p ks
-
 -- a token that takes one byte
 abbrev pub single : ℕ → Bool
 single k = ltb (sort k) 3
 
 -- without groups
 abbrev pub plain : List ℕ → Bool
-plain ks = every single ks
+plain ks = list_all single ks
 
 -- every token may be absent
 abbrev pub optional : List ℕ → Bool
-optional ks = every absent ks
+optional ks = list_all absent ks
 
 -- The tables that are read so: a word has room for their cells.
 abbrev pub small : List ℕ → Bool

@@ -1,12 +1,12 @@
 // A position automaton over a table of tokens (Fischer, Huch and Wilke): one pass of the marks over the table for each byte of a value, so that no input costs more than its length times the table's.
 #![tactic(auto)]
 
-ghost use Rattle.std.specs.Prelude.{◌≡◌, Bool, true, false, cond, ◌||◌, ◌&&◌, [], ◌+◌, ◌-◌, ◌*◌, ◌≤◌, ◌<◌, ltb, length, get_or, replicate, drop};
-ghost use Rattle.octets.specs.Octets.{folded};
+ghost use Rattle.std.specs.Prelude.{◌≡◌, ◌==◌, position, unwrap_or, Bool, true, false, cond, ◌||◌, ◌&&◌, [], ◌+◌, ◌-◌, ◌*◌, ◌≤◌, ◌<◌, ltb, length, get_or, replicate, drop};
+ghost use Rattle.octets.specs.Octets.{fold, folded};
 ghost use Rattle.automaton.specs.Table.{repeats as repeatsOf, absent as absentOf, outside as outsideOf, sort as sortOf, hits as hitsOf, mark_by, level_by, tokens_of};
 ghost use Rattle.automaton.specs.Pass.{started as startedOf, passed as passedOf, barred as barredOf, closed as closedOf, pass, left, depth_by, up_of};
 ghost use Rattle.automaton.specs.Decide.{walk_on, run_on, decide};
-ghost use Rattle.automaton.specs.Word.{bit_if, cells_in, ended_in, single as singleOf, plain as plain_of, optional as optionalOf, small as smallOf, ahead as ahead_of, Leads, Low, Reaches};
+ghost use Rattle.automaton.specs.Word.{bit_if, cells_in, ended_in, single as singleOf, plain as plain_of, optional as optionalOf, small as smallOf, Leads, Low, Reaches};
 
 use octets::fold;
 use pattern::sets::set_test;
@@ -39,12 +39,6 @@ fn sort(k: u8) -> u8
     ensures { result ≡ sortOf k }
 {
     k / 8
-}
-
-fn wide(x: u16) -> usize
-    ensures { (result ≡ x) × (result < 65536) }
-{
-    x as usize
 }
 
 // Whether the token takes a byte; the number says where its text stands. What is no set has no byte.
@@ -192,13 +186,7 @@ fn next_level(
 fn cell(s: &[bool], i: usize) -> bool
     ensures { result ≡ get_or s.now i false }
 {
-    if i < s.len() { s[i] } else { false }
-}
-
-fn under(d: usize) -> usize
-    ensures { result ≡ d - 1 }
-{
-    if d == 0 { 0 } else { d - 1 }
+    i < s.len() && s[i]
 }
 
 // How many levels are kept behind a token.
@@ -216,7 +204,7 @@ fn depth_after(starts: bool, bars: bool, ends: bool, d: usize) -> usize
         return d;
     }
     if ends {
-        return under(d);
+        return d.saturating_sub(1);
     }
     d
 }
@@ -238,10 +226,9 @@ fn shift(text: &[u8], kinds: &[u8], args: &[u16], marks: &mut [bool], k: bool, c
     let mut l = started(k);
     let mut stack = [l; 9];
     let mut depth: usize = 0;
-    let mut i = 0;
-    while i < kinds.len() {
+    for i in 0..kinds.len() {
         let kind = kinds[i];
-        let arg = wide(args[i]);
+        let arg = usize::from(args[i]);
         let s = sort(kind);
         let was = marks[i];
         let rep = repeats(kind);
@@ -250,20 +237,18 @@ fn shift(text: &[u8], kinds: &[u8], args: &[u16], marks: &mut [bool], k: bool, c
         if s < 3 {
             marks[i] = hit;
             l = past_one(absent(kind), was, hit, l);
-            i += 1;
             continue;
         }
         let starts = s == 3;
         let bars = s == 4;
         let ends = s == 5;
         let enter = l.cur | (rep & cell(marks, i + 1 + arg));
-        let d = under(depth);
+        let d = depth.saturating_sub(1);
         let above = up(depth, stack[d]);
         marks[i] = mark(starts, bars, ends, hit, was, l);
         stack[depth] = l;
         l = next_level(starts, bars, ends, enter, absent(kind), was, hit, above, l);
         depth = depth_after(starts, bars, ends, depth);
-        i += 1;
     }
     l
 }
@@ -290,15 +275,13 @@ fn walk(
 {
     let mut fin = ended;
     let mut k = enters;
-    let mut i = from;
-    while i < value.len() {
+    for i in from..value.len() {
         if ef & (fin | (k & empty)) {
             return true;
         }
         let l = shift(text, kinds, args, marks, k, fold(mark, value[i]));
         fin = l.fin;
         k = sf;
-        i += 1;
     }
     fin | (k & empty)
 }
@@ -323,17 +306,6 @@ fn run(
     )
 }
 
-// No token is marked.
-fn clear(marks: &mut [bool])
-    ensures { marks.new ≡ replicate (length marks.old) false }
-{
-    let mut i = 0;
-    while i < marks.len() {
-        marks[i] = false;
-        i += 1;
-    }
-}
-
 // ---- small tables: a pass over the bits of a word
 
 // Whether a token takes one byte.
@@ -347,47 +319,21 @@ fn single(k: u8) -> bool
 fn plain(kinds: &[u8]) -> bool
     ensures { result ≡ plain_of kinds.now }
 {
-    let mut i = 0;
-    while i < kinds.len() {
-        if !single(kinds[i]) {
-            return false;
-        }
-        i += 1;
-    }
-    true
+    kinds.iter().all(|k| single(*k))
 }
 
 // Whether its cells are read as the bits of a word.
 fn small(kinds: &[u8]) -> bool
     ensures { result ≡ smallOf kinds.now }
 {
-    if 62 < kinds.len() {
-        return false;
-    }
-    plain(kinds)
+    kinds.len() <= 62 && plain(kinds)
 }
 
 // Whether every token may be absent.
 fn optional(kinds: &[u8]) -> bool
     ensures { result ≡ optionalOf kinds.now }
 {
-    let mut i = 0;
-    while i < kinds.len() {
-        if !absent(kinds[i]) {
-            return false;
-        }
-        i += 1;
-    }
-    true
-}
-
-fn bit_if(hit: bool, bit: u64) -> u64
-    ensures { (result ≡ bit_if hit bit) × (result ≤ bit) }
-{
-    if hit {
-        return bit;
-    }
-    0
+    kinds.iter().all(|k| absent(*k))
 }
 
 // One byte of the value; where no way is open and no mark is left, the rest of the table is passed over.
@@ -400,25 +346,25 @@ fn shift_word(text: &[u8], kinds: &[u8], args: &[u16], w: u64, k: bool, c: u8) -
     let mut rest = w / 2;
     let mut out: u64 = 0;
     let mut bit: u64 = 1;
-    let mut i = 0;
-    while i < kinds.len() {
+    for i in 0..kinds.len() {
         if !(cur | fin) & (rest == 0) {
             return out * 2;
         }
         let kind = kinds[i];
-        let arg = wide(args[i]);
+        let arg = usize::from(args[i]);
         let was = rest % 2 == 1;
         let rep = repeats(kind);
         let o = absent(kind);
         let hit = hit_if(cur | (rep & was), text, kind, arg, c);
         cur = (cur & o) | was;
         fin = (fin & o) | hit;
-        out = out + bit_if(hit, bit);
-        bit = bit * 2;
-        rest = rest / 2;
-        i += 1;
+        if hit {
+            out += bit;
+        }
+        bit *= 2;
+        rest /= 2;
     }
-    out * 2 + bit_if(fin, 1)
+    out * 2 + u64::from(fin)
 }
 
 // The value from an index on, where the word stands for what was read before.
@@ -440,14 +386,12 @@ fn walk_word(
 {
     let mut w = word;
     let mut k = enters;
-    let mut i = from;
-    while i < value.len() {
+    for i in from..value.len() {
         if ef & ((w % 2 == 1) | (k & empty)) {
             return true;
         }
         w = shift_word(text, kinds, args, w, k, fold(mark, value[i]));
         k = sf;
-        i += 1;
     }
     (w % 2 == 1) | (k & empty)
 }
@@ -459,11 +403,9 @@ fn unpack(w: u64, marks: &mut [bool])
     ensures { marks.new ≡ cells_in (length marks.old) w }
 {
     let mut rest = w / 2;
-    let mut i = 0;
-    while i < marks.len() {
-        marks[i] = rest % 2 == 1;
-        rest = rest / 2;
-        i += 1;
+    for m in marks.iter_mut() {
+        *m = rest % 2 == 1;
+        rest /= 2;
     }
 }
 
@@ -474,13 +416,13 @@ fn pack(marks: &[bool], fin: bool) -> u64
 {
     let mut out: u64 = 0;
     let mut bit: u64 = 1;
-    let mut i = 0;
-    while i < marks.len() {
-        out = out + bit_if(marks[i], bit);
-        bit = bit * 2;
-        i += 1;
+    for m in marks {
+        if *m {
+            out += bit;
+        }
+        bit *= 2;
     }
-    out * 2 + bit_if(fin, 1)
+    out * 2 + u64::from(fin)
 }
 
 // One byte of the value, by way of the marks; what they are afterwards is left free.
@@ -536,20 +478,12 @@ fn place(held: &[u64], count: usize, w: u64) -> usize
     requires { (count ≤ 7) × (length held.now ≡ 8) }
     ensures { (0 < result) × (result ≤ count + 1) × (result ≤ count → get_or held.now result 0 ≡ w) }
 {
-    let mut i: usize = 1;
-    while i <= count {
+    for i in 1..count + 1 {
         if held[i] == w {
             return i;
         }
-        i += 1;
     }
-    i
-}
-
-fn number(t: u8) -> usize
-    ensures { result ≡ t }
-{
-    t as usize
+    count + 1
 }
 
 // Where is told where a byte leads from the word of a number.
@@ -557,20 +491,7 @@ fn spot(c: u8, s: usize) -> usize
     requires { s < 8 }
     ensures { (result ≡ c * 8 + s) × (result < 2048) }
 {
-    number(c) * 8 + s
-}
-
-fn byte(n: usize) -> u8
-    requires { n < 8 }
-    ensures { result ≡ n }
-{
-    n as u8
-}
-
-fn more(a: usize, b: usize) -> usize
-    ensures { result ≡ cond (ltb a b) b a }
-{
-    if a < b { b } else { a }
+    usize::from(c) * 8 + s
 }
 
 // The same, and what was told is kept for up to seven words: `held` has them from 1 on, `next` the number of the word where a byte leads, or 0.
@@ -595,18 +516,16 @@ fn walk_told(
     let mut held = [word; 8];
     let mut count: usize = 1;
     let mut s: usize = 1;
-    let mut i = from;
-    while i < value.len() {
+    for i in from..value.len() {
         let w = held[s];
         if ef & ((w % 2 == 1) | (sf & empty)) {
             return true;
         }
         let c = fold(mark, value[i]);
         let j = spot(c, s);
-        let t = number(next[j]);
+        let t = usize::from(next[j]);
         if 0 < t {
             s = t;
-            i += 1;
             continue;
         }
         let x = lead(text, kinds, args, marks, w, sf, c);
@@ -628,27 +547,19 @@ fn walk_told(
             );
         }
         held[n] = x;
-        next[j] = byte(n);
-        count = more(count, n);
+        next[j] = n as u8;
+        count = count.max(n);
         s = n;
-        i += 1;
     }
     let w = held[s];
     (w % 2 == 1) | (sf & empty)
 }
 
-// How many bytes of a value come before the first of a kind.
-fn ahead(value: &[u8], mark: bool, b: u8) -> usize
-    ensures { (result ≡ ahead_of b (folded «mark» value.now)) × (result ≤ length value.now) }
+// The index of the first byte of a kind.
+fn first(value: &[u8], mark: bool, b: u8) -> Option<usize>
+    ensures { result ≡ position (λ c. fold «mark» c == b) value.now }
 {
-    let mut i = 0;
-    while i < value.len() {
-        if fold(mark, value[i]) == b {
-            return i;
-        }
-        i += 1;
-    }
-    i
+    value.iter().position(|c| fold(mark, *c) == b)
 }
 
 // Where the search may begin: a table that begins with one byte of the text, which may not be absent, finds nothing before the first such byte.
@@ -656,17 +567,14 @@ fn start(text: &[u8], kinds: &[u8], args: &[u16], value: &[u8], mark: bool) -> u
     requires { (smallOf kinds.now ≡ true) × (length args.now ≡ length kinds.now) }
     ensures { (result ≤ length value.now) × ((ef : Bool) → decide (tokens_of text.now kinds.now args.now) (length kinds.now) true ef (folded «mark» (drop result value.now)) ≡ decide (tokens_of text.now kinds.now args.now) (length kinds.now) true ef (folded «mark» value.now)) }
 {
-    if kinds.len() == 0 {
+    if kinds.is_empty() || kinds[0] != 0 {
         return 0;
     }
-    if kinds[0] != 0 {
-        return 0;
-    }
-    let at = wide(args[0]);
+    let at = usize::from(args[0]);
     if text.len() <= at {
         return 0;
     }
-    ahead(value, mark, text[at])
+    first(value, mark, text[at]).unwrap_or(value.len())
 }
 
 // The same where the table is small and the start is free; else the value's start.
@@ -703,7 +611,7 @@ fn finds_long(
     requires { (length kinds.now ≤ 62) × (length args.now ≡ length kinds.now) × (length marks.old ≡ length kinds.now) × (from < length value.now) }
     ensures { result ≡ decide (tokens_of text.now kinds.now args.now) (length kinds.now) sf ef (folded «mark» (drop from value.now)) }
 {
-    clear(marks);
+    marks.fill(false);
     let l = shift(text, kinds, args, marks, false, 0);
     if ef & l.emp {
         return true;
@@ -730,19 +638,10 @@ fn finds_long(
 // ---- large tables without groups
 
 // What a pass leaves: how far marks stand, and whether a way has ended.
-#[derive(Drop)]
+#[derive(Clone, Copy)]
 pub struct Reach {
     pub top: usize,
     pub fin: bool,
-}
-
-fn higher(hit: bool, i: usize, top: usize) -> usize
-    ensures { result ≡ cond hit i top }
-{
-    if hit {
-        return i;
-    }
-    top
 }
 
 // One byte of the value, where no mark stands from `top` on; where no way is open there, the rest of the table is passed over.
@@ -761,8 +660,7 @@ fn shift_plain(
     let mut cur = k;
     let mut fin = false;
     let mut high: usize = 0;
-    let mut i: usize = 0;
-    while i < kinds.len() {
+    for i in 0..kinds.len() {
         if !(cur | fin) & (top <= i) {
             return Reach {
                 top: high,
@@ -770,7 +668,7 @@ fn shift_plain(
             };
         }
         let kind = kinds[i];
-        let arg = wide(args[i]);
+        let arg = usize::from(args[i]);
         let was = marks[i];
         let rep = repeats(kind);
         let o = absent(kind);
@@ -778,13 +676,11 @@ fn shift_plain(
         marks[i] = hit;
         cur = (cur & o) | was;
         fin = (fin & o) | hit;
-        i += 1;
-        high = higher(hit, i, high);
+        if hit {
+            high = i + 1;
+        }
     }
-    Reach {
-        top: high,
-        fin: fin,
-    }
+    Reach { top: high, fin }
 }
 
 // The value from the left.
@@ -805,16 +701,14 @@ fn walk_plain(
     let mut top: usize = 0;
     let mut fin = false;
     let mut k = true;
-    let mut i = 0;
-    while i < value.len() {
+    for c in value {
         if ef & (fin | (k & empty)) {
             return true;
         }
-        let l = shift_plain(text, kinds, args, marks, top, k, fold(mark, value[i]));
+        let l = shift_plain(text, kinds, args, marks, top, k, fold(mark, *c));
         top = l.top;
         fin = l.fin;
         k = sf;
-        i += 1;
     }
     fin | (k & empty)
 }
@@ -853,7 +747,7 @@ pub fn finds(
             true,
         );
     }
-    clear(marks);
+    marks.fill(false);
     if plain(kinds) {
         return walk_plain(
             text,

@@ -10,4 +10,4 @@ returns-then-starts c = (rw (c.if-starts.true, le-ltb _ _ c.if-d-lt8.false), ome
 
 pub returns-then-ends : goal.returns-then-ends
 returns-then-ends c =
-    (rw (c.if-starts.false, c.if-bars.false, c.if-ends.true) c.under.ensures, omega (arith, c.under.ensures))
+    (rw (c.if-starts.false, c.if-bars.false, c.if-ends.true) c.saturating_sub.ensures, omega (arith, c.saturating_sub.ensures))

@@ -13,7 +13,7 @@ pub returns-then-ef-l : goal.returns-then-ef-l
 returns-then-ef-l c =
     let a = c.args in
     let n = length a.kinds.now in
-    let e = c.clear.ensures ∙ ap (λ (m : ℕ). replicate m false) c.requires.2 in
+    let e = (c.fill.ensures.after (λ y h. h)) ∙ ap (λ (m : ℕ). replicate m false) c.requires.2 in
     long_seen (tokens_of a.text.now a.kinds.now a.args.now) n a.sf a.ef (fold a.mark) a.value.now a.from _ _ c.shift-l.result e c.shift-l.ensures c.requires.3 c.if-ef-l.true
 
 pub lead-x-requires : goal.lead-x-requires
@@ -31,7 +31,7 @@ pub returns : goal.returns
 returns c =
     let a = c.args in
     let n = length a.kinds.now in
-    let e = c.clear.ensures ∙ ap (λ (m : ℕ). replicate m false) c.requires.2 in
+    let e = (c.fill.ensures.after (λ y h. h)) ∙ ap (λ (m : ℕ). replicate m false) c.requires.2 in
     let p = c.pack-w in
     let m = c.marks-2-1.given ∙ c.marks-1.given ∙ c.requires.2 in
     long_first (tokens_of a.text.now a.kinds.now a.args.now) n a.sf a.ef (fold a.mark) a.value.now a.from _ _ c.shift-l.result e c.shift-l.ensures c.requires.3 c.if-ef-l.false p.result (sym (ap (λ (k : ℕ). cells_in k p.result) m) ∙ p.ensures.0) p.ensures.1 c.fold.result c.fold.ensures c.lead-x.result c.lead-x.ensures c.walk_told.result c.walk_told.ensures

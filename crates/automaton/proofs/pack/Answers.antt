@@ -1,45 +1,43 @@
-use mathlib.Core.Path.{refl}
 use native.Mathlib.Omega.{arith}
-use Rattle.automaton.proofs.Word.{room, grown}
+use mathlib.Core.Bool.{false}
+use Prim.Native.Nat.{◌+◌}
+use mathlib.Core.Path.{◌≡◌, refl, ◌∙◌}
+use lib.ListN.{get_or}
+use Rattle.automaton.specs.Word.{bit_if}
+use Rattle.automaton.proofs.Word.{room, grown, added, none_added, bit_least, bit_small, bit_byte}
 use Rattle.automaton.proofs.Told.{pack_one, pack_all}
 use Rattle.automaton.proofs.pack.Goals as goal
-
-pub loop-i-init : goal.loop-i-init
-loop-i-init c = (omega arith, refl, omega arith, refl)
+use Rattle.automaton.proofs.pack.Goals.{then-m, else-m}
 
 pub overflow_add-out : goal.overflow_add-out
 overflow_add-out c =
-    let z = c.before.before.before.before.before.before in
-    let l = c.loop-i in
-    let g = grown l.i l.out l.bit c.bit_if-out.result (omega (arith, z.requires, c.loop-i-test)) l.invariant.1 l.invariant.2 c.bit_if-out.ensures.1 in record { fits = omega (arith, g.0) }
+    let l = c.loop-m in
+    let g = grown l.m-index l.out l.bit l.bit (omega (arith, c.requires)) l.invariant.1 l.invariant.2 (omega arith) in record { fits = omega (arith, g.0) }
 
 pub overflow_mul-bit : goal.overflow_mul-bit
 overflow_mul-bit c =
-    let z = c.before.before.before.before.before.before in
-    let l = c.loop-i in
-    let g = grown l.i l.out l.bit c.bit_if-out.result (omega (arith, z.requires, c.loop-i-test)) l.invariant.1 l.invariant.2 c.bit_if-out.ensures.1 in record { fits = omega (arith, g.1) }
+    let l = c.loop-m in
+    let g = grown l.m-index l.out l.bit 0 (omega (arith, c.requires)) l.invariant.1 l.invariant.2 (omega arith) in record { fits = omega (arith, g.1) }
 
-pub loop-i-preserved : goal.loop-i-preserved
-loop-i-preserved c =
-    let z = c.before.before.before.before.before.before in
-    let l = c.loop-i in
-    let g = grown l.i l.out l.bit c.bit_if-out.result (omega (arith, z.requires, c.loop-i-test)) l.invariant.1 l.invariant.2 c.bit_if-out.ensures.1 in
-    (omega (arith, c.loop-i-test), g.2, g.3, pack_one z.args.marks.now l.i l.out l.bit c.bit_if-out.result (omega (arith, c.loop-i-test)) l.invariant.1 l.invariant.2 l.invariant.3 c.bit_if-out.ensures.0)
+pub loop-m-preserved : goal.loop-m-preserved
+loop-m-preserved c =
+    let l = c.loop-m in
+    let h = get_or c.args.marks.now l.m-index false in
+    let e : c.if-m.out ≡ l.out + bit_if h l.bit = elim c.if-m.branch [ then-m w ↦ added h c.if-m.out l.out l.bit w.if-m.true w.out-is | else-m w ↦ none_added h c.if-m.out l.out l.bit w.if-m.false w.out-is ] in
+    let g = grown l.m-index l.out l.bit (bit_if h l.bit) (omega (arith, c.requires)) l.invariant.1 l.invariant.2 (bit_least h l.bit) in
+    (omega arith, g.2, rw e g.3, rw e (pack_one c.args.marks.now l.m-index l.out l.bit (bit_if h l.bit) (omega arith) l.invariant.1 l.invariant.2 l.invariant.3 refl))
 
 pub overflow_mul-result : goal.overflow_mul-result
 overflow_mul-result c =
-    let z = c.before.before.before.before in
-    let l = c.loop-i in
-    let r = room l.i l.out (omega (arith, z.requires, l.invariant.0)) l.invariant.2 in record { fits = omega (arith, r) }
+    let l = c.loop-m in
+    let r = room l.m-index l.out (omega (arith, c.requires)) l.invariant.2 in record { fits = omega (arith, r) }
 
 pub overflow_add-result : goal.overflow_add-result
 overflow_add-result c =
-    let z = c.before.before.before.before.before in
-    let l = c.loop-i in
-    let r = room l.i l.out (omega (arith, z.requires, l.invariant.0)) l.invariant.2 in record { fits = omega (arith, r, c.bit_if.ensures.1) }
+    let l = c.loop-m in
+    let r = room l.m-index l.out (omega (arith, c.requires)) l.invariant.2 in record { fits = omega (arith, r, c.from.ensures, bit_small c.args.fin) }
 
 pub returns : goal.returns
 returns c =
-    let z = c.before.before.before.before.before in
-    let l = c.loop-i in
-    pack_all z.args.marks.now l.i l.out c.bit_if.result z.args.fin l.invariant.0 (omega (arith, c.loop-i-test)) l.invariant.3 c.bit_if.ensures.0
+    let l = c.loop-m in
+    pack_all c.args.marks.now l.m-index l.out c.from.result c.args.fin l.invariant.0 (omega arith) l.invariant.3 (c.from.ensures ∙ bit_byte c.args.fin)

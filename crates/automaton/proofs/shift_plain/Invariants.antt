@@ -1,4 +1,4 @@
-use Prim.Native.Nat.{◌≤◌, ◌-◌}
+use Prim.Native.Nat.{◌≤◌}
 use mathlib.Core.Path.{◌≡◌}
 use mathlib.Core.Bool.{Bool}
 use mathlib.Core.List.{[]}
@@ -11,6 +11,3 @@ use Rattle.automaton.proofs.shift_plain.Given as goal
 
 abbrev pub invariant-loop-i : goal.invariant-loop-i
 invariant-loop-i l = (l.i ≤ length l.kinds) × (length l.marks ≡ length l.kinds) × ((e : Bool) × (goes l.text l.kinds l.args l.marks l.c (lev l.k l.cur e l.fin) l.i ≡ pass (tokens_of l.text l.kinds l.args) l.initial.marks l.c (started l.k) [])) × Above l.marks l.top l.i × Below l.marks l.high l.i
-
-abbrev pub decreases-loop-i : goal.decreases-loop-i
-decreases-loop-i l = length l.kinds - l.i

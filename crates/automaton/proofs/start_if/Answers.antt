@@ -4,7 +4,7 @@ use Rattle.automaton.proofs.start_if.Goals as goal
 
 pub start-requires : goal.start-requires
 start-requires c =
-    let z = c.before.before.before.before.before.before in (sym z.requires.0 ∙ (and_parts z.args.single z.args.sf c.if-single-sf.true).0, z.requires.1)
+    let z = c in (sym z.requires.0 ∙ (and_parts z.args.single z.args.sf c.if-single-sf.true).0, z.requires.1)
 
 pub returns-then-single-sf : goal.returns-then-single-sf
 returns-then-single-sf c =

@@ -1,4 +1,4 @@
-use Prim.Native.Nat.{◌≤◌, ◌-◌}
+use Prim.Native.Nat.{◌≤◌}
 use mathlib.Core.Path.{◌≡◌}
 use mathlib.Core.List.{map}
 use lib.ListN.{length, drop}
@@ -9,6 +9,3 @@ use Rattle.automaton.proofs.walk.Given as goal
 
 abbrev pub invariant-loop-i : goal.invariant-loop-i
 invariant-loop-i l = (l.i ≤ length l.value) × (length l.marks ≡ length l.kinds) × (walk_on (tokens_of l.text l.kinds l.args) l.sf l.ef l.empty l.marks l.fin l.k (map (fold l.mark) (drop l.i l.value)) ≡ walk_on (tokens_of l.text l.kinds l.args) l.sf l.ef l.empty l.initial.marks l.ended l.enters (folded l.mark (drop l.from l.value)))
-
-abbrev pub decreases-loop-i : goal.decreases-loop-i
-decreases-loop-i l = length l.value - l.i

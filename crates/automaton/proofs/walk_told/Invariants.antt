@@ -1,4 +1,4 @@
-use Prim.Native.Nat.{◌≤◌, ◌-◌}
+use Prim.Native.Nat.{◌≤◌}
 use mathlib.Core.Path.{◌≡◌}
 use mathlib.Core.List.{map}
 use lib.ListN.{length, get_or, drop}
@@ -14,6 +14,3 @@ invariant-loop-i l =
     (l.i ≤ length l.value) × (length l.marks ≡ length l.kinds) × (length l.next ≡ 2048) × (length l.held ≡ 8) × (l.s ≤ l.count) × (l.count ≤ 7)
     × Told (tokens_of l.text l.kinds l.args) (length l.kinds) l.sf l.next l.held l.count
     × (walk_on (tokens_of l.text l.kinds l.args) l.sf l.ef l.empty (cells_in (length l.kinds) (get_or l.held l.s 0)) (ended_in (get_or l.held l.s 0)) l.sf (map (fold l.mark) (drop l.i l.value)) ≡ walk_on (tokens_of l.text l.kinds l.args) l.sf l.ef l.empty (cells_in (length l.kinds) l.word) (ended_in l.word) l.sf (folded l.mark (drop l.from l.value)))
-
-abbrev pub decreases-loop-i : goal.decreases-loop-i
-decreases-loop-i l = length l.value - l.i

@@ -1,4 +1,4 @@
-use Prim.Native.Nat.{◌≤◌, ◌-◌}
+use Prim.Native.Nat.{◌≤◌}
 use mathlib.Core.Path.{◌≡◌}
 use mathlib.Core.List.{map}
 use lib.ListN.{length, drop}
@@ -10,6 +10,3 @@ use Rattle.automaton.proofs.walk_word.Given as goal
 
 abbrev pub invariant-loop-i : goal.invariant-loop-i
 invariant-loop-i l = (l.i ≤ length l.value) × (walk_on (tokens_of l.text l.kinds l.args) l.sf l.ef l.empty (cells_in (length l.kinds) l.w) (ended_in l.w) l.k (map (fold l.mark) (drop l.i l.value)) ≡ walk_on (tokens_of l.text l.kinds l.args) l.sf l.ef l.empty (cells_in (length l.kinds) l.word) (ended_in l.word) l.enters (folded l.mark (drop l.from l.value)))
-
-abbrev pub decreases-loop-i : goal.decreases-loop-i
-decreases-loop-i l = length l.value - l.i

@@ -1,7 +1,0 @@
-use mathlib.Core.Path.{sym}
-use mathlib.Core.Bool.{false}
-use lib.ListN.{get_or-eq_default}
-use Rattle.automaton.proofs.cell.Goals as goal
-
-pub returns-else-i-s : goal.returns-else-i-s
-returns-else-i-s c = sym (get_or-eq_default c.args.s.now false c.if-i-s.false)
