@@ -1,15 +1,16 @@
 -- A branch with its anchors, and the loops over the branches. Assumes nothing.
 use mathlib.Core.Path.{◌≡◌, refl, sym, ap, ◌∙◌}
 use mathlib.Core.Bool.{Bool, true, false, not, ◌&&◌, ◌||◌, or-false}
-use mathlib.Core.List.{List, [], ◌∷◌}
+use mathlib.Core.List.{List, [], ◌∷◌, map}
 use mathlib.Core.Option.{Option, none, some}
 use Prim.Native.Nat.{ℕ, ◌+◌, ◌-◌, ◌≤◌, ◌<◌}
 use native.Mathlib.Numerals.{add-one}
 use native.Mathlib.Omega.{arith}
-use lib.ListN.{length, get_or, set, take, drop, drop_of_length-le, length-map, get_or-map}
-use lib.Seq.{drop-cons, drop-drop, length-take-le, take-suc, take-suc-set, take_all}
+use lib.ListN.{length, get_or, take, drop, drop_of_length-le, length-map}
+use lib.Seq.{drop-cons, drop-drop, length-take-le}
 use lib.Dec.{eqb}
-use borrow.Author.Tests.{eq-eqb, ne_eqb, le-leb, lt-leb}
+use native.Mathlib.Decide.{dec_lt}
+use borrow.Author.Tests.{eq-eqb, ne_eqb, le-leb, lt-leb, le-ltb, lt-ltb}
 use Rattle.common.specs.Choice.{pick}
 use Rattle.common.proofs.Choice.{pick_yes, pick_no}
 use Rattle.octets.specs.Octets.{fold, folded}
@@ -26,9 +27,13 @@ use Rattle.regexp.specs.Language.{Tree, Anchored, anchored}
 use Rattle.regexp.specs.Scan.{read, branch_of, tree_of, has}
 use Rattle.regexp.specs.Regex.{last, more, fault, end_of, ended, hat_of, one_if, part_of, with_first, branches, branches_of, is_some, re_of, held_in, regex_of}
 use Rattle.regexp.specs.Promise.{EndAt, TableOf, BranchAt, BehindAt, TurnAt, TableAt}
-use Rattle.regexp.specs.declared.Made.TheVariants.{Branch, Bad as NoBranch}
+use Rattle.std.specs.Prelude.{Some, None}
+use Rattle.std.specs.Prelude.{Option as Maybe}
+use Rattle.std.specs.Char.{to_ascii_lowercase}
+use mir.Val.{bool_byte}
+use Rattle.regexp.specs.declared.Made.{Made}
 use Rattle.regexp.specs.declared.Turn.{Turn}
-use Rattle.regexp.specs.declared.Turn.TheVariants.{Last, More, Bad as NoTurn}
+use Rattle.regexp.specs.declared.Turn.TheVariants.{Last, More}
 use Rattle.regexp.proofs.Shape.{fresh}
 use Rattle.regexp.proofs.Turns.{table_length}
 use Rattle.regexp.proofs.Branches.{last_branch, no_branch, more_branch, last_flat, more_flat}
@@ -45,15 +50,23 @@ module _ (text : List ℕ) (i : ℕ) (first : Bool) where
       go true e = omega (arith, hat_inside e)
       go false e = omega arith
 
+  -- the index behind it
+  pub past_hat : (h : Bool) (n : ℕ) → h ≡ hat_of first (drop i text) → n ≡ bool_byte h → i + n ≡ i + one_if (hat_of first (drop i text))
+  past_hat h n e f = ap (λ k. i + k) (f ∙ same h ∙ ap one_if e)
+    where
+      same : (b : Bool) → bool_byte b ≡ one_if b
+      same true = refl
+      same false = refl
+
 -- ---- what stands behind a branch
 module _ (text : List ℕ) (h : Bool) (n : ℕ) (some : Bool) (j : ℕ) where
   none_left : length text ≤ j → (t : Tree) → end_of (some || h) h t (drop j text) ≡ end_of (some || h) h t []
   none_left l t = ap (end_of (some || h) h t) (drop_of_length-le text l)
 
-  pub behind_end : length text ≤ j → (some || h) ≡ true → BehindAt text h n some j (Last n (not h) true)
+  pub behind_end : length text ≤ j → (some || h) ≡ true → BehindAt text h n some j (Some (Last n (not h) true))
   behind_end l e = (refl, λ t. none_left l t ∙ pick_yes (some || h) _ _ e)
 
-  pub behind_end_bad : length text ≤ j → (some || h) ≡ false → BehindAt text h n some j NoTurn
+  pub behind_end_bad : length text ≤ j → (some || h) ≡ false → BehindAt text h n some j None
   behind_end_bad l e t = none_left l t ∙ pick_no (some || h) _ _ e
 
   module _ (l : j < length text) where
@@ -63,23 +76,23 @@ module _ (text : List ℕ) (h : Bool) (n : ℕ) (some : Bool) (j : ℕ) where
     bar : get_or text j 0 ≡ 124 → (t : Tree) → end_of (some || h) h t (drop j text) ≡ pick (some || h) (λ _. more (anchored (not h) true t) (drop (j + 1) text)) (λ _. fault)
     bar e t = byte t ∙ pick_yes (eqb (get_or text j 0) 124) _ _ (eq-eqb (get_or text j 0) 124 e)
 
-    pub behind_bar : get_or text j 0 ≡ 124 → (some || h) ≡ true → BehindAt text h n some j (More n (not h) (j + 1))
+    pub behind_bar : get_or text j 0 ≡ 124 → (some || h) ≡ true → BehindAt text h n some j (Some (More n (not h) (j + 1)))
     behind_bar e f = (refl, omega arith, omega arith, λ t. bar e t ∙ pick_yes (some || h) _ _ f)
 
-    pub behind_bar_bad : get_or text j 0 ≡ 124 → (some || h) ≡ false → BehindAt text h n some j NoTurn
+    pub behind_bar_bad : get_or text j 0 ≡ 124 → (some || h) ≡ false → BehindAt text h n some j None
     behind_bar_bad e f t = bar e t ∙ pick_no (some || h) _ _ f
 
     module _ (e : get_or text j 0 ≡ 124 → ⊥) where
       other : (t : Tree) → end_of (some || h) h t (drop j text) ≡ pick (eqb (get_or text j 0) 36 && is_none (drop (j + 1) text)) (λ _. last (anchored (not h) false t)) (λ _. fault)
       other t = byte t ∙ pick_no (eqb (get_or text j 0) 124) _ _ (ne_eqb (get_or text j 0) 124 e)
 
-      pub behind-other : (get_or text j 0 ≡ 36 → ⊥) → BehindAt text h n some j NoTurn
+      pub behind-other : (get_or text j 0 ≡ 36 → ⊥) → BehindAt text h n some j None
       behind-other f t = other t ∙ rw (ne_eqb (get_or text j 0) 36 f)
 
-      pub behind-early : get_or text j 0 ≡ 36 → j + 1 < length text → BehindAt text h n some j NoTurn
+      pub behind-early : get_or text j 0 ≡ 36 → j + 1 < length text → BehindAt text h n some j None
       behind-early f k t = other t ∙ rw (eq-eqb (get_or text j 0) 36 f, drop-cons text (j + 1) 0 k)
 
-      pub behind-dollar : get_or text j 0 ≡ 36 → length text ≤ j + 1 → BehindAt text h n some j (Last n (not h) false)
+      pub behind-dollar : get_or text j 0 ≡ 36 → length text ≤ j + 1 → BehindAt text h n some j (Some (Last n (not h) false))
       behind-dollar f k = (refl, λ t. other t ∙ rw (eq-eqb (get_or text j 0) 36 f, drop_of_length-le text k))
 
 -- ---- a branch with its anchors
@@ -96,30 +109,30 @@ module _ (text : List ℕ) (i : ℕ) (first h : Bool) (eh : h ≡ hat_of first (
     end_is : part_of first (drop i text) ≡ end_of (some || h) h (tree_of ps) (drop j text)
     end_is = part_is ∙ ap (ended h) b ∙ ap (λ (x : Bool). end_of (x || h) h (tree_of ps) (drop j text)) (sym s)
 
-  pub turn : (n : ℕ) (full : Bool) (j : ℕ) → EndAt text from (Branch n full j) → (r : Turn) → BehindAt text h n full j r → TurnAt text i first r
-  turn n full j m (Last k sf ef) b = (tree_of m.2.0, end_is n full j m.2.0 m.2.1 m.2.2 ∙ b.1 (tree_of m.2.0))
-  turn n full j m (More k sf g) b = (
+  pub turn : (m : Made) → EndAt text from (Some m) → (r : Maybe Turn) → BehindAt text h m.tokens m.some m.end r → TurnAt text i first r
+  turn t m (Some (Last k sf ef)) b = (tree_of m.2.0, end_is t.tokens t.some t.end m.2.0 m.2.1 m.2.2 ∙ b.1 (tree_of m.2.0))
+  turn t m (Some (More k sf g)) b = (
     omega (arith, later, m.0, b.1),
     b.2,
-    (tree_of m.2.0, end_is n full j m.2.0 m.2.1 m.2.2 ∙ b.3 (tree_of m.2.0)),
+    (tree_of m.2.0, end_is t.tokens t.some t.end m.2.0 m.2.1 m.2.2 ∙ b.3 (tree_of m.2.0)),
   )
-  turn n full j m NoTurn b = end_is n full j m.2.0 m.2.1 m.2.2 ∙ b (tree_of m.2.0)
+  turn t m None b = end_is t.tokens t.some t.end m.2.0 m.2.1 m.2.2 ∙ b (tree_of m.2.0)
 
-  pub turn_bad : EndAt text from NoBranch → TurnAt text i first NoTurn
+  pub turn_bad : EndAt text from None → TurnAt text i first None
   turn_bad m = part_is ∙ ap (ended h) m
 
   module _ (ks xs : List ℕ) where
-    pub table_turn : (n : ℕ) (full : Bool) (j : ℕ) → BranchAt text from ks xs (Branch n full j) → (r : Turn) → BehindAt text h n full j r → TableAt text i first ks xs r
-    table_turn n full j m (Last k sf ef) b =
-        (tree_of m.2.0, end_is n full j m.2.0 m.2.1 m.2.2 ∙ b.1 (tree_of m.2.0), rw b.0 m.2.3)
-    table_turn n full j m (More k sf g) b = (
+    pub table_turn : (m : Made) → BranchAt text from ks xs (Some m) → (r : Maybe Turn) → BehindAt text h m.tokens m.some m.end r → TableAt text i first ks xs r
+    table_turn t m (Some (Last k sf ef)) b =
+        (tree_of m.2.0, end_is t.tokens t.some t.end m.2.0 m.2.1 m.2.2 ∙ b.1 (tree_of m.2.0), rw b.0 m.2.3)
+    table_turn t m (Some (More k sf g)) b = (
       omega (arith, later, m.0, b.1),
       b.2,
-      (tree_of m.2.0, end_is n full j m.2.0 m.2.1 m.2.2 ∙ b.3 (tree_of m.2.0), rw b.0 m.2.3),
+      (tree_of m.2.0, end_is t.tokens t.some t.end m.2.0 m.2.1 m.2.2 ∙ b.3 (tree_of m.2.0), rw b.0 m.2.3),
     )
-    table_turn n full j m NoTurn b = end_is n full j m.2.0 m.2.1 m.2.2 ∙ b (tree_of m.2.0)
+    table_turn t m None b = end_is t.tokens t.some t.end m.2.0 m.2.1 m.2.2 ∙ b (tree_of m.2.0)
 
-    pub table_bad : BranchAt text from ks xs NoBranch → TableAt text i first ks xs NoTurn
+    pub table_bad : BranchAt text from ks xs None → TableAt text i first ks xs None
     table_bad m = part_is ∙ ap (ended h) m
 
 -- ---- `all_branches`
@@ -128,16 +141,16 @@ some_more b none = refl
 some_more b (some bs) = refl
 
 module _ (p : List ℕ) (i : ℕ) (first g : Bool) (e : is_some (branches first (drop i p)) ≡ g) where
-  pub formed_last : (n : ℕ) (sf ef : Bool) → TurnAt p i first (Last n sf ef) → true ≡ g
+  pub formed_last : (n : ℕ) (sf ef : Bool) → TurnAt p i first (Some (Last n sf ef)) → true ≡ g
   formed_last n sf ef t = ap is_some (sym (last_branch first (drop i p) (anchored sf ef t.0) t.1)) ∙ e
 
-  pub formed_more : (n : ℕ) (sf : Bool) (j : ℕ) → TurnAt p i first (More n sf j) → is_some (branches false (drop j p)) ≡ g
+  pub formed_more : (n : ℕ) (sf : Bool) (j : ℕ) → TurnAt p i first (Some (More n sf j)) → is_some (branches false (drop j p)) ≡ g
   formed_more n sf j t =
       sym (some_more (anchored sf true t.2.0) (branches false (drop j p)))
       ∙ ap is_some (sym (more_branch first (drop i p) (anchored sf true t.2.0) (drop j p) t.2.1))
       ∙ e
 
-  pub formed_bad : TurnAt p i first NoTurn → false ≡ g
+  pub formed_bad : TurnAt p i first None → false ≡ g
   formed_bad t = ap is_some (sym (no_branch first (drop i p) t)) ∙ e
 
 -- ---- `found`
@@ -176,7 +189,7 @@ held_rest sf ef t none x h = refl
 held_rest sf ef t (some bs) x h = rw h
 
 module _ (p x : List ℕ) (i : ℕ) (first : Bool) (ks xs : List ℕ) (e : held_in (branches first (drop i p)) x ≡ held_in (branches_of p) x) where
-  pub search_last : (n : ℕ) (sf ef : Bool) → TableAt p i first ks xs (Last n sf ef) → n ≤ length ks → n ≤ length xs → (r : Bool) →
+  pub search_last : (n : ℕ) (sf ef : Bool) → TableAt p i first ks xs (Some (Last n sf ef)) → n ≤ length ks → n ≤ length xs → (r : Bool) →
       r ≡ decide (tokens_of p (take n ks) (take n xs)) n sf ef x → r ≡ held_in (branches_of p) x
   search_last n sf ef t hk hx r q =
       q
@@ -185,7 +198,7 @@ module _ (p x : List ℕ) (i : ℕ) (first : Bool) (ks xs : List ℕ) (e : held_
       ∙ ap (λ (o : Option (List Anchored)). held_in o x) (sym (last_branch first (drop i p) (anchored sf ef t.0) t.1))
       ∙ e
 
-  module _ (n : ℕ) (sf : Bool) (j : ℕ) (t : TableAt p i first ks xs (More n sf j)) (hk : n ≤ length ks) (hx : n ≤ length xs) (r : Bool) (q : r ≡ decide (tokens_of p (take n ks) (take n xs)) n sf true x) where
+  module _ (n : ℕ) (sf : Bool) (j : ℕ) (t : TableAt p i first ks xs (Some (More n sf j))) (hk : n ≤ length ks) (hx : n ≤ length xs) (r : Bool) (q : r ≡ decide (tokens_of p (take n ks) (take n xs)) n sf true x) where
     joined : held_in (with_first (anchored sf true t.2.0) (branches false (drop j p))) x ≡ held_in (branches_of p) x
     joined =
         ap (λ (o : Option (List Anchored)). held_in o x) (sym (more_branch first (drop i p) (anchored sf true t.2.0) (drop j p) t.2.1))
@@ -200,7 +213,7 @@ module _ (p x : List ℕ) (i : ℕ) (first : Bool) (ks xs : List ℕ) (e : held_
     pub search_on : r ≡ false → held_in (branches false (drop j p)) x ≡ held_in (branches_of p) x
     search_on f = held_rest sf true t.2.0 (branches false (drop j p)) x (here ∙ f) ∙ joined
 
-  pub search_bad : TableAt p i first ks xs NoTurn → false ≡ held_in (branches_of p) x
+  pub search_bad : TableAt p i first ks xs None → false ≡ held_in (branches_of p) x
   search_bad t = ap (λ (o : Option (List Anchored)). held_in o x) (sym (no_branch first (drop i p) t)) ∙ e
 
 -- ---- `fits`
@@ -211,22 +224,17 @@ module _ (x p : List ℕ) where
   pub regex_long : 4096 < length p → false ≡ regex_of x p
   regex_long l = ap (λ (b : Bool). b && held_in (branches_of p) x) (sym (lt-leb (length p) 4096 l))
 
-pub fold_one : (p room : List ℕ) (i v : ℕ) → i < length p → i < length room → v ≡ fold true (get_or p i 0) → take i room ≡ take i (folded true p) → take (i + 1) (set room i v) ≡ take (i + 1) (folded true p)
-fold_one p room i v h l ev e =
-    let k : i < length (folded true p) = rw (length-map p (fold true)) h in
-    let b : get_or (folded true p) i 0 ≡ v = get_or-map (fold true) p i 0 ∙ sym ev in
-    rw (add-one i, take-suc-set room i v l, take-suc (folded true p) i 0 k, b, e)
+lower_case : (b : ℕ) → to_ascii_lowercase b ≡ fold true b
+lower_case b = go (dec_lt b 65) (dec_lt b 91)
+  where
+    go : Dec (b < 65) → Dec (b < 91) → to_ascii_lowercase b ≡ fold true b
+    go (yes h) d = rw (lt-ltb b 65 h, lt-leb 65 b h)
+    go (no h) (yes l) = rw (le-ltb b 65 (omega arith), le-leb 65 b (omega arith), lt-ltb b 91 l, le-leb b 90 (omega arith))
+    go (no h) (no l) = rw (le-ltb b 65 (omega arith), le-leb 65 b (omega arith), le-ltb b 91 (omega arith), lt-leb b 90 (omega arith))
 
-pub fold_all : (p room : List ℕ) (i : ℕ) → i ≤ length p → length p ≤ i → take i room ≡ take i (folded true p) → take (length p) room ≡ folded true p
-fold_all p room i h l e =
-    let q : i ≡ length p = omega arith in
-    let k : length (folded true p) ≤ length p = rw (length-map p (fold true)) (omega arith) in
-    (rw q at e) ∙ take_all (length p) (folded true p) k
+pub lowered : (p : List ℕ) → map to_ascii_lowercase p ≡ folded true p
+lowered [] = refl
+lowered (b ∷ p) = rw (lower_case b, lowered p)
 
 pub folded_length : (p : List ℕ) → length (folded true p) ≡ length p
 folded_length p = length-map p (fold true)
-
-pub folded_part : (x p room : List ℕ) (r : Bool) → r ≡ regex_of x (take (length p - 0) room) → take (length p) room ≡ folded true p → r ≡ regex_of x (folded true p)
-folded_part x p room r e f =
-    let z : length p - 0 ≡ length p = omega arith in
-    e ∙ ap (λ (k : ℕ). regex_of x (take k room)) z ∙ ap (regex_of x) f

@@ -1,5 +1,5 @@
 -- What the code answers: of one word, of a branch, of a branch and what stands behind it.
-use Rattle.std.specs.Prelude.{ℕ, ◌+◌, ◌<◌, ◌≤◌, ◌≡◌, Bool, true, false, ◌||◌, List, length, take, drop}
+use Rattle.std.specs.Prelude.{ℕ, ◌+◌, ◌<◌, ◌≤◌, ◌≡◌, Bool, true, false, ◌||◌, List, Option, Some, None, length, take, drop}
 use Rattle.automaton.specs.Pass.{tokens}
 use Rattle.automaton.specs.Table.{hits, repeats as kindRepeats, absent as kindAbsent, sort, tokens_of}
 use Rattle.regexp.specs.Language.{Atom, takes, Mark, Tree, anchored}
@@ -9,9 +9,8 @@ use Rattle.regexp.specs.Regex.{last, more, fault, end_of, part_of, repeats as ma
 use Rattle.regexp.specs.declared.Read.{Read}
 use Rattle.regexp.specs.declared.Read.TheVariants.{Item, Repeat, Open, Bar, Close, Stop, Bad}
 use Rattle.regexp.specs.declared.Made.{Made}
-use Rattle.regexp.specs.declared.Made.TheVariants.{Branch, Bad as NoBranch}
 use Rattle.regexp.specs.declared.Turn.{Turn}
-use Rattle.regexp.specs.declared.Turn.TheVariants.{Last, More, Bad as NoTurn}
+use Rattle.regexp.specs.declared.Turn.TheVariants.{Last, More}
 
 -- a word of the text at i
 abbrev pub Reads : List ℕ → Word → ℕ → Read → Type 0
@@ -51,36 +50,36 @@ AllowedAt text i room some Bad =
     (next (word_of (drop i text)) (spot room bs ps out) ≡ stuck) × (ends_at (word_of (drop i text)) (spot room bs ps out) ≡ false)
 
 -- a branch that begins at an index: whether it has a piece, and where it ends
-abbrev pub EndAt : List ℕ → ℕ → Made → Type 0
-EndAt text i (Branch n some j) = (i ≤ j) × (j ≤ length text) × ((ps : List Tree) × (branch_of (drop i text) ≡ read ps (drop j text)) × (some ≡ has ps))
-EndAt text i NoBranch = branch_of (drop i text) ≡ broken
+abbrev pub EndAt : List ℕ → ℕ → Option Made → Type 0
+EndAt text i (Some m) = (i ≤ m.end) × (m.end ≤ length text) × ((ps : List Tree) × (branch_of (drop i text) ≡ read ps (drop m.end text)) × (m.some ≡ has ps))
+EndAt text i None = branch_of (drop i text) ≡ broken
 
 -- the first n tokens of a table are those of a tree
 abbrev pub TableOf : List ℕ → List ℕ → List ℕ → ℕ → Tree → Type 0
 TableOf text ks xs n t = (n ≤ length text) × (tokens_of text (take n ks) (take n xs) ≡ tokens (re_of t))
 
 -- the same with its table
-abbrev pub BranchAt : List ℕ → ℕ → List ℕ → List ℕ → Made → Type 0
-BranchAt text i ks xs (Branch n some j) =
-    (i ≤ j) × (j ≤ length text) × ((ps : List Tree) × (branch_of (drop i text) ≡ read ps (drop j text)) × (some ≡ has ps) × TableOf text ks xs n (tree_of ps))
-BranchAt text i ks xs NoBranch = branch_of (drop i text) ≡ broken
+abbrev pub BranchAt : List ℕ → ℕ → List ℕ → List ℕ → Option Made → Type 0
+BranchAt text i ks xs (Some m) =
+    (i ≤ m.end) × (m.end ≤ length text) × ((ps : List Tree) × (branch_of (drop i text) ≡ read ps (drop m.end text)) × (m.some ≡ has ps) × TableOf text ks xs m.tokens (tree_of ps))
+BranchAt text i ks xs None = branch_of (drop i text) ≡ broken
 
 -- what stands at j behind a branch, which has a table of n tokens
-abbrev pub BehindAt : List ℕ → Bool → ℕ → Bool → ℕ → Turn → Type 0
-BehindAt text hat n some j (Last m sf ef) = (m ≡ n) × ((t : Tree) → end_of (some || hat) hat t (drop j text) ≡ last (anchored sf ef t))
-BehindAt text hat n some j (More m sf k) =
+abbrev pub BehindAt : List ℕ → Bool → ℕ → Bool → ℕ → Option Turn → Type 0
+BehindAt text hat n some j (Some (Last m sf ef)) = (m ≡ n) × ((t : Tree) → end_of (some || hat) hat t (drop j text) ≡ last (anchored sf ef t))
+BehindAt text hat n some j (Some (More m sf k)) =
     (m ≡ n) × (j < k) × (k ≤ length text) × ((t : Tree) → end_of (some || hat) hat t (drop j text) ≡ more (anchored sf true t) (drop k text))
-BehindAt text hat n some j NoTurn = (t : Tree) → end_of (some || hat) hat t (drop j text) ≡ fault
+BehindAt text hat n some j None = (t : Tree) → end_of (some || hat) hat t (drop j text) ≡ fault
 
 -- the first branch of what stands at i, with its anchors
-abbrev pub TurnAt : List ℕ → ℕ → Bool → Turn → Type 0
-TurnAt text i first (Last n sf ef) = (t : Tree) × (part_of first (drop i text) ≡ last (anchored sf ef t))
-TurnAt text i first (More n sf j) = (i < j) × (j ≤ length text) × ((t : Tree) × (part_of first (drop i text) ≡ more (anchored sf true t) (drop j text)))
-TurnAt text i first NoTurn = part_of first (drop i text) ≡ fault
+abbrev pub TurnAt : List ℕ → ℕ → Bool → Option Turn → Type 0
+TurnAt text i first (Some (Last n sf ef)) = (t : Tree) × (part_of first (drop i text) ≡ last (anchored sf ef t))
+TurnAt text i first (Some (More n sf j)) = (i < j) × (j ≤ length text) × ((t : Tree) × (part_of first (drop i text) ≡ more (anchored sf true t) (drop j text)))
+TurnAt text i first None = part_of first (drop i text) ≡ fault
 
 -- the same with its table
-abbrev pub TableAt : List ℕ → ℕ → Bool → List ℕ → List ℕ → Turn → Type 0
-TableAt text i first ks xs (Last n sf ef) = (t : Tree) × (part_of first (drop i text) ≡ last (anchored sf ef t)) × TableOf text ks xs n t
-TableAt text i first ks xs (More n sf j) =
+abbrev pub TableAt : List ℕ → ℕ → Bool → List ℕ → List ℕ → Option Turn → Type 0
+TableAt text i first ks xs (Some (Last n sf ef)) = (t : Tree) × (part_of first (drop i text) ≡ last (anchored sf ef t)) × TableOf text ks xs n t
+TableAt text i first ks xs (Some (More n sf j)) =
     (i < j) × (j ≤ length text) × ((t : Tree) × (part_of first (drop i text) ≡ more (anchored sf true t) (drop j text)) × TableOf text ks xs n t)
-TableAt text i first ks xs NoTurn = part_of first (drop i text) ≡ fault
+TableAt text i first ks xs None = part_of first (drop i text) ≡ fault

@@ -5,11 +5,10 @@ ghost use Rattle.std.specs.Prelude.{◌≡◌, true, false, ◌||◌, ◌+◌, �
 ghost use Rattle.octets.specs.Octets.{folded};
 ghost use Rattle.automaton.specs.Table.{repeats as repeatsOf, absent as absentOf, outside as outsideOf, sort as sortOf, tokens_of};
 ghost use Rattle.automaton.specs.Decide.{decide};
-ghost use Rattle.regexp.specs.Regex.{well_formed, regex_of, held_in, branches, branches_of, is_some, hat_of, one_if as one-if};
+ghost use Rattle.regexp.specs.Regex.{well_formed, regex_of, held_in, branches, branches_of, is_some, hat_of};
 ghost use Rattle.regexp.specs.Words.{plain_byte, repeat_byte, easy_at};
 ghost use Rattle.regexp.specs.Promise.{SetAt, WordAt, AllowedAt, EndAt, BranchAt, BehindAt, TurnAt, TableAt};
 
-use octets::fold;
 use pattern::sets::{begins, set_test};
 
 // ---- words
@@ -66,56 +65,19 @@ fn word_at(text: &[u8], i: usize) -> Read
 fn allowed(text: &[u8], i: usize, room: usize, some: bool) -> Read
     ensures { AllowedAt text.now i room some result }
 {
+    let top = room == 8;
     if text.len() <= i {
-        if room == 8 {
-            return Read::Stop;
-        }
-        return Read::Bad;
+        return if top { Read::Stop } else { Read::Bad };
     }
-    let w = word_at(text, i);
-    match w {
-        Read::Item(k, a, j) => {
-            return Read::Item(k, a, j);
-        }
-        Read::Repeat(r, o) => {
-            if some {
-                return Read::Repeat(r, o);
-            }
-            return Read::Bad;
-        }
-        Read::Open => {
-            if room == 0 {
-                return Read::Bad;
-            }
-            return Read::Open;
-        }
-        Read::Bar => {
-            if room == 8 {
-                return Read::Stop;
-            }
-            if some {
-                return Read::Bar;
-            }
-            return Read::Bad;
-        }
-        Read::Close => {
-            if room == 8 {
-                return Read::Bad;
-            }
-            if some {
-                return Read::Close;
-            }
-            return Read::Bad;
-        }
-        Read::Stop => {
-            if room == 8 {
-                return Read::Stop;
-            }
-            return Read::Bad;
-        }
-        Read::Bad => {
-            return Read::Bad;
-        }
+    match word_at(text, i) {
+        Read::Item(k, a, j) => Read::Item(k, a, j),
+        Read::Repeat(r, o) if some => Read::Repeat(r, o),
+        Read::Open if 0 < room => Read::Open,
+        Read::Bar if top => Read::Stop,
+        Read::Bar if some => Read::Bar,
+        Read::Close if !top && some => Read::Close,
+        Read::Stop if top => Read::Stop,
+        _ => Read::Bad,
     }
 }
 
@@ -123,43 +85,34 @@ fn allowed(text: &[u8], i: usize, room: usize, some: bool) -> Read
 fn is_plain(b: u8) -> bool
     ensures { result ≡ plain_byte b }
 {
-    !((b == 92)
-        | (b == 91)
-        | (b == 40)
-        | (b == 41)
-        | (b == 124)
-        | (b == 46)
-        | (b == 94)
-        | (b == 36))
+    !matches!(b, b'\\' | b'[' | b'(' | b')' | b'|' | b'.' | b'^' | b'$')
 }
 
 fn is_repeat(b: u8) -> bool
     ensures { result ≡ repeat_byte b }
 {
-    (b == 42) | (b == 43) | (b == 63)
+    matches!(b, b'*' | b'+' | b'?')
 }
 
 // Whether a byte stands at an index that stands for itself, or a repeat mark behind a piece: all that most words are.
 fn easy(text: &[u8], i: usize, some: bool) -> bool
     ensures { result ≡ easy_at some (drop i text.now) }
 {
-    if text.len() <= i {
-        return false;
-    }
-    is_plain(text[i]) & (some | !is_repeat(text[i]))
+    i < text.len() && is_plain(text[i]) & (some | !is_repeat(text[i]))
 }
 
 // ---- a branch of the whole pattern, without its anchors
 
-#[derive(Drop)]
-pub enum Made {
-    // How many tokens its table has, whether it has a piece, and where it ends.
-    Branch(usize, bool, usize),
-    Bad,
+// A branch that was read: how many tokens its table has, whether it has a piece, and where it ends.
+#[derive(Clone, Copy)]
+pub struct Made {
+    pub tokens: usize,
+    pub some: bool,
+    pub end: usize,
 }
 
 // The branch that begins at an index, without a table.
-fn branch_end(text: &[u8], from: usize) -> Made
+fn branch_end(text: &[u8], from: usize) -> Option<Made>
     requires { from ≤ length text.now }
     ensures { EndAt text.now from result }
 {
@@ -174,11 +127,11 @@ fn branch_end(text: &[u8], from: usize) -> Made
             continue;
         }
         match allowed(text, i, room, some) {
-            Read::Item(k, a, j) => {
+            Read::Item(_, _, j) => {
                 some = true;
                 i = j;
             }
-            Read::Repeat(r, o) => {
+            Read::Repeat(..) => {
                 i += 1;
             }
             Read::Open => {
@@ -195,10 +148,14 @@ fn branch_end(text: &[u8], from: usize) -> Made
                 i += 1;
             }
             Read::Stop => {
-                return Made::Branch(0, some, i);
+                return Some(Made {
+                    tokens: 0,
+                    some,
+                    end: i,
+                });
             }
             Read::Bad => {
-                return Made::Bad;
+                return None;
             }
         }
     }
@@ -238,7 +195,7 @@ fn optional(k: u8, o: bool) -> u8
 }
 
 // The branch that begins at an index, with its table. Room for as many tokens as the text has bytes is lent.
-fn branch(text: &[u8], from: usize, kinds: &mut [u8], args: &mut [u16]) -> Made
+fn branch(text: &[u8], from: usize, kinds: &mut [u8], args: &mut [u16]) -> Option<Made>
     requires { (from ≤ length text.now) × (length text.now ≤ 4096) × (length text.now ≤ length kinds.old) × (length text.now ≤ length args.old) }
     ensures { BranchAt text.now from kinds.new args.new result }
 {
@@ -300,10 +257,14 @@ fn branch(text: &[u8], from: usize, kinds: &mut [u8], args: &mut [u16]) -> Made
                 i += 1;
             }
             Read::Stop => {
-                return Made::Branch(n, some, i);
+                return Some(Made {
+                    tokens: n,
+                    some,
+                    end: i,
+                });
             }
             Read::Bad => {
-                return Made::Bad;
+                return None;
             }
         }
     }
@@ -315,75 +276,62 @@ fn branch(text: &[u8], from: usize, kinds: &mut [u8], args: &mut [u16]) -> Made
 fn hat(text: &[u8], i: usize, first: bool) -> bool
     ensures { result ≡ hat_of first (drop i text.now) }
 {
-    first & begins(text, i, 94)
+    first && begins(text, i, b'^')
 }
 
-// The index behind it, or the same.
-fn past(text: &[u8], i: usize, first: bool) -> usize
-    ensures { result ≡ i + one-if (hat_of first (drop i text.now)) }
-{
-    if first & begins(text, i, 94) {
-        return i + 1;
-    }
-    i
-}
-
-#[derive(Drop)]
+// What stands behind a branch that was read.
+#[derive(Clone, Copy)]
 pub enum Turn {
-    // The last branch: how many tokens its table has, whether its start and its end are free.
+    // The end: how many tokens the branch's table has, whether its start and its end are free.
     Last(usize, bool, bool),
-    // A branch with others behind it: how many tokens its table has, whether its start is free, where the next one begins.
+    // Others: how many tokens the branch's table has, whether its start is free, where the next one begins.
     More(usize, bool, usize),
-    Bad,
 }
 
-// What stands behind a branch that ends at an index.
-fn behind(text: &[u8], h: bool, n: usize, some: bool, j: usize) -> Turn
-    ensures { BehindAt text.now h n some j result }
+// What stands behind a branch, if it is one with its anchors; `hat` says whether a `^` stands before it.
+fn behind(text: &[u8], hat: bool, made: Made) -> Option<Turn>
+    ensures { BehindAt text.now hat made.tokens made.some made.end result }
 {
+    let full = made.some | hat;
+    let j = made.end;
     if text.len() <= j {
-        if some | h {
-            return Turn::Last(n, !h, true);
-        }
-        return Turn::Bad;
+        return if full {
+            Some(Turn::Last(made.tokens, !hat, true))
+        } else {
+            None
+        };
     }
-    if text[j] == 124 {
-        if some | h {
-            return Turn::More(n, !h, j + 1);
-        }
-        return Turn::Bad;
+    match text[j] {
+        b'|' if full => Some(Turn::More(made.tokens, !hat, j + 1)),
+        b'$' if j + 1 == text.len() => Some(Turn::Last(made.tokens, !hat, false)),
+        _ => None,
     }
-    if text[j] != 36 {
-        return Turn::Bad;
-    }
-    if j + 1 < text.len() {
-        return Turn::Bad;
-    }
-    Turn::Last(n, !h, false)
 }
 
 // The branch that begins at an index; `first` says whether `^` may stand there.
-fn next_end(text: &[u8], i: usize, first: bool) -> Turn
+fn next_end(text: &[u8], i: usize, first: bool) -> Option<Turn>
     requires { i ≤ length text.now }
     ensures { TurnAt text.now i first result }
 {
     let h = hat(text, i, first);
-    match branch_end(text, past(text, i, first)) {
-        Made::Branch(n, some, j) => behind(text, h, n, some, j),
-        Made::Bad => Turn::Bad,
-    }
+    let made = branch_end(text, i + usize::from(h))?;
+    behind(text, h, made)
 }
 
 // The same with its table.
-fn next_branch(text: &[u8], i: usize, first: bool, kinds: &mut [u8], args: &mut [u16]) -> Turn
+fn next_branch(
+    text: &[u8],
+    i: usize,
+    first: bool,
+    kinds: &mut [u8],
+    args: &mut [u16],
+) -> Option<Turn>
     requires { (i ≤ length text.now) × (length text.now ≤ 4096) × (length text.now ≤ length kinds.old) × (length text.now ≤ length args.old) }
     ensures { TableAt text.now i first kinds.new args.new result }
 {
     let h = hat(text, i, first);
-    match branch(text, past(text, i, first), kinds, args) {
-        Made::Branch(n, some, j) => behind(text, h, n, some, j),
-        Made::Bad => Turn::Bad,
-    }
+    let made = branch(text, i + usize::from(h), kinds, args)?;
+    behind(text, h, made)
 }
 
 // ---- the whole pattern
@@ -397,16 +345,12 @@ fn all_branches(p: &[u8], from: usize, start: bool) -> bool
     let mut first = start;
     loop {
         match next_end(p, i, first) {
-            Turn::Last(n, sf, ef) => {
-                return true;
-            }
-            Turn::More(n, sf, j) => {
+            Some(Turn::Last(..)) => return true,
+            Some(Turn::More(_, _, j)) => {
                 i = j;
                 first = false;
             }
-            Turn::Bad => {
-                return false;
-            }
+            None => return false,
         }
     }
 }
@@ -461,51 +405,29 @@ fn search(
     let mut first = true;
     loop {
         match next_branch(p, i, first, kinds, args) {
-            Turn::Last(n, sf, ef) => {
+            Some(Turn::Last(n, sf, ef)) => {
                 return found(s, s_mark, p, kinds, args, marks, n, sf, ef);
             }
-            Turn::More(n, sf, j) => {
+            Some(Turn::More(n, sf, j)) => {
                 if found(s, s_mark, p, kinds, args, marks, n, sf, true) {
                     return all_branches(p, j, false);
                 }
                 i = j;
                 first = false;
             }
-            Turn::Bad => {
-                return false;
-            }
+            None => return false,
         }
     }
 }
 
-// A short pattern has short arrays, since every element of an array is set before it is used.
-fn search_short(s: &[u8], s_mark: bool, p: &[u8]) -> bool
-    requires { length p.now ≤ 32 }
+// By arrays that have room for N tokens: a short pattern has short ones, since every element of an array is set before it is used.
+fn search_in<const N: usize>(s: &[u8], s_mark: bool, p: &[u8]) -> bool
+    requires { (length p.now ≤ N) × (N ≤ 4096) }
     ensures { result ≡ regex_of (folded s_mark s.now) p.now }
 {
-    let mut kinds = [0u8; 32];
-    let mut args = [0u16; 32];
-    let mut marks = [false; 32];
-    search(s, s_mark, p, &mut kinds, &mut args, &mut marks)
-}
-
-fn search_middle(s: &[u8], s_mark: bool, p: &[u8]) -> bool
-    requires { length p.now ≤ 256 }
-    ensures { result ≡ regex_of (folded s_mark s.now) p.now }
-{
-    let mut kinds = [0u8; 256];
-    let mut args = [0u16; 256];
-    let mut marks = [false; 256];
-    search(s, s_mark, p, &mut kinds, &mut args, &mut marks)
-}
-
-fn search_long(s: &[u8], s_mark: bool, p: &[u8]) -> bool
-    requires { length p.now ≤ 4096 }
-    ensures { result ≡ regex_of (folded s_mark s.now) p.now }
-{
-    let mut kinds = [0u8; 4096];
-    let mut args = [0u16; 4096];
-    let mut marks = [false; 4096];
+    let mut kinds = [0u8; N];
+    let mut args = [0u16; N];
+    let mut marks = [false; N];
     search(s, s_mark, p, &mut kinds, &mut args, &mut marks)
 }
 
@@ -514,40 +436,29 @@ fn fits_plain(s: &[u8], s_mark: bool, p: &[u8]) -> bool
     ensures { result ≡ regex_of (folded s_mark s.now) p.now }
 {
     if p.len() <= 32 {
-        return search_short(s, s_mark, p);
+        return search_in::<32>(s, s_mark, p);
     }
     if p.len() <= 256 {
-        return search_middle(s, s_mark, p);
+        return search_in::<256>(s, s_mark, p);
     }
     if p.len() <= 4096 {
-        return search_long(s, s_mark, p);
+        return search_in::<4096>(s, s_mark, p);
     }
     false
-}
-
-// The bytes of a pattern with A..Z as a..z, in room that is lent.
-fn copy_folded(p: &[u8], room: &mut [u8])
-    requires { length p.now ≤ length room.old }
-    ensures { take (length p.now) room.new ≡ folded true p.now }
-{
-    let mut i = 0;
-    while i < p.len() {
-        room[i] = fold(true, p[i]);
-        i += 1;
-    }
 }
 
 // By a folded copy: no pattern of a checked table is under a folding mark.
 fn fits_folded(s: &[u8], s_mark: bool, p: &[u8]) -> bool
     ensures { result ≡ regex_of (folded s_mark s.now) (folded true p.now) }
 {
-    let n = p.len();
-    if 4096 < n {
+    if 4096 < p.len() {
         return false;
     }
     let mut room = [0u8; 4096];
-    copy_folded(p, &mut room);
-    fits_plain(s, s_mark, &room[0..n])
+    let copy = &mut room[..p.len()];
+    copy.copy_from_slice(p);
+    copy.make_ascii_lowercase();
+    fits_plain(s, s_mark, copy)
 }
 
 // Whether some stretch of the value fits the pattern, each read under its folding mark. An ill-formed pattern, or one of more than 4,096 bytes, fits nothing.

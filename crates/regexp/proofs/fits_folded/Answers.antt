@@ -1,16 +1,18 @@
+use mathlib.Core.Path.{ap, ◌∙◌}
+use mathlib.Core.List.{map}
 use native.Mathlib.Omega.{arith}
 use mathlib.Core.Bool.{true}
+use Rattle.std.specs.Char.{to_ascii_lowercase}
 use Rattle.octets.specs.Octets.{folded}
-use Rattle.regexp.proofs.Loops.{regex_long, folded_length, folded_part}
+use Rattle.regexp.specs.Regex.{regex_of}
+use Rattle.regexp.proofs.Loops.{regex_long, folded_length, lowered}
 use Rattle.regexp.proofs.fits_folded.Goals as goal
 
-pub returns-then-n-gt4096 : goal.returns-then-n-gt4096
-returns-then-n-gt4096 c =
+pub returns-then-p-gt4096 : goal.returns-then-p-gt4096
+returns-then-p-gt4096 c =
     regex_long (folded c.args.s_mark c.args.s.now) (folded true c.args.p.now) (rw (folded_length c.args.p.now) (omega arith))
-
-pub copy_folded-requires : goal.copy_folded-requires
-copy_folded-requires c = omega (arith, c.if-n-gt4096)
 
 pub returns : goal.returns
 returns c =
-    folded_part (folded c.args.s_mark c.args.s.now) c.args.p.now _ _ c.fits_plain.ensures c.copy_folded.ensures
+    let a = c.args in
+    c.fits_plain.ensures ∙ ap (regex_of (folded a.s_mark a.s.now)) (c.make_ascii_lowercase.ensures.after ∙ ap (map to_ascii_lowercase) c.copy_from_slice.ensures.after ∙ lowered a.p.now)

@@ -4,13 +4,13 @@ use Rattle.regexp.proofs.Loops.{regex_long}
 use Rattle.regexp.proofs.fits_plain.Goals as goal
 
 pub returns-then-p-le32 : goal.returns-then-p-le32
-returns-then-p-le32 c = c.search_short.ensures
+returns-then-p-le32 c = c.search_in.ensures
 
 pub returns-then-p-le256 : goal.returns-then-p-le256
-returns-then-p-le256 c = c.search_middle.ensures
+returns-then-p-le256 c = c.search_in-then-p-le256.ensures
 
 pub returns-then-p-le4096 : goal.returns-then-p-le4096
-returns-then-p-le4096 c = c.search_long.ensures
+returns-then-p-le4096 c = c.search_in-then-p-le4096.ensures
 
 pub returns : goal.returns
 returns c =

@@ -1,15 +1,23 @@
 use mathlib.Core.List.{[]}
-use Rattle.regexp.proofs.Loops.{from_inside, table_turn, table_bad}
+use Rattle.regexp.proofs.Loops.{from_inside, past_hat, table_turn, table_bad}
 use Rattle.regexp.proofs.next_branch.Goals as goal
 
-pub branch-n-requires : goal.branch-n-requires
-branch-n-requires c =
-    let a = c.args in (rw c.past.ensures (from_inside a.text.now a.i a.first c.requires.0), c.requires.1, c.requires.2, c.requires.3)
+pub branch-text-requires : goal.branch-text-requires
+branch-text-requires c =
+    let a = c.args in
+    let q = past_hat a.text.now a.i a.first c.hat-h.result c.from.result c.hat-h.ensures c.from.ensures in
+    let h = from_inside a.text.now a.i a.first c.requires.0 in (rw q h, c.requires.1, c.requires.2, c.requires.3)
 
-pub returns-in_Branch-n : goal.returns-in_Branch-n
-returns-in_Branch-n c =
-    let a = c.args in table_turn a.text.now a.i a.first c.hat-h.result c.hat-h.ensures c.past.result c.past.ensures _ _ c.in_Branch-n.n c.in_Branch-n.some c.in_Branch-n.j (rw c.in_Branch-n.is at c.branch-n.ensures) c.behind.result c.behind.ensures
+pub returns-in_err-made : goal.returns-in_err-made
+returns-in_err-made c =
+    let a = c.args in
+    let q = past_hat a.text.now a.i a.first c.hat-h.result c.from.result c.hat-h.ensures c.from.ensures in
+    let e = (rw c.in_err-made.was at c.branch-text.ensures) in
+    rw c.from_residual.ensures (table_bad a.text.now a.i a.first c.hat-h.result c.hat-h.ensures _ q [] [] e)
 
-pub returns-in_Bad-n : goal.returns-in_Bad-n
-returns-in_Bad-n c =
-    let a = c.args in table_bad a.text.now a.i a.first c.hat-h.result c.hat-h.ensures c.past.result c.past.ensures [] [] (rw c.in_Bad-n.is at c.branch-n.ensures)
+pub returns : goal.returns
+returns c =
+    let a = c.args in
+    let q = past_hat a.text.now a.i a.first c.hat-h.result c.from.result c.hat-h.ensures c.from.ensures in
+    let e = (rw c.in_ok-made.was at c.branch-text.ensures) in
+    table_turn a.text.now a.i a.first c.hat-h.result c.hat-h.ensures _ q _ _ c.in_ok-made.made e c.behind.result c.behind.ensures
