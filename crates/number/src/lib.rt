@@ -171,10 +171,13 @@ fn compare<C: Comparison>(c: C, a: Number, b: Number) -> Truth
     }
 }
 
-// `==`
+// `==`, two int32 first: they are the common case, and need one test of both kinds.
 pub fn equal(a: Number, b: Number) -> Truth
     ensures { result ≡ equal_of a b }
 {
+    if let (Number::Int32(x), Number::Int32(y)) = (a, b) {
+        return equal_int32(x, y);
+    }
     compare(Equal, a, b)
 }
 
@@ -185,9 +188,12 @@ pub fn equal_int32(x: i32, y: i32) -> Truth
     Truth::from(Equal.holds(x as i64, y as i64))
 }
 
-// `< <= > >=`
+// `< <= > >=`, likewise.
 pub fn order(op: Order, a: Number, b: Number) -> Truth
     ensures { result ≡ order_of op a b }
 {
+    if let (Number::Int32(x), Number::Int32(y)) = (a, b) {
+        return Truth::from(op.holds(x as i64, y as i64));
+    }
     compare(op, a, b)
 }
