@@ -13,13 +13,17 @@ use Rattle.word.specs.Word.{Bytes}
 use Rattle.notice.specs.Layout.{unless}
 use Rattle.table.specs.Check.{check_of as tableCheck}
 use Rattle.table.proofs.Theorems.{checked_short}
-use Rattle.store.specs.declared.Part.{Part}
 use Rattle.store.specs.Layout.{Place, end_of, size_at, next_at, records_of, places_from, free, size_right, right_of, places_in, written}
-use Rattle.store.specs.Calls.{lowest_free, held_count, room_for, starts_of, first_zero, At, Nothing, locate_in, without, rec, Makes, add_refusal, added_of, added_bytes, held_refusal_in, held_refusal, removed_bytes, Removes, fetched_of, part_of, Appendable}
+use Rattle.store.specs.Calls.{ended, added, found as found_as, Part, lowest_free, held_count, room_for, starts_of, first_zero, At, Nothing, locate_in, without, rec, Makes, add_refusal, added_of, added_bytes, held_refusal_in, held_refusal, removed_bytes, Removes, fetched_of, part_of, Appendable}
 use Rattle.store.proofs.Places.{length_places, lowest_free_lem, lowest_most, count_most, full_count, count_full, bytes_held, none_found, spot_held}
 use Rattle.store.proofs.Starts.{length_starts, zeros_free, zeros_first, zeros_starts, start_none, start_found}
 use Rattle.store.proofs.Parses.{right}
-use Rattle.store.proofs.Stores.{Lying, lying}
+use Rattle.store.proofs.Stores.{Lying, lying, free_of, free_some, free_none}
+use Rattle.refusal.specs.declared.Refusal.{Refusal}
+use Rattle.refusal.specs.declared.Refusal.TheVariants.{Store}
+use Rattle.refusal.specs.Refusal.{number_of}
+use Rattle.std.specs.Prelude.{Some, None, Err}
+use Rattle.store.specs.declared.records.Records.{Records}
 
 -- ---- what the places say
 
@@ -71,12 +75,29 @@ module _ (s : List ℕ) where
     unfolding places_in
     room_is t = let w = right s ok in omega (arith, w.size, bytes_held (records_of s) w.good)
 
+-- what is known of a store whose records are indexed
+module _ (s : List ℕ) (r : Records) (same : r.store.now ≡ s) where
+  pub is_right : right_of s ≡ true
+  is_right = ap right_of (sym same) ∙ r.right
+
+  pub all_starts : r.starts ≡ starts_of s
+  all_starts = r.all ∙ ap starts_of same
+
+  pub start_at : (n at : ℕ) → at ≡ get_or r.starts n 0 → at ≡ get_or (starts_of s) n 0
+  start_at n at e = e ∙ ap (λ (l : List ℕ). get_or l n 0) all_starts
+
+  pub free_number : (n : ℕ) → free_of r.starts ≡ Some n → (n ≡ lowest_free (places_in s)) × (lowest_free (places_in s) < 64)
+  free_number n e =
+      let f = free_some r.starts n e in
+      let q : n ≡ lowest_free (places_in s) = f.0 ∙ ap first_zero all_starts ∙ first_lowest s in
+      (q, omega (arith, f.1, ap length all_starts, starts_64 s))
+
+  pub no_number : free_of r.starts ≡ None → lowest_free (places_in s) ≡ 64
+  no_number e = sym (first_lowest s) ∙ sym (ap first_zero all_starts) ∙ free_none r.starts e ∙ ap length all_starts ∙ starts_64 s
+
 -- ---- make
 
 module _ (s : List ℕ) where
-  pub made_refused : size_right (length s) ≡ false → Makes s s 26
-  made_refused e = record { answer = rw e; bytes = rw e }
-
   pub made_empty : size_right (length s) ≡ true → (after : List ℕ) → after ≡ written [] s → Makes s after 0
   made_empty e after b = record { answer = rw e; bytes = b ∙ rw e }
 
@@ -112,6 +133,9 @@ module _ (s t : List ℕ) where
         accepted h =
             let f = free_count (places_in s) (places_64 s) some_free in
             rw (ok, passes, lt-ltb (held_count (places_in s)) 64 f, le-leb (room_for (places_in s) t) (length s) (omega (arith, room_is s ok t)))
+
+  pub broken_add : (e : Refusal) → (e ≡ Store) × (right_of s ≡ false) → added (Err e) ≡ added_of s t
+  broken_add e h = rw (h.0, broken h.1)
 
   pub number_is : add_refusal s t ≡ 0 → (added_of s t).number ≡ lowest_free (places_in s)
   number_is e = rw e
@@ -158,6 +182,12 @@ module _ (s : List ℕ) (n : ℕ) where
   pub broken_held : right_of s ≡ false → held_refusal s n ≡ 26
   unfolding held_refusal
   broken_held e = rw e
+
+  pub broken_part : (e : Refusal) → (e ≡ Store) × (right_of s ≡ false) → found_as (Err e) ≡ part_of s n
+  broken_part e h = rw h.0 (part_refused 25 (broken_held h.1))
+
+  pub broken_remove : (e : Refusal) → (e ≡ Store) × (right_of s ≡ false) → Removes s n s (ended (Err e))
+  broken_remove e h = rw h.0 (remove_refused 25 (broken_held h.1))
 
   module _ (ok : right_of s ≡ true) where
     pub not_held : get_or (starts_of s) n 0 ≡ 0 → held_refusal s n ≡ 29

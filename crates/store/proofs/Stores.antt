@@ -1,12 +1,17 @@
 -- What the stores of each change make of the bytes, and the turns of the loops. Assumes nothing.
 use mathlib.Core.Path.{◌≡◌, refl, sym, ap, ap₂, ◌∙◌}
-use mathlib.Core.Bool.{true, false}
+use mathlib.Core.Bool.{Bool, true, false, cond, not}
 use mathlib.Core.List.{List, [], ◌∷◌, ◌++◌, append_assoc, append-nil}
 use Prim.Native.Nat.{ℕ, zero, suc, ◌+◌, ◌-◌, ◌≤◌, ◌<◌}
 use native.Mathlib.Omega.{arith}
-use lib.Dec.{eqb}
-use lib.ListN.{length, get_or, set, take, drop, replicate, length-append}
-use lib.Seq.{sets, sets-eq, take_at, drop_at, drop-cons}
+use lib.Dec.{eqb, ltb}
+use lib.ListN.{length, set, take, drop, replicate, length-append}
+use lib.Seq.{sets, sets-eq, take_at, drop_at}
+use Rattle.std.specs.Prelude.{Option, Some, None}
+use Rattle.std.specs.List.{position, position_or_len}
+use Rattle.std.proofs.lemmas.List.Recursion.{is_position_or_len}
+use Rattle.std.proofs.lemmas.List.Sums.{prefix_len-le-length}
+use borrow.Author.Tests.{ne_eqb, ltb-true, ltb-false}
 use Rattle.word.specs.Word.{word_bytes, Bytes}
 use Rattle.word.proofs.Laws.{length_word_bytes}
 use Rattle.common.proofs.Stores.{sets_append}
@@ -20,28 +25,34 @@ use Rattle.store.proofs.Parses.{stands_parts, right_end, right_more, right_stop,
 
 -- ---- the lowest free number
 
-module _ (ms : List ℕ) where
-  zero_here : (v : ℕ) (xs : List ℕ) → v ≡ 0 → first_zero (v ∷ xs) ≡ 0
-  unfolding first_zero
-  zero_here zero xs e = refl
-  zero_here (suc v) xs e = absurd (omega arith)
-
-  zero_later : (v : ℕ) (xs : List ℕ) → (v ≡ 0 → ⊥) → first_zero (v ∷ xs) ≡ suc (first_zero xs)
-  unfolding first_zero
-  zero_later zero xs e = absurd (e refl)
-  zero_later (suc v) xs e = refl
-
-  pub first_here : (i : ℕ) → i < length ms → get_or ms i 0 ≡ 0 → first_zero (drop i ms) ≡ 0
-  first_here i h e = ap first_zero (drop-cons ms i 0 h) ∙ zero_here (get_or ms i 0) (drop (suc i) ms) e
-
-  pub first_later : (i : ℕ) → i < length ms → (get_or ms i 0 ≡ 0 → ⊥) → first_zero (drop i ms) ≡ suc (first_zero (drop (i + 1) ms))
-  first_later i h e =
-      let z : suc i ≡ i + 1 = omega arith in
-      ap first_zero (drop-cons ms i 0 h) ∙ zero_later (get_or ms i 0) (drop (suc i) ms) e ∙ ap (λ (j : ℕ). suc (first_zero (drop j ms))) z
-
-pub first_none : first_zero [] ≡ 0
+zero_step : (m : ℕ) (ms : List ℕ) → first_zero (m ∷ ms) ≡ cond (eqb m 0) 0 (1 + first_zero ms)
 unfolding first_zero
-first_none = refl
+zero_step zero ms = refl
+zero_step (suc m) ms = rw (ne_eqb (suc m) 0 (λ e. omega arith)) (omega arith)
+
+zero_none : first_zero [] ≡ 0
+unfolding first_zero
+zero_none = refl
+
+pub first_is : (ms : List ℕ) → first_zero ms ≡ position_or_len (λ m. eqb m 0) ms
+first_is ms = is_position_or_len first_zero (λ m. eqb m 0) zero_none zero_step ms
+
+abbrev pub free_of : List ℕ → Option ℕ
+free_of ms = position (λ m. eqb m 0) ms
+
+pub free_some : (ms : List ℕ) (n : ℕ) → free_of ms ≡ Some n → (n ≡ first_zero ms) × (n < length ms)
+free_some ms n e = go (ltb (position_or_len (λ m. eqb m 0) ms) (length ms)) refl e
+  where
+    go : (b : Bool) → ltb (position_or_len (λ m. eqb m 0) ms) (length ms) ≡ b → cond b (Some (position_or_len (λ m. eqb m 0) ms)) None ≡ Some n → (n ≡ first_zero ms) × (n < length ms)
+    go true p h = let q : position_or_len (λ m. eqb m 0) ms ≡ n = cc in (omega (arith, q, first_is ms), omega (arith, q, ltb-true _ _ p))
+    go false p h = let q : ⊥ = cc in absurd q
+
+pub free_none : (ms : List ℕ) → free_of ms ≡ None → first_zero ms ≡ length ms
+free_none ms e = go (ltb (position_or_len (λ m. eqb m 0) ms) (length ms)) refl e
+  where
+    go : (b : Bool) → ltb (position_or_len (λ m. eqb m 0) ms) (length ms) ≡ b → cond b (Some (position_or_len (λ m. eqb m 0) ms)) None ≡ None → first_zero ms ≡ length ms
+    go true p h = let q : ⊥ = cc in absurd q
+    go false p h = omega (arith, ltb-false _ _ p, first_is ms, prefix_len-le-length (λ m. not (eqb m 0)) ms)
 
 -- ---- the walk
 
@@ -74,16 +85,13 @@ module _ (s starts : List ℕ) (end left at : ℕ) (w : Walk s starts end left a
   same_test : stands_at starts s end at ≡ stands_at (marks_of w.ps) s end at
   same_test = stands_same starts w.ps s end at w.zeros
 
-  module _ (more : 0 < left) where
+  module _ (less : ℕ) (z : left ≡ suc less) where
     pub walk_stops : stands_at starts s end at ≡ false → right_of s ≡ false
-    walk_stops e =
-        let z : left ≡ suc (left - 1) = omega arith in
-        sym w.right ∙ ap (λ (n : ℕ). right_from n w.ps s end at) z ∙ right_stop (left - 1) w.ps s end at (sym same_test ∙ e)
+    walk_stops e = sym w.right ∙ ap (λ (n : ℕ). right_from n w.ps s end at) z ∙ right_stop less w.ps s end at (sym same_test ∙ e)
 
-    pub walk_goes : (number next : ℕ) → stands_at starts s end at ≡ true → number ≡ kind_at s at - 256 → next ≡ next_at s at → Walk s (set starts number at) end (left - 1) next
+    pub walk_goes : (number next : ℕ) → stands_at starts s end at ≡ true → number ≡ kind_at s at - 256 → next ≡ next_at s at → Walk s (set starts number at) end less next
     unfolding starts_in
     walk_goes number next e q n =
-        let z : left ≡ suc (left - 1) = omega arith in
         let l = stands_parts starts s end at e in
         let r = rec_at s at in
         let t = table_length starts s end at w.fits l in
@@ -96,14 +104,14 @@ module _ (s starts : List ℕ) (end left at : ℕ) (w : Walk s starts end left a
           fits = w.fits;
           small = w.small;
           right =
-              ap (λ (k : ℕ). right_from (left - 1) (put w.ps r) s end k) n
-              ∙ sym (right_more (left - 1) w.ps s end at (sym same_test ∙ e))
+              ap (λ (k : ℕ). right_from less (put w.ps r) s end k) n
+              ∙ sym (right_more less w.ps s end at (sym same_test ∙ e))
               ∙ ap (λ (k : ℕ). right_from k w.ps s end at) (sym z)
               ∙ w.right;
           all =
-              ap₂ (λ (i k : ℕ). starts_in (set starts i at) (records_from (left - 1) s k) k) q n
-              ∙ ap (starts_in (set starts r.number at) (records_from (left - 1) s (next_at s at))) (sym m)
-              ∙ ap (λ (l : List Rec). starts_in starts l at) (sym (records_more (left - 1) s at) ∙ ap (λ (k : ℕ). records_from k s at) (sym z))
+              ap₂ (λ (i k : ℕ). starts_in (set starts i at) (records_from less s k) k) q n
+              ∙ ap (starts_in (set starts r.number at) (records_from less s (next_at s at))) (sym m)
+              ∙ ap (λ (l : List Rec). starts_in starts l at) (sym (records_more less s at) ∙ ap (λ (k : ℕ). records_from k s at) (sym z))
               ∙ w.all;
         }
 

@@ -15,10 +15,8 @@ use Rattle.notice.specs.Layout.{unless}
 use Rattle.table.specs.Check.{check_of as tableCheck}
 use Rattle.table.proofs.Tests.{both_true}
 use Rattle.table.proofs.Theorems.{checked_short}
-use Rattle.store.specs.declared.Added.{Added}
-use Rattle.store.specs.declared.Part.{Part}
 use Rattle.store.specs.Layout.{Rec, Place, rec_bytes, recs_bytes, store_bytes, written, end_of, records_of, places_from, free, size_right, right_of, places_in}
-use Rattle.store.specs.Calls.{lowest_free, held_count, held_bytes, room_for, is_held, table_in, Found, At, Nothing, without, locate_in, rec, add_refusal_in, add_refusal, added_by, added_bytes, held_refusal_in, held_refusal, removed_bytes, fetched_of}
+use Rattle.store.specs.Calls.{Added, Part, lowest_free, held_count, held_bytes, room_for, is_held, table_in, Found, At, Nothing, without, locate_in, rec, add_refusal_in, add_refusal, added_by, added_bytes, held_refusal_in, held_refusal, removed_bytes, fetched_of}
 use Rattle.store.specs.Theorems.{Good, LayoutIs, RecordsRead, AtMost64, Lowest, FullIs64, RoomRule, NumberBelow64, PartFetched, AddRefused, RemoveRefused, FetchRefused, Call, make, add, remove, fetch, Event, made, added, removed, fetched, call_of, refusal_in, Happens, Follows, plain_event, plain_after, plain_events, AsPlain, Never26, Passes, FetchedPass}
 use Rattle.store.proofs.Places.{some_none, length_rec, recs_append, length_places, places_append, good_append, bytes_held, lowest_free_lem, spot, none_found, spot_removed, count_places, count_free, count_most, full_count, count_full, lower_held}
 use Rattle.store.proofs.Parses.{right, right_written, length_store, length_written, store_read}

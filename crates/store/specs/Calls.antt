@@ -1,13 +1,14 @@
 -- What each call answers, and every byte afterwards. Document 02, request 12, the refusals in their order.
-use Rattle.std.specs.Prelude.{ℕ, zero, suc, ◌+◌, ◌*◌, ◌≤◌, ◌<◌, ◌≡◌, Bool, true, false, cond, List, [], ◌∷◌, ◌++◌, eqb, leb, ltb, length, get_or, set, replicate}
+use Rattle.std.specs.Prelude.{ℕ, zero, suc, ◌+◌, ◌*◌, ◌≤◌, ◌<◌, ◌≡◌, Bool, true, false, cond, List, [], ◌∷◌, ◌++◌, Result, Ok, Err, eqb, leb, ltb, length, get_or, set, replicate}
 use Rattle.std.proofs.Math.Option.{none, some}
 use Rattle.common.specs.Choice.{pick}
+use Rattle.refusal.specs.declared.Refusal.{Refusal}
+use Rattle.refusal.specs.Refusal.{number_of}
 use Rattle.notice.specs.Layout.{unless}
 use Rattle.table.specs.Table.{most_bytes}
 use Rattle.table.specs.Check.{check_of as tableCheck, refusal_of}
 use Rattle.store.specs.Layout.{Rec, Place, end_of, records_of, size_right, right_of, places_in, written}
-use Rattle.store.specs.declared.Added.{Added}
-use Rattle.store.specs.declared.Part.{Part}
+use Rattle.store.specs.declared.Part.{Part as Stretch}
 
 -- ---- of 64 places
 
@@ -79,6 +80,11 @@ locate_in n (r ∷ rs) at = pick (eqb r.number n) (λ _. At at) (λ _. locate_in
 
 -- ---- make
 
+-- the refusal of a call that answers no more; 0 for none
+abbrev pub ended : Result (Unit {0}) Refusal → ℕ
+ended (Ok done) = 0
+ended (Err r) = number_of r
+
 -- 26 for the buffer's size alone: "(not when making it empty)"
 abbrev pub make_refusal : List ℕ → ℕ
 make_refusal s = unless (size_right (length s)) 26 0
@@ -104,8 +110,17 @@ add_refusal_in size ps t =
 unfoldable pub add_refusal : List ℕ → List ℕ → ℕ
 add_refusal s t = unless (right_of s) 26 (add_refusal_in (length s) (places_in s) t)
 
+-- what adding answers: the refusal, 0 for none, and the number, 64 if refused
+pub record Added : Type 0 where
+  pub refusal : ℕ
+  pub number : ℕ
+
 abbrev pub answered : ℕ → ℕ → Added
 answered refusal number = record { refusal = refusal; number = number }
+
+abbrev pub added : Result ℕ Refusal → Added
+added (Ok number) = answered 0 number
+added (Err r) = answered (number_of r) 64
 
 -- "get the lowest free number 0..63"; "Refused, add answers 64"
 abbrev pub added_by : ℕ → List Place → Added
@@ -151,16 +166,21 @@ fetched_of s n = pick (eqb (held_refusal s n) 0) (λ _. table_in (get_or (places
 abbrev pub part_start : List ℕ → ℕ → ℕ
 part_start s n = cond (eqb (held_refusal s n) 0) (get_or (starts_of s) n 0 + 4) 0
 
+-- where a table lies: the refusal, 0 for none, and the part of the store from `start` to `end`, both 0 if refused
+pub record Part : Type 0 where
+  pub refusal : ℕ
+  pub start : ℕ
+  pub end : ℕ
+
+abbrev pub found : Result Stretch Refusal → Part
+found (Ok p) = record { refusal = 0; start = p.start; end = p.end }
+found (Err r) = record { refusal = number_of r; start = 0; end = 0 }
+
 -- "as a part of the buffer": from `start` to `end`, both 0 if refused
 abbrev pub part_of : List ℕ → ℕ → Part
 part_of s n = record { refusal = held_refusal s n; start = part_start s n; end = part_start s n + length (fetched_of s n) }
 
 -- ---- what the inner functions ask
-
--- a store that keeps the layout, and where its records start
-pub record Indexes (s starts : List ℕ) : Type 0 where
-  pub right : right_of s ≡ true
-  pub all : starts ≡ starts_of s
 
 -- a table that may be appended
 pub record Appendable (s : List ℕ) (number : ℕ) (t : List ℕ) : Type 0 where

@@ -5,10 +5,8 @@ use Rattle.common.specs.Choice.{pick}
 use Rattle.common.specs.Each.{Each}
 use Rattle.word.specs.Word.{Bytes}
 use Rattle.table.specs.Check.{check_of as tableCheck}
-use Rattle.store.specs.declared.Added.{Added}
-use Rattle.store.specs.declared.Part.{Part}
 use Rattle.store.specs.Layout.{Rec, Place, store_bytes, records_of, put, free, right_of, places_in}
-use Rattle.store.specs.Calls.{lowest_free, held_count, room_for, table_in, add_refusal_in, added_by, held_refusal_in, part_of, fetched_of, Makes, Adds, Removes}
+use Rattle.store.specs.Calls.{Added, Part, lowest_free, held_count, room_for, table_in, add_refusal_in, added_by, held_refusal_in, part_of, fetched_of, Makes, Adds, Removes}
 
 -- ---- the layout
 

@@ -2,146 +2,87 @@
 #![tactic(auto)]
 
 ghost use Rattle.std.specs.Prelude.{◌≡◌};
-ghost use Rattle.store.specs.Calls.{answered, added_of, part_of, fetched_of, Makes, Adds, Removes, Indexes};
+ghost use Rattle.store.specs.Calls.{ended, added, found, added_of, part_of, fetched_of, Makes, Adds, Removes};
 
 mod changes;
 mod records;
 
 use changes::{append, cut_out};
-pub use records::index;
-use records::{first_free, start_of};
+pub use records::{Records, index};
+use refusal::Refusal;
 
-// What adding answers: the refusal, 0 for none, and the number, 64 if refused.
-#[derive(Drop)]
-pub struct Added {
-    pub refusal: u8,
-    pub number: usize,
-}
-
-// Where a table lies: the refusal, 0 for none, and the part of the store from `start` to `end`, both 0 if refused.
-#[derive(Drop)]
+// Where a table lies: the part of the store from `start` to `end`.
+#[derive(Clone, Copy)]
 pub struct Part {
-    pub refusal: u8,
     pub start: usize,
     pub end: usize,
 }
 
-// "make it empty": refusal 26 for the buffer's size, 0 for none. A refusal changes no byte.
-pub fn make(store: &mut [u8]) -> u8
-    ensures { Makes store.old store.new result }
+// "make it empty": refusal 26 for the buffer's size. A refusal changes no byte.
+pub fn make(store: &mut [u8]) -> Result<(), Refusal>
+    ensures { Makes store.old store.new (ended result) }
 {
     let n = store.len();
-    if n < 8 {
-        return 26;
-    }
-    if 65536 < n {
-        return 26;
+    if n < 8 || 65536 < n {
+        return Err(Refusal::Store);
     }
     word::write_u32(store, 0, 4);
     word::write_u16(store, 4, 6);
     word::write_u16(store, 6, 0);
-    0
-}
-
-// "Refused, add answers 64"
-fn answer(refusal: u8, number: usize) -> Added
-    ensures { result ≡ answered refusal number }
-{
-    Added { refusal, number }
+    Ok(())
 }
 
 // What adding answers: 26, 12, 27, 28 in this order, or "the lowest free number 0..63".
-fn judge(store: &[u8], table: &[u8]) -> Added
-    ensures { result ≡ added_of store.now table.now }
+fn judge(store: &[u8], table: &[u8]) -> Result<usize, Refusal>
+    ensures { added result ≡ added_of store.now table.now }
 {
-    let mut starts: [u16; 64] = [0; 64];
-    if !index(store, &mut starts) {
-        return answer(26, 64);
-    }
+    let records = index(store)?;
     if !table::check(table) {
-        return answer(12, 64);
+        return Err(Refusal::Table);
     }
-    let number = first_free(&starts);
-    if number == 64 {
-        return answer(27, 64);
-    }
+    let Some(number) = records.first_free() else {
+        return Err(Refusal::Numbers);
+    };
     let end = 4 + word::read_u32(store, 0) as usize;
     if store.len() < end + (4 + table.len()) {
-        return answer(28, 64);
+        return Err(Refusal::StoreRoom);
     }
-    answer(0, number)
+    Ok(number)
 }
 
 // "add a table and get the lowest free number 0..63". A refusal changes no byte.
-pub fn add(store: &mut [u8], table: &[u8]) -> Added
-    ensures { Adds store.old table.now store.new result }
+pub fn add(store: &mut [u8], table: &[u8]) -> Result<usize, Refusal>
+    ensures { Adds store.old table.now store.new (added result) }
 {
-    let a = judge(store, table);
-    if a.refusal != 0 {
-        return a;
-    }
-    let number = a.number;
+    let number = judge(store, table)?;
     append(store, number, table);
-    a
+    Ok(number)
 }
 
-// "remove by number": refusals 26, 29, and 0 for none. A refusal changes no byte.
-pub fn remove(store: &mut [u8], number: usize) -> u8
-    ensures { Removes store.old number store.new result }
+// "remove by number": refusals 26, 29. A refusal changes no byte.
+pub fn remove(store: &mut [u8], number: usize) -> Result<(), Refusal>
+    ensures { Removes store.old number store.new (ended result) }
 {
-    let mut starts: [u16; 64] = [0; 64];
-    if !index(store, &mut starts) {
-        return 26;
-    }
-    let at = start_of(&starts, number) as usize;
-    if at == 0 {
-        return 29;
-    }
+    let Some(at) = index(store)?.start_of(number) else {
+        return Err(Refusal::Number);
+    };
     cut_out(store, number, at);
-    0
+    Ok(())
 }
 
-// Where the table of a number lies in a store that is indexed: refusal 29, or 0 for none.
-pub fn part_of(store: &[u8], starts: &[u16; 64], number: usize) -> Part
-    requires { Indexes store.now starts.now }
-    ensures { result ≡ part_of store.now number }
+// Where the table of a number lies: refusals 26, 29.
+pub fn find(store: &[u8], number: usize) -> Result<Part, Refusal>
+    ensures { found result ≡ part_of store.now number }
 {
-    let at = start_of(starts, number) as usize;
-    if at == 0 {
-        return Part {
-            refusal: 29,
-            start: 0,
-            end: 0,
-        };
-    }
-    Part {
-        refusal: 0,
-        start: at + 4,
-        end: at + 2 + word::read_u16(store, at) as usize,
-    }
-}
-
-// Where the table of a number lies: refusals 26, 29, and 0 for none.
-pub fn find(store: &[u8], number: usize) -> Part
-    ensures { result ≡ part_of store.now number }
-{
-    let mut starts: [u16; 64] = [0; 64];
-    if index(store, &mut starts) {
-        return part_of(store, &starts, number);
-    }
-    Part {
-        refusal: 26,
-        start: 0,
-        end: 0,
-    }
+    index(store)?.part_of(number)
 }
 
 // "fetch by number as a part of the buffer"; "Refused, .. fetch an empty part".
 pub fn fetch(store: &[u8], number: usize) -> &[u8]
     ensures { result.now ≡ fetched_of store.now number }
 {
-    let p = find(store, number);
-    let start = p.start;
-    let end = p.end;
-    &store[start..end]
+    match find(store, number) {
+        Ok(part) => &store[part.start..part.end],
+        Err(_) => &[],
+    }
 }

@@ -1,7 +1,12 @@
 // The records of a store: whether its bytes keep the layout, and where the record of each number starts.
-ghost use Rattle.std.specs.Prelude.{◌≡◌, true, ◌≤◌, length, get_or, replicate};
+ghost use Rattle.std.specs.Prelude.{◌≡◌, ◌≢◌, ◌==◌, true, false, ◌≤◌, length, slice_index, position, IfOk, IfErr, MatchOption};
+ghost use Rattle.refusal.specs.declared.Refusal.TheVariants.{Store};
+ghost use Rattle.word.specs.Word.{Bytes};
 ghost use Rattle.store.specs.Layout.{header_right, stands_at, right_of};
-ghost use Rattle.store.specs.Calls.{first_zero, starts_of};
+ghost use Rattle.store.specs.Calls.{starts_of, found, part_of};
+
+use crate::Part;
+use refusal::Refusal;
 
 fn header_right(store: &[u8]) -> bool
     ensures { result ≡ header_right store.now }
@@ -40,48 +45,71 @@ fn stands(store: &[u8], starts: &[u16; 64], end: usize, at: usize) -> bool
     starts[number] == 0
 }
 
-// Whether the bytes keep the layout; and if so, where the record of each number starts, 0 for none. It asks for an array of zeros.
-pub fn index(store: &[u8], starts: &mut [u16; 64]) -> bool
-    requires { starts.old ≡ replicate 64 0 }
-    ensures { (result ≡ right_of store.now) × (result ≡ true → starts.new ≡ starts_of store.now) }
+// The records of a store that keeps the layout: where the record of each number starts, 0 for none.
+#[derive(Drop)]
+pub struct Records<'a> {
+    pub store: &'a [u8],
+    pub starts: [u16; 64],
+    ghost bytes: { Bytes store.now },
+    ghost right: { right_of store.now ≡ true },
+    ghost all: { starts ≡ starts_of store.now },
+}
+
+// The records of a store. Refusal 26 for bytes that break the layout.
+pub fn index<'a>(store: &'a [u8]) -> Result<Records<'a>, Refusal>
+    ensures ok { IfOk result (λ records. records.store.now ≡ store.now) }
+    ensures err { IfErr result (λ refusal. (refusal ≡ Store) × (right_of store.now ≡ false)) }
 {
     if !header_right(store) {
-        return false;
+        return Err(Refusal::Store);
     }
     let end = 4 + word::read_u32(store, 0) as usize;
-    let mut left = word::read_u16(store, 6);
+    let count = word::read_u16(store, 6);
+    let mut starts: [u16; 64] = [0; 64];
     let mut at = 8;
-    while 0 < left {
-        if !stands(store, starts, end, at) {
-            return false;
+    for _ in 0..count {
+        if !stands(store, &starts, end, at) {
+            return Err(Refusal::Store);
         }
         let number = word::read_u16(store, at + 2) as usize - 256;
         starts[number] = at as u16;
         at = at + 2 + word::read_u16(store, at) as usize;
-        left -= 1;
     }
-    at == end
+    if at != end {
+        return Err(Refusal::Store);
+    }
+    Ok(Records { store, starts })
 }
 
-// The lowest number without a start, or 64.
-pub fn first_free(starts: &[u16; 64]) -> usize
-    requires { length starts.now ≡ 64 }
-    ensures { result ≡ first_zero starts.now }
-{
-    let mut i = 0;
-    while i < 64 {
-        if starts[i] == 0 {
-            return i;
+impl<'a> Records<'a> {
+    // The lowest number without a record.
+    pub(crate) fn first_free(&self) -> Option<usize>
+        ensures { result ≡ position (λ start. start == 0) self.now.starts }
+    {
+        self.starts.iter().position(|start| *start == 0)
+    }
+
+    // Where the record of a number starts.
+    pub(crate) fn start_of(&self, number: usize) -> Option<usize>
+        ensures { MatchOption result (slice_index self.now.starts number ≡ 0) (λ at. (at ≡ slice_index self.now.starts number) × (at ≢ 0)) }
+    {
+        match self.starts.get(number) {
+            Some(start) if *start != 0 => Some(*start as usize),
+            _ => None,
         }
-        i += 1;
     }
-    i
-}
 
-// The start of a number's record, 0 for none.
-pub fn start_of(starts: &[u16; 64], number: usize) -> u16
-    requires { length starts.now ≡ 64 }
-    ensures { result ≡ get_or starts.now number 0 }
-{
-    if number < 64 { starts[number] } else { 0 }
+    // Where the table of a number lies. Refusal 29 for a number that is not held.
+    pub fn part_of(&self, number: usize) -> Result<Part, Refusal>
+        ensures { found result ≡ part_of self.now.store.now number }
+    {
+        let Some(at) = self.start_of(number) else {
+            return Err(Refusal::Number);
+        };
+        let size = word::read_u16(self.store, at) as usize;
+        Ok(Part {
+            start: at + 4,
+            end: at + 2 + size,
+        })
+    }
 }

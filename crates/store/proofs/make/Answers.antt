@@ -3,17 +3,11 @@ use mathlib.Core.Path.{ap, ◌∙◌}
 use mathlib.Core.List.{List}
 use Prim.Native.Nat.{ℕ}
 use lib.Seq.{sets}
-use borrow.Author.Tests.{lt-leb, le-leb}
+use borrow.Author.Tests.{le-leb}
 use Rattle.word.specs.Word.{word_bytes}
 use Rattle.store.proofs.Stores.{made}
-use Rattle.store.proofs.Answers.{made_refused, made_empty}
+use Rattle.store.proofs.Answers.{made_empty}
 use Rattle.store.proofs.make.Goals as goal
-
-pub returns-then-n-lt8 : goal.returns-then-n-lt8
-returns-then-n-lt8 c = made_refused c.args.store.now (rw (lt-leb 8 _ c.if-n-lt8.true))
-
-pub returns-then-n-gt65536 : goal.returns-then-n-gt65536
-returns-then-n-gt65536 c = made_refused c.args.store.now (rw (le-leb 8 _ c.if-n-lt8.false, lt-leb _ 65536 c.if-n-gt65536.true))
 
 pub returns : goal.returns
 returns c =
