@@ -2,14 +2,15 @@
 use Rattle.std.specs.Prelude.{Ok, Err}
 use mathlib.Core.Path.{◌≡◌, refl, sym, ap, ap₂, ◌∙◌}
 use mathlib.Core.Bool.{true, false}
-use mathlib.Core.List.{List, []}
+use mathlib.Core.List.{List, [], ◌∷◌, ◌++◌}
 use mathlib.Core.Option.{none}
 use Prim.Native.Nat.{ℕ, ◌+◌, ◌≤◌, ◌<◌}
 use native.Mathlib.Omega.{arith}
-use lib.ListN.{length, get_or, set, drop, length-set, length-map, drop_of_length-le, get_or-map}
-use lib.Seq.{sets}
+use native.Mathlib.Numerals.{add-one}
+use lib.ListN.{length, get_or, set, take, length-set, length-map, get_or-map}
+use Rattle.std.proofs.lemmas.List.{take_all}
+use lib.Seq.{sets, take-suc, take-suc-set}
 use borrow.Author.Tests.{le-leb, lt-leb}
-use Rattle.common.proofs.Stores.{copied_one}
 use Rattle.refusal.specs.declared.Refusal.{Refusal}
 use Rattle.refusal.specs.Refusal.{number_of as refusal_number, place_of as refusal_place}
 use Rattle.refusal.proofs.Numbers.{not_zero}
@@ -18,9 +19,8 @@ use Rattle.interpreter.specs.Running.{running_of}
 use Rattle.store.specs.Layout.{right_of, places_in}
 use Rattle.store.specs.Calls.{held_refusal, fetched_of}
 use Rattle.store.proofs.Answers.{places_64, place_free, place_held}
-use Rattle.many.specs.declared.Matched.{Matched}
 use Rattle.many.specs.Many.{verdict_byte}
-use Rattle.many.specs.Held.{place_byte, held_verdicts, answered, Matches}
+use Rattle.many.specs.Held.{Matched, place_byte, held_verdicts, answered, Matches}
 use Rattle.many.proofs.Verdicts.{no_default}
 
 -- ---- the byte of one place
@@ -41,32 +41,27 @@ module _ (store notice : List ℕ) where
   pub byte_at : (n : ℕ) → n < 64 → get_or (held_verdicts store notice) n 0 ≡ place_byte notice (get_or (places_in store) n none)
   byte_at n h = no_default (held_verdicts store notice) n 0 4 (omega (arith, bytes_64)) ∙ get_or-map (place_byte notice) (places_in store) n none
 
--- the first i places have their bytes: with those that are left they are all.
-pub record Filling (store notice was now : List ℕ) (i : ℕ) : Type 0 where
-  pub few : i ≤ 64
-  pub room : length now ≡ length was
-  pub bytes : sets now (0 + i) (drop i (held_verdicts store notice)) ≡ sets was 0 (held_verdicts store notice)
+-- the first i places have their bytes
+pub record Filling (store notice now : List ℕ) (i : ℕ) : Type 0 where
+  pub room : length now ≡ 64
+  pub bytes : take i now ≡ take i (held_verdicts store notice)
 
-pub filling_first : (store notice now : List ℕ) → Filling store notice now now 0
-filling_first store notice now = record { few = omega arith; room = refl; bytes = refl }
+pub filling_first : (store notice now : List ℕ) → length now ≡ 64 → Filling store notice now 0
+filling_first store notice now e = record { room = e; bytes = refl }
 
-module _ (store notice was now : List ℕ) (i : ℕ) (g : Filling store notice was now i) where
-  pub filling_on : (v : ℕ) → i < 64 → v ≡ place_byte notice (get_or (places_in store) i none) → Filling store notice was (set now i v) (i + 1)
+module _ (store notice now : List ℕ) (i : ℕ) (g : Filling store notice now i) where
+  pub filling_on : (v : ℕ) → i < length now → v ≡ place_byte notice (get_or (places_in store) i none) → Filling store notice (set now i v) (i + 1)
   filling_on v h e =
       let x = held_verdicts store notice in
-      let w : v ≡ get_or x i 0 = e ∙ sym (byte_at store notice i h) in
-      let z : i ≡ 0 + i = omega arith in
-      let c = copied_one now x 0 i (omega (arith, bytes_64 store notice)) in
+      let few : i < 64 = omega (arith, g.room) in
+      let w : v ≡ get_or x i 0 = e ∙ sym (byte_at store notice i few) in
       record {
-        few = omega arith;
         room = simp length-set g.room;
-        bytes = ap₂ (λ (k b : ℕ). sets (set now k b) (0 + (i + 1)) (drop (i + 1) x)) z w ∙ (c ∙ g.bytes);
+        bytes = rw add-one (take-suc-set now i v h ∙ ap₂ (λ (t : List ℕ) (b : ℕ). t ++ (b ∷ [])) g.bytes w ∙ sym (take-suc x i 0 (omega (arith, bytes_64 store notice))));
       }
 
-  pub filled : 64 ≤ i → now ≡ sets was 0 (held_verdicts store notice)
-  filled h =
-      let d : drop i (held_verdicts store notice) ≡ [] = drop_of_length-le (held_verdicts store notice) {i = i} (omega (arith, bytes_64 store notice)) in
-      sym (ap (sets now (0 + i)) d) ∙ g.bytes
+  pub filled : length now ≤ i → now ≡ held_verdicts store notice
+  filled h = sym (take_all i now h) ∙ g.bytes ∙ take_all i (held_verdicts store notice) (omega (arith, g.room, bytes_64 store notice))
 
 -- ---- what is answered: 26, 11, 9 in this order
 

@@ -35,38 +35,6 @@ module _ (s : List ℕ) where
       go true false e = (h, omega arith)
       go false b e = (h, omega arith)
 
--- what `end_of` returns: where the one that starts at `at` ends
-abbrev pub Ends : List ℕ → ℕ → ℕ → Type 0
-Ends s at r = (r ≡ at + extent_of (drop at s)) × (at < r) × (r ≤ length s)
-
-module _ (s : List ℕ) (at : ℕ) (h : at < length s) where
-  ends_by : (k : ℕ) → extent_of (drop at s) ≡ k → Ends s at (at + k)
-  ends_by k e =
-      let l = length-drop at s in
-      let b = extent_bounds (drop at s) (omega arith) in
-      (omega arith, omega arith, omega arith)
-
-  -- it takes all that is left
-  ends_all : extent_of (drop at s) ≡ length (drop at s) → Ends s at (length s)
-  ends_all e = let z : at + length (drop at s) ≡ length s = omega (arith, length-drop at s) in rw z at (ends_by (length (drop at s)) e)
-
-  first_word : word_at 4 (drop at s) 0 ≡ word_at 4 s at
-  first_word =
-      let z : length (take at s) + 0 ≡ at = omega (arith, length-take-le at s (omega arith)) in
-      sym (word_shift 4 0 (take at s) (drop at s)) ∙ rw (z, take-append-drop at s)
-
-  pub ends_short : length s - at < 4 → Ends s at (length s)
-  ends_short p = ends_all (extent_short (drop at s) (omega (arith, length-drop at s)))
-
-  module _ (p : 4 ≤ length s - at) where
-    pub ends_passes : length s - at - 4 < word_at 4 s at → Ends s at (length s)
-    ends_passes q = ends_all (extent_passes (drop at s) (omega (arith, length-drop at s)) (omega (arith, length-drop at s, first_word)))
-
-    pub ends_lies : word_at 4 s at ≤ length s - at - 4 → Ends s at (at + 4 + word_at 4 s at)
-    ends_lies q =
-        let z : at + (4 + word_at 4 s at) ≡ at + 4 + word_at 4 s at = omega arith in
-        rw z at (ends_by (4 + word_at 4 s at) (extent_lies (drop at s) (omega (arith, length-drop at s)) (omega (arith, length-drop at s, first_word)) ∙ ap (λ (w : ℕ). 4 + w) first_word))
-
 -- ---- the stretches
 
 module _ (s : List ℕ) where
@@ -96,7 +64,7 @@ module _ (s : List ℕ) where
   none : length s ≡ 0 → stretches_of s ≡ []
   none = from_none s (length s)
 
-  first_and_rest : 0 < length s → stretches_of s ≡ take (extent_of s) s ∷ stretches_of (drop (extent_of s) s)
+  pub first_and_rest : 0 < length s → stretches_of s ≡ take (extent_of s) s ∷ stretches_of (drop (extent_of s) s)
   first_and_rest h =
       let z : length s ≡ suc (length s - 1) = omega arith in
       let b = extent_bounds s h in
@@ -104,67 +72,11 @@ module _ (s : List ℕ) where
       let r = enough (length s - 1) (length (drop (extent_of s) s)) (drop (extent_of s) s) (omega arith) (omega arith) in
       ap (λ (n : ℕ). stretches_from n s) z ∙ (from_some s (length s - 1) h ∙ ap (λ (ts : List (List ℕ)). take (extent_of s) s ∷ ts) r)
 
--- ---- the walks over them: what starts at `at`, and what is left then
+-- ---- the walks over them: what is left
 
-module _ (s : List ℕ) (at : ℕ) where
-  pub walked : length s ≤ at → stretches_of (drop at s) ≡ []
-  walked h = none (drop at s) (omega (arith, length-drop at s))
+module _ (s : List ℕ) where
+  pub none_left : length s ≡ 0 → length (stretches_of s) ≡ 0
+  none_left e = ap length (none s e)
 
-  pub walks : (end : ℕ) → at < length s → end ≡ at + extent_of (drop at s) → stretches_of (drop at s) ≡ take (end - at) (drop at s) ∷ stretches_of (drop end s)
-  walks end h e =
-      let some : 0 < length (drop at s) = omega (arith, length-drop at s) in
-      let z : extent_of (drop at s) ≡ end - at = omega arith in
-      let r : drop (extent_of (drop at s)) (drop at s) ≡ drop end s = drop-drop (extent_of (drop at s)) at s ∙ ap (λ (n : ℕ). drop n s) (sym e) in
-      first_and_rest (drop at s) some
-      ∙ (ap (λ (n : ℕ). take n (drop at s) ∷ stretches_of (drop (extent_of (drop at s)) (drop at s))) z ∙ ap (λ (t : List ℕ). take (end - at) (drop at s) ∷ stretches_of t) r)
-
--- ---- the walk of `count`
-
--- n tables end before `at`: with those that are left they are all.
-pub record Counts (s : List ℕ) (n at : ℕ) : Type 0 where
-  pub within : at ≤ length s
-  pub few : n ≤ 65
-  pub all : n + length (stretches_of (drop at s)) ≡ length (stretches_of s)
-
-pub counts_first : (s : List ℕ) → Counts s 0 0
-counts_first s = record { within = omega arith; few = omega arith; all = omega arith }
-
-module _ (s : List ℕ) (n at : ℕ) where
-  pub counts_more : (ltb at (length s) && ltb n 65) ≡ true → (at < length s) × (n < 65)
-  counts_more e = let t = (and-eq-true_iff (ltb at (length s)) (ltb n 65)).0 e in (ltb-true at (length s) t.0, ltb-true n 65 t.1)
-
-  module _ (g : Counts s n at) where
-    pub counts_on : (end : ℕ) → at < length s → n < 65 → Ends s at end → Counts s (n + 1) end
-    counts_on end h m e = record { within = e.2; few = omega arith; all = omega (arith, ap length (walks s at end h e.0), g.all) }
-
-    pub counted : (ltb at (length s) && ltb n 65) ≡ false → n ≡ cond (leb (length (stretches_of s)) 64) (length (stretches_of s)) 65
-    counted e = go (dec_lt at (length s)) (dec_le (length (stretches_of s)) 64)
-      where
-        full : at < length s → 65 ≤ n
-        full h = go (dec_lt n 65)
-          where
-            go : Dec (n < 65) → 65 ≤ n
-            go (yes m) = true_false (sym (rw (lt-ltb at (length s) h, lt-ltb n 65 m)) ∙ e)
-            go (no m) = omega arith
-
-        go : Dec (at < length s) → Dec (length (stretches_of s) ≤ 64) → n ≡ cond (leb (length (stretches_of s)) 64) (length (stretches_of s)) 65
-        go (yes h) (yes l) = absurd (omega (arith, full h, g.all))
-        go (yes h) (no l) = rw (lt-leb (length (stretches_of s)) 64 (omega arith)) (omega (arith, full h, g.few))
-        go (no h) (yes l) = rw (le-leb (length (stretches_of s)) 64 l) (omega (arith, ap length (walked s at (omega arith)), g.all))
-        go (no h) (no l) = rw (lt-leb (length (stretches_of s)) 64 (omega arith)) (omega (arith, ap length (walked s at (omega arith)), g.all, g.few))
-
--- what its answer tells
-module _ (s : List ℕ) (n : ℕ) (e : n ≡ cond (leb (length (stretches_of s)) 64) (length (stretches_of s)) 65) where
-  pub counted_over : 64 < n → 64 < length (stretches_of s)
-  counted_over h = go (dec_le (length (stretches_of s)) 64)
-    where
-      go : Dec (length (stretches_of s) ≤ 64) → 64 < length (stretches_of s)
-      go (yes l) = omega (arith, rw (le-leb (length (stretches_of s)) 64 l) at e)
-      go (no l) = omega arith
-
-  pub counted_all : n ≤ 64 → n ≡ length (stretches_of s)
-  counted_all h = go (dec_le (length (stretches_of s)) 64)
-    where
-      go : Dec (length (stretches_of s) ≤ 64) → n ≡ length (stretches_of s)
-      go (yes l) = rw (le-leb (length (stretches_of s)) 64 l) at e
-      go (no l) = let m : 64 < length (stretches_of s) = omega arith in absurd (omega (arith, rw (lt-leb (length (stretches_of s)) 64 m) at e))
+  pub one_less : 0 < length s → length (stretches_of s) ≡ suc (length (stretches_of (drop (extent_of s) s)))
+  one_less h = ap length (first_and_rest s h)

@@ -16,16 +16,13 @@ use Rattle.refusal.proofs.Numbers.{refuses}
 use Rattle.notice.specs.Layout.{check_of as noticeCheck}
 use Rattle.notice.specs.Layout.{Layout}
 use Rattle.interpreter.specs.Running.{RunAnswer, running_of}
-use Rattle.store.specs.declared.Part.{Part}
 use Rattle.store.specs.Layout.{right_of, places_in}
-use Rattle.store.specs.Calls.{held_refusal}
-use Rattle.many.specs.declared.Delivered.{Delivered}
-use Rattle.many.specs.declared.Matched.{Matched}
-use Rattle.many.specs.Many.{extent_of, stretches_from, stretches_of, verdict_byte, verdicts_of, refusal_of, many_refusal, Delivers}
-use Rattle.many.specs.Held.{place_byte, held_verdicts, refused_by, match_refusal, Matches}
+use Rattle.store.specs.Calls.{Part, held_refusal}
+use Rattle.many.specs.Many.{Delivered, extent_of, stretches_from, stretches_of, verdict_byte, verdicts_of, refusal_of, many_refusal, Delivers}
+use Rattle.many.specs.Held.{Matched, place_byte, held_verdicts, refused_by, match_refusal, Matches}
 use Rattle.many.specs.Theorems.{joined, EndToEnd, OneByOne, PastStays, StoreOneByOne, StorePastStays}
 use Rattle.many.proofs.Stretches.{extent_bounds, from_none, from_some}
-use Rattle.many.proofs.Verdicts.{no_default}
+use Rattle.many.proofs.Verdicts.{no_default, one_each}
 use Rattle.many.proofs.Holding.{byte_free, byte_held, bytes_64, byte_at}
 
 -- ---- the stretches
@@ -73,13 +70,10 @@ module _ (tables notice verdicts after : List ℕ) (r : Delivered) (d : Delivers
     few : (length (stretches_of tables) ≤ 64) × (length (stretches_of tables) ≤ length verdicts)
     few = not_refused (noticeCheck notice) (length (stretches_of tables)) (length verdicts) (sym number_is ∙ z)
 
-    one_each : length (verdicts_of tables notice) ≡ length (stretches_of tables)
-    one_each = length-map (stretches_of tables) (λ (t : List ℕ). verdict_byte (running_of t notice))
-
     -- the verdicts, and what is past them
     written : after ≡ verdicts_of tables notice ++ drop (length (verdicts_of tables notice)) verdicts
     written =
-        let room : 0 + length (verdicts_of tables notice) ≤ length verdicts = omega (arith, few.1, one_each) in
+        let room : 0 + length (verdicts_of tables notice) ≤ length verdicts = omega (arith, few.1, one_each tables notice) in
         let z : 0 + length (verdicts_of tables notice) ≡ length (verdicts_of tables notice) = omega arith in
         (rw accepted at d.bytes) ∙ (rw z at (sets-eq (verdicts_of tables notice) verdicts 0 room))
 
@@ -91,7 +85,7 @@ one_by_one tables notice verdicts after r d z =
     one : (i : ℕ) (ran : RunAnswer) → i < r.count → ran ≡ running_of (get_or (stretches_of tables) i []) notice → get_or after i 0 ≡ verdict_byte ran
     one i ran h e =
         let f : List ℕ → ℕ = λ t. verdict_byte (running_of t notice) in
-        let l : i < length (verdicts_of tables notice) = omega (arith, all_counted tables notice verdicts after r d z, one_each tables notice verdicts after r d z) in
+        let l : i < length (verdicts_of tables notice) = omega (arith, all_counted tables notice verdicts after r d z, one_each tables notice) in
         ap (λ (t : List ℕ). get_or t i 0) (written tables notice verdicts after r d z)
         ∙ (get_or-append (verdicts_of tables notice) (drop (length (verdicts_of tables notice)) verdicts) 0 i l
         ∙ (no_default (verdicts_of tables notice) i 0 (f []) l
@@ -106,7 +100,7 @@ past_stays tables notice verdicts after r d = go (dec_le 1 r.number)
         ap (drop r.count) (rw m at d.bytes)
     go (no n) =
         let z : r.number ≡ 0 = omega arith in
-        let c : length (verdicts_of tables notice) ≡ r.count = one_each tables notice verdicts after r d z ∙ sym (all_counted tables notice verdicts after r d z) in
+        let c : length (verdicts_of tables notice) ≡ r.count = one_each tables notice ∙ sym (all_counted tables notice verdicts after r d z) in
         ap (drop r.count) (written tables notice verdicts after r d z)
         ∙ (drop_at (verdicts_of tables notice) (drop (length (verdicts_of tables notice)) verdicts) r.count c ∙ ap (λ (n : ℕ). drop n verdicts) c)
 

@@ -2,12 +2,14 @@
 use Rattle.std.specs.Prelude.{Ok, Err}
 use mathlib.Core.Path.{◌≡◌, refl, sym, ap, ◌∙◌}
 use mathlib.Core.Bool.{false}
-use mathlib.Core.List.{List, ◌∷◌, map}
+use mathlib.Core.List.{List, [], ◌∷◌, ◌++◌, map, append_assoc, append-nil}
 use Prim.Native.Nat.{ℕ, suc, ◌+◌, ◌-◌, ◌≤◌, ◌<◌}
 use native.Mathlib.Omega.{arith}
 use native.Mathlib.Numerals.{add-one}
-use lib.ListN.{length, get_or, set, take, drop, length-set}
-use lib.Seq.{sets, drop-cons}
+use native.Mathlib.Decide.{dec_le}
+use lib.ListN.{length, get_or, set, take, drop, length-set, length-map}
+use lib.Seq.{sets, sets-eq, drop-cons, take-suc-set}
+use Rattle.std.proofs.lemmas.List.{nil_from_length, take_all}
 use borrow.Author.Tests.{le-leb, lt-leb, eq-eqb}
 use Rattle.truth.specs.Truth.{number_of as verdictNumber}
 use Rattle.refusal.specs.declared.Refusal.{Refusal}
@@ -17,9 +19,8 @@ use Rattle.notice.specs.Layout.{check_of as noticeCheck}
 use Rattle.table.specs.Check.{check_of as tableCheck}
 use Rattle.interpreter.specs.Running.{RunAnswer, running_of}
 use Rattle.interpreter.proofs.Answers.{table_refused}
-use Rattle.many.specs.declared.Delivered.{Delivered}
-use Rattle.many.specs.Many.{stretches_of, verdict_byte, verdicts_of, Delivers}
-use Rattle.many.proofs.Stretches.{Ends, walked, walks}
+use Rattle.many.specs.Many.{Delivered, extent_of, stretches_of, verdict_byte, verdicts_of, Delivers}
+use Rattle.many.proofs.Stretches.{none_left, one_less, first_and_rest}
 
 -- an element does not depend on what stands for none
 pub no_default : (l : List ℕ) (i d e : ℕ) → i < length l → get_or l i d ≡ get_or l i e
@@ -34,43 +35,53 @@ module _ (table notice : List ℕ) where
   pub byte_ran : (r : RunAnswer) → r ≡ running_of table notice → r.number ≡ 0 → verdictNumber r.verdict ≡ verdict_byte (running_of table notice)
   byte_ran r e z = sym (rw (eq-eqb r.number 0 z)) ∙ ap verdict_byte e
 
+pub one_each : (tables notice : List ℕ) → length (verdicts_of tables notice) ≡ length (stretches_of tables)
+one_each tables notice = length-map (stretches_of tables) (λ (t : List ℕ). verdict_byte (running_of t notice))
+
 -- ---- the walk of `deliver`
 
--- the i tables that end before `at` have their bytes: with those of the tables that are left they are all.
-pub record Delivering (tables notice was now : List ℕ) (i at : ℕ) : Type 0 where
-  pub within : at ≤ length tables
-  pub all : i + length (stretches_of (drop at tables)) ≡ length (stretches_of tables)
-  pub room : length now ≡ length was
-  pub bytes : sets now i (verdicts_of (drop at tables) notice) ≡ sets was 0 (verdicts_of tables notice)
+-- the first i tables have their bytes: with those of the rest they are all.
+pub record Delivering (tables notice rest now : List ℕ) (i : ℕ) : Type 0 where
+  pub room : length now ≡ length (stretches_of tables)
+  pub left : i + length (stretches_of rest) ≡ length (stretches_of tables)
+  pub bytes : take i now ++ verdicts_of rest notice ≡ verdicts_of tables notice
 
-pub delivering_first : (tables notice now : List ℕ) → Delivering tables notice now now 0 0
-delivering_first tables notice now = record { within = omega arith; all = omega arith; room = refl; bytes = refl }
+pub delivering_first : (tables notice now : List ℕ) → length now ≡ length (stretches_of tables) → Delivering tables notice tables now 0
+delivering_first tables notice now e = record { room = e; left = omega arith; bytes = refl }
 
-module _ (tables notice was now : List ℕ) (i at : ℕ) (g : Delivering tables notice was now i at) where
-  module _ (end : ℕ) (h : at < length tables) (e : Ends tables at end) where
-    abbrev table : List ℕ
-    table = take (end - at) (drop at tables)
+module _ (tables notice rest now : List ℕ) (i : ℕ) (g : Delivering tables notice rest now i) where
+  pub some_left : i < length now → 0 < length rest
+  some_left h = go (dec_le 1 (length rest))
+    where
+      go : Dec (1 ≤ length rest) → 0 < length rest
+      go (yes p) = p
+      go (no p) = absurd (omega (arith, none_left rest (omega arith), g.left, g.room))
 
-    left : stretches_of (drop at tables) ≡ table ∷ stretches_of (drop end tables)
-    left = walks tables at end h e.0
+  pub delivering_on : (v : ℕ) → i < length now → v ≡ verdict_byte (running_of (take (extent_of rest) rest) notice)
+      → Delivering tables notice (drop (extent_of rest) rest) (set now i v) (i + 1)
+  delivering_on v h e =
+      let some = some_left h in
+      let f : List ℕ → ℕ = λ t. verdict_byte (running_of t notice) in
+      let first : verdicts_of rest notice ≡ v ∷ verdicts_of (drop (extent_of rest) rest) notice =
+      ap (map f) (first_and_rest rest some) ∙ ap (λ (b : ℕ). b ∷ verdicts_of (drop (extent_of rest) rest) notice) (sym e) in
+      record {
+        room = simp length-set g.room;
+        left = omega (arith, one_less rest some, g.left);
+        bytes =
+            rw add-one (ap (λ (x : List ℕ). x ++ verdicts_of (drop (extent_of rest) rest) notice) (take-suc-set now i v h)
+            ∙ append_assoc (take i now) (v ∷ []) (verdicts_of (drop (extent_of rest) rest) notice)
+            ∙ ap (λ (x : List ℕ). take i now ++ x) (sym first)
+            ∙ g.bytes);
+      }
 
-    pub place_left : i < length (stretches_of tables)
-    place_left = omega (arith, ap length left, g.all)
+  pub delivered_all : length now ≤ i → now ≡ verdicts_of tables notice
+  delivered_all h =
+      let z : stretches_of rest ≡ [] = nil_from_length (stretches_of rest) (omega (arith, g.left, g.room)) in
+      sym (take_all i now h) ∙ sym (append-nil (take i now)) ∙ ap (λ (ts : List (List ℕ)). take i now ++ map (λ (t : List ℕ). verdict_byte (running_of t notice)) ts) (sym z) ∙ g.bytes
 
-    pub delivering_on : (v : ℕ) → v ≡ verdict_byte (running_of table notice) → Delivering tables notice was (set now i v) (i + 1) end
-    delivering_on v p =
-        let b : sets now i (verdicts_of (drop at tables) notice) ≡ sets (set now i v) (suc i) (verdicts_of (drop end tables) notice) =
-        ap (λ (ts : List (List ℕ)). sets now i (map (λ (t : List ℕ). verdict_byte (running_of t notice)) ts)) left
-        ∙ ap (λ (x : ℕ). sets (set now i x) (suc i) (verdicts_of (drop end tables) notice)) (sym p) in
-        record {
-          within = e.2;
-          all = omega (arith, ap length left, g.all);
-          room = simp length-set g.room;
-          bytes = rw add-one (sym b ∙ g.bytes);
-        }
-
-  pub delivered : length tables ≤ at → now ≡ sets was 0 (verdicts_of tables notice)
-  delivered h = sym (ap (λ (ts : List (List ℕ)). sets now i (map (λ (t : List ℕ). verdict_byte (running_of t notice)) ts)) (walked tables at h)) ∙ g.bytes
+-- a part at the start of the buffer, and what is past it
+pub front_set : (x s : List ℕ) (n : ℕ) → length x ≡ n → n ≤ length s → x ++ drop n s ≡ sets s 0 x
+front_set x s n e h = let z : 0 + length x ≡ n = omega arith in sym (rw z at (sets-eq x s 0 (omega arith)))
 
 -- ---- what is answered: 11, 24, 9 in this order
 

@@ -1,14 +1,14 @@
 -- One notice, the tables that a store holds: one call that runs each of them and writes 64 bytes, by number. Document 02, requests 8 and 12.
-use Rattle.std.specs.Prelude.{ℕ, ◌≡◌, cond, List, map, eqb, leb, length, Ok, Err}
+use Rattle.std.specs.Prelude.{ℕ, ◌≡◌, cond, List, map, eqb, leb, length, Result, Ok, Err}
 use Rattle.std.proofs.Math.Option.{Option, none, some}
 use Rattle.std.proofs.lemmas.List.Edits.{sets}
 use Rattle.common.specs.Choice.{pick}
-use Rattle.notice.specs.Layout.{check_of as noticeCheck, number_of, place_of}
-use Rattle.notice.specs.Layout.{Layout}
+use Rattle.refusal.specs.declared.Refusal.{Refusal}
+use Rattle.refusal.specs.Refusal.{number_of as refusal_number, place_of as refusal_place}
+use Rattle.notice.specs.Layout.{Layout, check_of as noticeCheck, number_of, place_of}
 use Rattle.interpreter.specs.Running.{running_of}
 use Rattle.store.specs.Layout.{Place, places_in, places_of}
 use Rattle.many.specs.Many.{verdict_byte}
-use Rattle.many.specs.declared.Matched.{Matched}
 
 -- the byte of a place: "0 false, 1 true, 2 bottom, 3 table refused", and 4 for a free one
 abbrev pub place_byte : List ℕ → Place → ℕ
@@ -33,8 +33,17 @@ abbrev pub fault_place : Option (List Place) → Layout → ℕ
 fault_place none layout = 0
 fault_place (some ps) layout = place_of layout
 
+-- the number of the refusal, 0 for none, and its place
+pub record Matched : Type 0 where
+  pub number : ℕ
+  pub place : ℕ
+
 abbrev pub answered : ℕ → ℕ → Matched
 answered number place = record { number = number; place = place }
+
+abbrev pub matched : Result (Unit {0}) Refusal → Matched
+matched (Ok done) = answered 0 0
+matched (Err r) = answered (refusal_number r) (refusal_place r)
 
 abbrev pub match_of : List ℕ → List ℕ → ℕ → Matched
 match_of store notice room = answered (match_refusal store notice room) (fault_place (places_of store) (noticeCheck notice))

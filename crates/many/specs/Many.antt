@@ -1,14 +1,14 @@
 -- One notice, many subscriptions. Document 02, request 8: "A single call shall take up to 64 tables laid end to end and one notice, and write per table one byte: 0 false, 1 true, 2 bottom, 3 table refused.
 -- The result must be the same as calling one by one, and the number of verdict bytes is returned, 0 if refused."
-use Rattle.std.specs.Prelude.{ℕ, zero, suc, ◌+◌, ◌≡◌, cond, ◌&&◌, List, [], ◌∷◌, map, eqb, leb, length, take, drop, Ok, Err}
+use Rattle.std.specs.Prelude.{ℕ, zero, suc, ◌+◌, ◌≡◌, cond, ◌&&◌, List, [], ◌∷◌, map, eqb, leb, length, take, drop, Result, Ok, Err}
 use Rattle.std.proofs.lemmas.List.Edits.{sets}
 use Rattle.common.specs.Choice.{pick}
 use Rattle.word.specs.Word.{word_at}
 use Rattle.truth.specs.Truth.{number_of as verdictNumber}
-use Rattle.notice.specs.Layout.{check_of as noticeCheck, number_of, place_of}
-use Rattle.notice.specs.Layout.{Layout}
+use Rattle.refusal.specs.declared.Refusal.{Refusal}
+use Rattle.refusal.specs.Refusal.{number_of as refusal_number, place_of as refusal_place}
+use Rattle.notice.specs.Layout.{Layout, check_of as noticeCheck, number_of, place_of}
 use Rattle.interpreter.specs.Running.{RunAnswer, running_of}
-use Rattle.many.specs.declared.Delivered.{Delivered}
 
 -- ---- the tables
 
@@ -44,6 +44,16 @@ refusal_of (Ok u) count room = cond (leb count 64) (cond (leb count room) 0 9) 2
 
 abbrev pub many_refusal : List ℕ → List ℕ → ℕ → ℕ
 many_refusal tables notice room = refusal_of (noticeCheck notice) (length (stretches_of tables)) room
+
+-- the number of the refusal, 0 for none, its place, and how many verdicts were written
+pub record Delivered : Type 0 where
+  pub number : ℕ
+  pub place : ℕ
+  pub count : ℕ
+
+abbrev pub delivered : Result ℕ Refusal → Delivered
+delivered (Ok count) = record { number = 0; place = 0; count = count }
+delivered (Err r) = record { number = refusal_number r; place = refusal_place r; count = 0 }
 
 -- "the number of verdict bytes is returned, 0 if refused"; 11 with its place
 abbrev pub many_of : List ℕ → List ℕ → ℕ → Delivered

@@ -1,12 +1,9 @@
 -- What holds of many tables. The proofs are in proofs/Theorems.antt, under the same names.
 use Rattle.std.specs.Prelude.{ℕ, ◌≤◌, ◌<◌, ◌≡◌, List, [], ◌∷◌, ◌++◌, length, get_or, drop}
 use Rattle.interpreter.specs.Running.{RunAnswer, running_of}
-use Rattle.store.specs.Calls.{part_of, fetched_of}
-use Rattle.store.specs.declared.Part.{Part}
-use Rattle.many.specs.Many.{stretches_of, verdict_byte, Delivers}
-use Rattle.many.specs.Held.{Matches}
-use Rattle.many.specs.declared.Delivered.{Delivered}
-use Rattle.many.specs.declared.Matched.{Matched}
+use Rattle.store.specs.Calls.{Part, part_of, fetched_of}
+use Rattle.many.specs.Many.{Delivered, stretches_of, verdict_byte, Delivers}
+use Rattle.many.specs.Held.{Matched, Matches}
 
 -- "tables laid end to end": the stretches, one after the other, are the bytes.
 abbrev pub joined : List (List ℕ) → List ℕ

@@ -1,22 +1,18 @@
 -- `count` meets its contract: the tables so far and those that are left are all. Assumes nothing.
-use native.Mathlib.Omega.{arith}
-use Rattle.many.proofs.Stretches.{counts_first, counts_more, counts_on, counted}
+use Rattle.std.proofs.Common.{◌≡◌, sym, ap, ◌∙◌, ℕ, List, length, drop, arith}
+use borrow.Author.Tests.{eqb-true, eqb-false}
+use Rattle.many.specs.Many.{extent_of, stretches_of}
+use Rattle.many.proofs.Stretches.{none_left, one_less}
 use Rattle.many.proofs.count.Goals as goal
 
-pub loop-at-init : goal.loop-at-init
-loop-at-init c = counts_first c.args.tables.now
+pub returns-then-is_empty : goal.returns-then-is_empty
+returns-then-is_empty c =
+    let e = none_left c.loop-n.rest.now (eqb-true _ _ (sym c.is_empty.ensures ∙ c.if-is_empty.true)) in
+    omega arith
 
-pub end_of-at-requires : goal.end_of-at-requires
-end_of-at-requires c = (counts_more c.args.tables.now c.loop-at.n c.loop-at.at c.loop-at-test.true).0
-
-pub loop-at-smaller : goal.loop-at-smaller
-loop-at-smaller c = omega (arith, c.end_of-at.ensures.1, c.end_of-at.ensures.2)
-
-pub loop-at-preserved : goal.loop-at-preserved
-loop-at-preserved c =
-    let l = c.loop-at in
-    let m = counts_more c.args.tables.now l.n l.at c.loop-at-test.true in
-    counts_on c.args.tables.now l.n l.at l.invariant c.end_of-at.result m.0 m.1 c.end_of-at.ensures
-
-pub returns : goal.returns
-returns c = counted c.args.tables.now c.loop-at.n c.loop-at.at c.loop-at.invariant c.loop-at-test.false
+pub loop-n-preserved : goal.loop-n-preserved
+loop-n-preserved c =
+    let r = c.loop-n.rest.now in
+    let some = eqb-false (length r) 0 (sym c.is_empty.ensures ∙ c.if-is_empty.false) in
+    let back : c.split_at.result.1.now ≡ drop (extent_of r) r = c.split_at.ensures.back ∙ ap (λ (n : ℕ). drop n r) c.extent.ensures.0 in
+    omega (arith, one_less r (omega (arith, some)), ap (λ (t : List ℕ). length (stretches_of t)) back)

@@ -1,42 +1,29 @@
--- `deliver` meets its contract: the bytes written and those of the tables that are left make the same of the buffer. Assumes nothing.
-use native.Mathlib.Omega.{arith}
-use Rattle.many.proofs.Verdicts.{delivering_first, delivering_on, place_left, delivered}
+-- `deliver` meets its contract: the bytes written and those of the tables that are left are all. Assumes nothing.
+use Rattle.std.proofs.Common.{◌≡◌, sym, ap, subst, ◌∙◌, ℕ, ◌+◌, List, take, drop, arith}
+use Rattle.std.proofs.Math.ListN.{set}
+use Rattle.interpreter.specs.Running.{running_of}
+use Rattle.many.specs.Many.{extent_of, verdict_byte}
+use Rattle.many.proofs.Verdicts.{Delivering, delivering_first, delivering_on, some_left, delivered_all}
 use Rattle.many.proofs.deliver.Goals as goal
 
-pub loop-at-init : goal.loop-at-init
-loop-at-init c = let a = c.args in delivering_first a.tables.now a.notice.now a.verdicts.now
+pub loop-byte-init : goal.loop-byte-init
+loop-byte-init c = let a = c.args in delivering_first a.tables.now a.notice.now a.verdicts.now c.requires.2
 
-pub verdict-requires : goal.verdict-requires
-verdict-requires c = let p = c.requires in (p.0, p.1)
-
-pub bounds-verdicts-i : goal.bounds-verdicts-i
-bounds-verdicts-i c =
+pub loop-byte-preserved : goal.loop-byte-preserved
+loop-byte-preserved c =
     let a = c.args in
-    let l = c.loop-at in
-    let e = c.end_of-end in
-    let p = place_left a.tables.now a.notice.now a.verdicts.now l.verdicts l.i l.at l.invariant e.result (omega arith) e.ensures in
-    omega (arith, c.requires.3, l.invariant.room)
-
-pub overflow_add-i : goal.overflow_add-i
-overflow_add-i c =
-    let a = c.args in
-    let l = c.loop-at in
-    let e = c.end_of-end in
-    let p = place_left a.tables.now a.notice.now a.verdicts.now l.verdicts l.i l.at l.invariant e.result (omega arith) e.ensures in
-    omega (arith, c.requires.3, l.invariant.room)
-
-pub loop-at-preserved : goal.loop-at-preserved
-loop-at-preserved c =
-    let a = c.args in
-    let l = c.loop-at in
-    let e = c.end_of-end in
-    delivering_on a.tables.now a.notice.now a.verdicts.now l.verdicts l.i l.at l.invariant e.result (omega arith) e.ensures c.verdict.result c.verdict.ensures
-
-pub shape_of-verdicts : goal.shape_of-verdicts
-shape_of-verdicts c = c.loop-at.invariant.room
+    let l = c.loop-byte in
+    let r = l.rest.now in
+    let front : c.split_at.result.0.now ≡ take (extent_of r) r = c.split_at.ensures.front ∙ ap (λ (n : ℕ). take n r) c.extent.ensures.0 in
+    let back : c.split_at.result.1.now ≡ drop (extent_of r) r = c.split_at.ensures.back ∙ ap (λ (n : ℕ). drop n r) c.extent.ensures.0 in
+    let byte = c.verdict.ensures ∙ ap (λ (t : List ℕ). verdict_byte (running_of t a.notice.now)) front in
+    subst
+    (λ (x : List ℕ). Delivering a.tables.now a.notice.now x (set l.verdicts l.byte-index c.verdict.result) (l.byte-index + 1))
+    (sym back)
+    (delivering_on a.tables.now a.notice.now r l.verdicts l.byte-index l.invariant c.verdict.result (omega arith) byte)
 
 pub returns : goal.returns
 returns c =
     let a = c.args in
-    let l = c.loop-at in
-    delivered a.tables.now a.notice.now a.verdicts.now l.verdicts l.i l.at l.invariant (omega arith)
+    let l = c.loop-byte in
+    delivered_all a.tables.now a.notice.now l.rest.now l.verdicts l.byte-index l.invariant (omega arith)
