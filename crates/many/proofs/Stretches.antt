@@ -1,17 +1,13 @@
 -- The tables, laid end to end: where the first one ends, the stretches one after the other, and the turns of the walks over them. Assumes nothing.
 use mathlib.Core.Path.{◌≡◌, refl, sym, ap, ◌∙◌}
-use mathlib.Core.Bool.{Bool, true, false, cond, ◌&&◌, and-eq-true_iff}
+use mathlib.Core.Bool.{Bool, true, false, cond, ◌&&◌}
 use mathlib.Core.List.{List, [], ◌∷◌}
 use Prim.Native.Nat.{ℕ, zero, suc, ◌+◌, ◌-◌, ◌≤◌, ◌<◌}
 use native.Mathlib.Omega.{arith}
-use native.Mathlib.Decide.{dec_le, dec_lt}
-use lib.Dec.{leb, ltb}
-use lib.ListN.{length, take, drop, length-drop, take-append-drop}
-use lib.Seq.{length-take-le, drop-drop}
-use borrow.Author.Tests.{ltb-true, leb-true, lt-ltb, le-leb, lt-leb, eq-eqb, ne_eqb}
-use Rattle.common.proofs.Choice.{true_false}
+use lib.Dec.{leb}
+use lib.ListN.{length, take, drop, length-drop}
+use borrow.Author.Tests.{leb-true, le-leb, lt-leb, eq-eqb, ne_eqb}
 use Rattle.word.specs.Word.{word_at}
-use Rattle.word.proofs.Theorems.{word_shift}
 use Rattle.many.specs.Many.{extent_of, stretches_from, stretches_of}
 
 -- ---- where the first table ends

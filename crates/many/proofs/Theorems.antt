@@ -8,7 +8,7 @@ use Prim.Native.Nat.{ℕ, zero, suc, ◌+◌, ◌≤◌, ◌<◌}
 use native.Mathlib.Omega.{arith}
 use native.Mathlib.Decide.{dec_le}
 use lib.Dec.{leb, eqb}
-use lib.ListN.{length, get_or, take, drop, length-drop, length-map, take-append-drop, get_or-append, get_or-map}
+use lib.ListN.{length, get_or, take, drop, length-drop, take-append-drop, get_or-append, get_or-map}
 use lib.Seq.{sets-eq, drop_at}
 use borrow.Author.Tests.{leb-true, eq-eqb, ne_eqb}
 use Rattle.common.specs.Choice.{pick}

@@ -24,8 +24,10 @@ fn next_case(from: &mut impl Read, to: &mut impl Write) -> io::Result<bool> {
     if verdicts.len() < room {
         return Ok(false);
     }
-    let d = many::run_many(&tables[..n], &notice[..k], &mut verdicts[..room]);
-    write!(to, "{} {} {} ", d.number, d.place, d.count)?;
+    match many::run_many(&tables[..n], &notice[..k], &mut verdicts[..room]) {
+        Ok(count) => write!(to, "0 0 {count} ")?,
+        Err(r) => write!(to, "{} {} 0 ", r.number(), r.place())?,
+    }
     cases::print_hex(to, &verdicts)?;
     writeln!(to)?;
     Ok(true)

@@ -270,10 +270,18 @@ pub fn virentolex_run_many<'a>(
     ensures count_after { record { number = result; place = place.new; count = count.new } ≡ many_of tables.now notice.now (length verdicts.old) }
     ensures verdicts_after { verdicts.new ≡ many_bytes tables.now notice.now verdicts.old }
 {
-    let a = many::run_many(tables, notice, verdicts);
-    *place = a.place;
-    *count = a.count;
-    a.number
+    match many::run_many(tables, notice, verdicts) {
+        Ok(n) => {
+            *place = 0;
+            *count = n;
+            0
+        }
+        Err(r) => {
+            *place = r.place();
+            *count = 0;
+            r.number()
+        }
+    }
 }
 
 // "a standing store in one lent buffer of at most 64 KiB: make it empty". A refusal changes no byte.
@@ -281,7 +289,10 @@ pub fn virentolex_store_make(store: &mut [u8]) -> u8
     ensures value { result ≡ make_refusal store.old }
     ensures store_after { store.new ≡ made_bytes store.old }
 {
-    store::make(store)
+    match store::make(store) {
+        Ok(()) => 0,
+        Err(r) => r.number(),
+    }
 }
 
 // "add a table and get the lowest free number 0..63"; "Refused, add answers 64". A refusal changes no byte.
@@ -289,9 +300,16 @@ pub fn virentolex_store_add(store: &mut [u8], table: &[u8], number: &mut usize) 
     ensures number_after { record { refusal = result; number = number.new } ≡ added_of store.old table.now }
     ensures store_after { store.new ≡ added_bytes store.old table.now }
 {
-    let a = store::add(store, table);
-    *number = a.number;
-    a.refusal
+    match store::add(store, table) {
+        Ok(n) => {
+            *number = n;
+            0
+        }
+        Err(r) => {
+            *number = 64;
+            r.number()
+        }
+    }
 }
 
 // "remove by number". A refusal changes no byte.
@@ -299,17 +317,28 @@ pub fn virentolex_store_remove(store: &mut [u8], number: usize) -> u8
     ensures value { result ≡ held_refusal store.old number }
     ensures store_after { store.new ≡ removed_bytes store.old number }
 {
-    store::remove(store, number)
+    match store::remove(store, number) {
+        Ok(()) => 0,
+        Err(r) => r.number(),
+    }
 }
 
 // "fetch by number as a part of the buffer": the table is the bytes from `start` to `end`, both 0 if refused.
 pub fn virentolex_store_fetch(store: &[u8], number: usize, start: &mut usize, end: &mut usize) -> u8
     ensures { record { refusal = result; start = start.new; end = end.new } ≡ part_of store.now number }
 {
-    let p = store::find(store, number);
-    *start = p.start;
-    *end = p.end;
-    p.refusal
+    match store::find(store, number) {
+        Ok(part) => {
+            *start = part.start;
+            *end = part.end;
+            0
+        }
+        Err(r) => {
+            *start = 0;
+            *end = 0;
+            r.number()
+        }
+    }
 }
 
 // Every table that a store holds on one notice, one byte by number: 0 false, 1 true, 2 bottom, 3 table refused, 4 for a free place. A refusal changes no byte.
@@ -322,9 +351,16 @@ pub fn virentolex_store_match<'a>(
     ensures place_after { record { number = result; place = place.new } ≡ match_of store.now notice.now (length verdicts.old) }
     ensures verdicts_after { verdicts.new ≡ matched_bytes store.now notice.now verdicts.old }
 {
-    let a = many::match_store(store, notice, verdicts);
-    *place = a.place;
-    a.number
+    match many::match_store(store, notice, verdicts) {
+        Ok(()) => {
+            *place = 0;
+            0
+        }
+        Err(r) => {
+            *place = r.place();
+            r.number()
+        }
+    }
 }
 
 // "A tool takes such bytes, .. keeps each field that is right by itself and whose name was not kept before, and writes a well-formed notice": the notice at its buffer's start,

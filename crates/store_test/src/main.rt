@@ -6,12 +6,15 @@
 #![tactic(auto)]
 
 use cases::Lent;
+use refusal::Refusal;
 use std::io;
 use std::io::{Read, Write};
 
 fn fetch(to: &mut impl Write, buffer: &[u8], number: usize) -> io::Result<()> {
-    let p = store::find(buffer, number);
-    write!(to, "{} {} {} ", p.refusal, p.start, p.end)?;
+    match store::find(buffer, number) {
+        Ok(part) => write!(to, "0 {} {} ", part.start, part.end)?,
+        Err(r) => write!(to, "{} 0 0 ", r.number())?,
+    }
     cases::print_hex(to, store::fetch(buffer, number))?;
     Ok(())
 }
@@ -25,10 +28,19 @@ fn match_all(to: &mut impl Write, buffer: &[u8], operand: &[u8]) -> io::Result<(
     if verdicts.len() < room {
         return Ok(());
     }
-    let m = many::match_store(buffer, &operand[2..], &mut verdicts[..room]);
-    write!(to, "{} {} ", m.number, m.place)?;
+    match many::match_store(buffer, &operand[2..], &mut verdicts[..room]) {
+        Ok(()) => write!(to, "0 0 ")?,
+        Err(r) => write!(to, "{} {} ", r.number(), r.place())?,
+    }
     cases::print_hex(to, &verdicts)?;
     Ok(())
+}
+
+fn put_done(to: &mut impl Write, done: Result<(), Refusal>) -> io::Result<()> {
+    match done {
+        Ok(()) => write!(to, "0 "),
+        Err(r) => write!(to, "{} ", r.number()),
+    }
 }
 
 fn put_byte(buffer: &mut [u8], at: usize, operand: &[u8]) {
@@ -45,12 +57,12 @@ fn call(
     operand: &[u8],
 ) -> io::Result<()> {
     match what {
-        b'm' => write!(to, "{} ", store::make(buffer)),
-        b'a' => {
-            let a = store::add(buffer, operand);
-            write!(to, "{} {} ", a.refusal, a.number)
-        }
-        b'r' => write!(to, "{} ", store::remove(buffer, n)),
+        b'm' => put_done(to, store::make(buffer)),
+        b'a' => match store::add(buffer, operand) {
+            Ok(number) => write!(to, "0 {number} "),
+            Err(r) => write!(to, "{} 64 ", r.number()),
+        },
+        b'r' => put_done(to, store::remove(buffer, n)),
         b'f' => fetch(to, buffer, n),
         b'n' => match_all(to, buffer, operand),
         b'b' => {

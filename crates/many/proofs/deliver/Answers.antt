@@ -3,7 +3,7 @@ use Rattle.std.proofs.Common.{◌≡◌, sym, ap, subst, ◌∙◌, ℕ, ◌+◌
 use Rattle.std.proofs.Math.ListN.{set}
 use Rattle.interpreter.specs.Running.{running_of}
 use Rattle.many.specs.Many.{extent_of, verdict_byte}
-use Rattle.many.proofs.Verdicts.{Delivering, delivering_first, delivering_on, some_left, delivered_all}
+use Rattle.many.proofs.Verdicts.{Delivering, delivering_first, delivering_on, delivered_all}
 use Rattle.many.proofs.deliver.Goals as goal
 
 pub loop-byte-init : goal.loop-byte-init

@@ -1,9 +1,9 @@
 -- `run_many` meets its contract: 11, 24, 9, or the verdicts of all tables. Assumes nothing.
-use Rattle.std.proofs.Common.{◌≡◌, refl, sym, ap, subst, ◌∙◌, ℕ, List, ◌++◌, length, drop, arith}
+use Rattle.std.proofs.Common.{refl, sym, ap, subst, ◌∙◌, ℕ, List, ◌++◌, drop, arith}
 use Rattle.std.proofs.lemmas.List.{length-take-le}
 use Rattle.notice.specs.Layout.{Indexed}
 use Rattle.notice.proofs.Stood.{stood_indexed}
-use Rattle.many.specs.Many.{stretches_of, verdicts_of}
+use Rattle.many.specs.Many.{verdicts_of}
 use Rattle.many.proofs.Verdicts.{many-written, front_set, one_each}
 use Rattle.many.proofs.run_many.Goals as goal
 
@@ -11,8 +11,7 @@ pub deliver-requires : goal.deliver-requires
 deliver-requires c =
     let a = c.args in
     let i = c.in_ok-index.ensures in
-    let well = sym i.value in
-    (
+    let well = sym i.value in (
       well,
       subst (λ (t : List ℕ). Indexed a.notice.now t) (sym i.starts_after) (stood_indexed a.notice.now well _ refl),
       length-take-le c.in-Some.n a.verdicts.now c.if-verdicts-n.false ∙ c.in-Some.ensures.0,

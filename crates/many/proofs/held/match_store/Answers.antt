@@ -1,5 +1,5 @@
 -- `match_store` meets its contract: 26, 11, 9, or the bytes of the 64 numbers. Assumes nothing.
-use Rattle.std.proofs.Common.{◌≡◌, refl, sym, ap, subst, ◌∙◌, ℕ, List, ◌++◌, length, drop, arith}
+use Rattle.std.proofs.Common.{refl, sym, ap, subst, ◌∙◌, ℕ, List, ◌++◌, drop}
 use Rattle.std.proofs.lemmas.List.{length-take-le}
 use Rattle.notice.specs.Layout.{Indexed}
 use Rattle.notice.proofs.Stood.{stood_indexed}
