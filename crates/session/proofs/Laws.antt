@@ -52,12 +52,12 @@ stored_front xs d h =
     let z : 0 + length xs ≤ length d = omega arith in
     ap (λ (l : List ℕ). take (length xs) l) (sets-eq xs d 0 z) ∙ take-append_seam xs (drop (0 + length xs) d)
 
-pub text_answers : (r t b out b' out' x : List ℕ) (at next : ℕ) (y : Translated) → Bytes r → x ≡ text_of r → Translates (translation_of edition x (length b)) b b' y
+pub text_answers : (r t b out b' out' x : List ℕ) (at next : ℕ) (y : Translated) {z : Translated} → Bytes r → x ≡ text_of r → Translates (translation_of edition x (length b)) b b' z → z ≡ y
     → Put out at (text_line y.number y.place y.length) out' next → next ≤ at + line_room → Answers 3 r t b out at b' out' (record { held = y.length; next = next })
-text_answers r t b out b' out' x at next y br ex q p h =
+text_answers r t b out b' out' x at next y {z} br ex q zy p h =
     let o : Outcome = translation_of edition (text_of r) (length b) in
     let eo : translation_of edition x (length b) ≡ o = ap (λ (l : List ℕ). translation_of edition l (length b)) ex in
-    let ey : y ≡ answer_of o = q.answer ∙ ap answer_of eo in
+    let ey : y ≡ answer_of o = sym zy ∙ q.answer ∙ ap answer_of eo in
     let n : y.length ≡ length o.table = ap (λ (v : Translated). v.length) ey in
     let eb : b' ≡ sets b 0 o.table = q.bytes ∙ ap (λ (v : Outcome). sets b 0 v.table) eo in
     let l : length b' ≡ length b = ap length eb ∙ length-sets b 0 o.table in
