@@ -1,6 +1,7 @@
 -- The search by halving and the walk by the starts, for a caller who has the fields' starts. Assumes nothing.
-use Rattle.std.specs.Prelude.{Ok}
+use Rattle.std.specs.Prelude.{Ok, Some, None}
 use Rattle.std.proofs.Common.{◌≡◌, ℕ, zero, suc, ◌+◌, ◌-◌, ◌<◌, ◌≤◌, Bool, true, false, ◌&&◌, List, [], ◌∷◌, map, length, get_or, take, drop, sym, refl, ap, ◌∙◌, ap₂, add-one, arith, take-append-drop, drop_of_length-le, length-take-le, drop-cons, get_or-take, take-suc}
+use Rattle.std.proofs.lemmas.List.{take-take}
 use lib.ListN.{length-map}
 use Rattle.word.specs.Word.{Bytes}
 use Rattle.octets.specs.Octets.{before_of}
@@ -45,6 +46,10 @@ module _ (s : List ℕ) where
   each_right zero (a ∷ ats) h e = (and_parts (field_right (field_at s a)) (all_right (map (field_at s) ats)) e).0
   each_right (suc k) (a ∷ ats) h e = each_right k ats (omega arith) (and_parts (field_right (field_at s a)) (all_right (map (field_at s) ats)) e).1
 
+-- the part of an index that counts is one too
+pub indexed_part : (s starts : List ℕ) (n : ℕ) → n ≡ count_of s → Indexed s starts → Indexed s (take n starts)
+indexed_part s starts n e h = rw e (take-take (count_of s) (count_of s) starts (omega arith) ∙ h)
+
 -- ---- the walks of `halved` and `walked`
 
 -- the names before `low` are below the one sought, those from `high` on above it
@@ -62,11 +67,11 @@ module _ (s name : List ℕ) (bytes : Bytes s) (well : check_of s ≡ Ok tt) whe
   rises = (well_fields s bytes well).rises
 
   -- the fields from k on, where all names before it are below
-  parted : (k : ℕ) → k ≤ count_of s → AllBelow s name (take k (starts_of s)) → Parted s name (count_of s - k) (drop k (starts_of s))
+  parted : (k : ℕ) → k ≤ count_of s → AllBelow s name (take k (starts_of s)) → Parted s name k (drop k (starts_of s))
   parted k h b =
       let c = start_count in
       let l = length-take-le k (starts_of s) (omega arith) in
-      record { starts = take k (starts_of s); all = sym (take-append-drop k (starts_of s)); below = b; count = omega arith }
+      record { starts = take k (starts_of s); all = sym (take-append-drop k (starts_of s)); below = b; count = l; within = h }
 
   pub between_all : Between s name 0 (count_of s)
   between_all =
@@ -77,11 +82,11 @@ module _ (s name : List ℕ) (bytes : Bytes s) (well : check_of s ≡ Ok tt) whe
 
   module _ (low high : ℕ) (b : Between s name low high) where
     -- none is left between
-    pub stops_between : (at : ℕ) → high ≤ low → Stops s name (record { at = at; left = count_of s - low; found = false })
-    stops_between at h =
+    pub stops_between : high ≤ low → Stops s name (record { below = low; found = None })
+    stops_between h =
         let e : low ≡ high = omega (arith, b.order) in
         let w : low ≤ count_of s = omega (arith, b.within) in
-        parted_none s name (count_of s - low) (drop low (starts_of s)) (parted low w b.below) (rising_rest s low (starts_of s) rises) at (rw e b.above)
+        parted_none s name low (drop low (starts_of s)) (parted low w b.below) (rising_rest s low (starts_of s) rises) (rw e b.above)
 
     -- a field between: that in the middle, or the first
     module _ (mid : ℕ) (least : low ≤ mid) (most : mid < high) (starts : List ℕ) (indexed : Indexed s starts) where
@@ -123,8 +128,8 @@ module _ (s name : List ℕ) (bytes : Bytes s) (well : check_of s ≡ Ok tt) whe
       pub to-mid : before_of name (name_at s at) ≡ true → Between s name low mid
       to-mid e = record { order = omega arith; within = omega (arith, counted); below = b.below; above = rw (drop-cons (starts_of s) mid 0 has) (rw is-start at e) }
 
-      pub stops-mid : name_at s at ≡ name → Stops s name (record { at = at; left = count_of s - mid; found = true })
+      pub stops-mid : name_at s at ≡ name → Stops s name (record { below = mid; found = Some at })
       stops-mid e =
           let n : name_at s start ≡ name = rw is-start at e in
           let p = parted mid (omega (arith, counted)) (ap (λ (t : List ℕ). all_before (map (field_at s) (take mid (starts_of s))) t) (sym n) ∙ before-start) in
-          rw is-start (parted_same s name (count_of s - mid) (drop mid (starts_of s)) p (rising_rest s mid (starts_of s) rises) start (drop (suc mid) (starts_of s)) (drop-cons (starts_of s) mid 0 has) start_right n)
+          rw is-start (parted_same s name mid (drop mid (starts_of s)) p (rising_rest s mid (starts_of s) rises) start (drop (suc mid) (starts_of s)) (drop-cons (starts_of s) mid 0 has) start_right n)

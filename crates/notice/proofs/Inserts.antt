@@ -1,5 +1,5 @@
 -- A field at its name's place: in the list of fields, and in the bytes. Assumes nothing.
-use Rattle.std.specs.Prelude.{Option as Optional, Some, None}
+use Rattle.std.specs.Prelude.{Some, None, is_some}
 use Rattle.std.proofs.Common.{◌≡◌, ℕ, suc, ◌+◌, ◌-◌, ◌<◌, ◌≤◌, Bool, true, false, not, ◌&&◌, ◌||◌, ltb, leb, List, [], ◌∷◌, ◌++◌, map, length, take, drop, sym, refl, ap, ◌∙◌, ap₂, append_assoc, append-nil, arith, length-append, length-drop, take-append-drop, length-take-le, drop-drop, take_at, drop_at, ltb-true, leb-true}
 use lib.Seq.{sets}
 use borrow.Author.Tests.{not-true}
@@ -9,7 +9,6 @@ use Rattle.word.specs.Word.{word_bytes, Bytes}
 use Rattle.word.proofs.Laws.{length_word_bytes}
 use Rattle.octets.specs.Octets.{same_of, before_of}
 use Rattle.octets.proofs.Theorems.{and_parts}
-use Rattle.notice.specs.declared.FoundField.{FoundField}
 use Rattle.notice.specs.Field.{Field, name_right, size_right, field_right, all_right}
 use Rattle.notice.specs.Render.{field_bytes, fields_bytes, header_bytes, render}
 use Rattle.notice.specs.Layout.{unless, name_at, field_at, count_of, starts_from, starts_of, fields_of}
@@ -21,16 +20,12 @@ use Rattle.notice.proofs.Fields.{Small, right_small, length_field, field_read, n
 use Rattle.notice.proofs.Renders.{length_header, length_render, well_header, well_starts, well_count, well_render, well_fields}
 
 -- lookup finds a name exactly if a field has it
-abbrev is_found : Optional FoundField → Bool
-is_found None = false
-is_found (Some r) = true
-
-found_named : (s name ats : List ℕ) → has_name name (map (field_at s) ats) ≡ is_found (lookup_in s name ats)
+found_named : (s name ats : List ℕ) → has_name name (map (field_at s) ats) ≡ is_some (lookup_in s name ats)
 found_named s name [] = refl
 found_named s name (at ∷ ats) = go (same_of (name_at s at) name) (found_named s name ats)
   where
-    go : (b : Bool) → has_name name (map (field_at s) ats) ≡ is_found (lookup_in s name ats)
-        → (b || has_name name (map (field_at s) ats)) ≡ is_found (pick b (λ _. Some (found_at s at)) (λ _. lookup_in s name ats))
+    go : (b : Bool) → has_name name (map (field_at s) ats) ≡ is_some (lookup_in s name ats)
+        → (b || has_name name (map (field_at s) ats)) ≡ is_some (pick b (λ _. Some (found_at s at)) (λ _. lookup_in s name ats))
     go true e = refl
     go false e = e
 
@@ -51,14 +46,14 @@ module _ (s : List ℕ) (room : ℕ) (f : Field) where
       pub small_parts : Small f
       small_parts = right_small f (ap₂ (λ (a b : Bool). a && b) p q)
 
-      pub present : (r : FoundField) → lookup_of s f.name ≡ Some r → 14 ≡ refusal_in s room f
-      present r e =
-          let h : has_name f.name (fields_of s) ≡ true = found_named s f.name (starts_of s) ∙ ap is_found e in
+      pub present : is_some (lookup_of s f.name) ≡ true → 14 ≡ refusal_in s room f
+      present e =
+          let h : has_name f.name (fields_of s) ≡ true = found_named s f.name (starts_of s) ∙ e in
           rw (p, q, h)
 
-      module _ (e : lookup_of s f.name ≡ None) where
+      module _ (e : is_some (lookup_of s f.name) ≡ false) where
         absent : has_name f.name (fields_of s) ≡ false
-        absent = found_named s f.name (starts_of s) ∙ ap is_found e
+        absent = found_named s f.name (starts_of s) ∙ e
 
         pub no_room : has_room (count_of s) (length s + field_size f) room ≡ false → 15 ≡ refusal_in s room f
         no_room h = rw (p, q, absent, h)

@@ -7,7 +7,7 @@ use Rattle.common.specs.Choice.{pick}
 use Rattle.octets.specs.Octets.{before_of}
 use Rattle.octets.proofs.Theorems.{and_parts}
 use Rattle.refusal.specs.declared.Refusal.TheVariants.{Notice}
-use Rattle.notice.specs.declared.Written.{Written}
+use Rattle.notice.specs.Write.{WriteAnswer}
 use Rattle.notice.specs.Field.{Field, before_first, rising, field_right}
 use Rattle.notice.specs.Layout.{name_at, next_at, field_at, lies_at, right_at, count_of, header_right, check_from, check_of, starts_from, fields_of}
 use Rattle.notice.specs.Lookup.{field_named}
@@ -58,9 +58,9 @@ keeps f g (h ∷ hs) m = go (before_of f.name h.name) (Memᴰ.cases_cons m) (kee
 pub write_more : WriteMore
 write_more b len name kind value bytes w e =
     let f = field kind name value in
-    let z : (written_of b len f).number ≡ 0 = sym (ap (λ (x : Written). x.number) w.promise.0) ∙ e in
+    let z : (written_of b len f).number ≡ 0 = sym (ap (λ (x : WriteAnswer). x.number) w.promise.0) ∙ e in
     let same : take w.answer.len w.after ≡ take (written_of b len f).len (written_bytes b len f) =
-    ap₂ (λ (x : Written) (d : List ℕ). take x.len d) w.promise.0 w.promise.1 in
+    ap₂ (λ (x : WriteAnswer) (d : List ℕ). take x.len d) w.promise.0 w.promise.1 in
     let a = write_adds b len f bytes z in
     record {
       first_right = (number_zero b len f z).well;

@@ -1,5 +1,6 @@
 -- Names: by their lengths, by words and byte by byte, with the turns and ends of the loops. Assumes nothing.
-use Rattle.std.proofs.Common.{◌≡◌, ℕ, zero, suc, ◌+◌, ◌-◌, ◌*◌, ◌/◌, ◌%◌, ◌^◌, ◌<◌, ◌≤◌, Bool, true, false, ◌&&◌, leb, List, [], ◌∷◌, ◌++◌, length, get_or, take, drop, sym, refl, ap, ◌∙◌, ap₂, mul_assoc, mul_comm, pow-suc, add-one, arith, length-drop, take-append-drop, drop_of_length-le, take_all, drop-cons, take-add, le-leb}
+use Rattle.std.specs.Prelude.{All, IsTrue, ◌↔◌}
+use Rattle.std.proofs.Common.{◌≡◌, ℕ, zero, suc, ◌+◌, ◌-◌, ◌*◌, ◌/◌, ◌%◌, ◌^◌, ◌<◌, ◌≤◌, Bool, true, false, ◌&&◌, leb, List, [], ◌∷◌, ◌++◌, length, get_or, take, drop, sym, refl, ap, ◌∙◌, ap₂, mul_assoc, mul_comm, pow-suc, add-one, arith, length-drop, take-append-drop, drop_of_length-le, take_all, drop-cons, take-add, le-leb, leb-true}
 use mathlib.Core.Bool.{and_assoc}
 use native.Mathlib.Nat.{pow-zero}
 use borrow.Author.Tests.{lt-leb}
@@ -51,18 +52,30 @@ word_bytes_lem k at s b h = ap printable (read_bytes_lem k at s b h)
 pub end_word : (k at : ℕ) (s : List ℕ) → Bytes s → at + k ≡ length s → printable (word_bytes k (word_at k s at)) ≡ printable (drop at s)
 end_word k at s b h = word_bytes_lem k at s b (omega arith) ∙ ap printable (take_all k (drop at s) (simp length-drop (omega arith)))
 
-module _ (s : List ℕ) (i : ℕ) where
-  pub low_byte : i < length s → get_or s i 0 < 32 → false ≡ printable (drop i s)
-  low_byte h l = rw (drop-cons s i 0 h, lt-leb 32 (get_or s i 0) l)
+-- the bytes one by one
+abbrev Printable : List ℕ → Type 0
+Printable s = All (λ b. (32 ≤ b) × (b ≤ 126)) s
 
-  pub high_byte : i < length s → 32 ≤ get_or s i 0 → 126 < get_or s i 0 → false ≡ printable (drop i s)
-  high_byte h l m = rw (drop-cons s i 0 h, le-leb 32 (get_or s i 0) l, lt-leb (get_or s i 0) 126 m)
+each : (s : List ℕ) → printable s ≡ true → Printable s
+each [] e k d h = absurd (omega arith)
+each (b ∷ s) e zero d h =
+    let p = and_parts (leb 32 b) (leb b 126) (and_parts (leb 32 b && leb b 126) (printable s) e).0 in
+    (leb-true 32 b p.0, leb-true b 126 p.1)
+each (b ∷ s) e (suc k) d h = each s (and_parts (leb 32 b && leb b 126) (printable s) e).1 k d (omega arith)
 
-  pub right_byte : i < length s → 32 ≤ get_or s i 0 → get_or s i 0 ≤ 126 → printable (drop (i + 1) s) ≡ printable (drop i s)
-  right_byte h l m = rw (add-one, drop-cons s i 0 h, le-leb 32 (get_or s i 0) l, le-leb (get_or s i 0) 126 m)
+whole : (s : List ℕ) → Printable s → printable s ≡ true
+whole [] a = refl
+whole (b ∷ s) a =
+    let p = a 0 0 (omega arith) in
+    rw (le-leb 32 b p.0, le-leb b 126 p.1) (whole s (λ k d h. a (suc k) d (omega arith)))
 
-  pub all_right : length s ≤ i → true ≡ printable (drop i s)
-  all_right h = rw (drop_of_length-le s h)
+pub by_each : (s : List ℕ) (r : Bool) → IsTrue r ↔ Printable s → r ≡ printable s
+by_each s true e = sym (whole s (e.0 refl))
+by_each s false e = go (printable s) refl
+  where
+    go : (b : Bool) → printable s ≡ b → false ≡ printable s
+    go true p = e.1 (each s p) ∙ sym p
+    go false p = sym p
 
 -- a word with no byte left out, as `word_right` tells it
 pub whole_word : (x : ℕ) (r : Bool) → x < 256 ^ 8 → ((y : ℕ) → x ≡ y * 256 ^ 0 → y < 256 ^ (8 - 0) → r ≡ printable (word_bytes (8 - 0) y)) → r ≡ printable (word_bytes 8 x)

@@ -10,7 +10,7 @@ use Rattle.refusal.specs.declared.Refusal.{Refusal}
 use Rattle.refusal.proofs.Numbers.{not_zero}
 use Rattle.refusal.specs.Refusal.{number_of as refusal_number, place_of as refusal_place}
 use Rattle.notice.specs.Layout.{Layout}
-use Rattle.notice.specs.declared.Place.{Place}
+use Rattle.notice.specs.Read.{PlaceAnswer}
 use Rattle.notice.specs.Field.{Field}
 use Rattle.notice.specs.Layout.{kind_at, name_size_at, value_size_at, next_at, value_start, field_at, lies_at, length_right, count_of, check_of, starts_from, starts_of}
 use Rattle.notice.specs.Read.{part_of, read_number, read_place, blank, read_field, locate_at, nowhere, locate_of, Located}
@@ -100,7 +100,7 @@ module _ (s : List ℕ) (k : ℕ) (h : k < length (starts_of s)) where
       ap (λ (j : ℕ). drop j (starts_of s)) (add-one i) ∙ (t ∙ ap (λ (j : ℕ). starts_from j s (next_at s at)) n)
 
 pub same_place : (s : List ℕ) (at kind value end : ℕ) → kind ≡ kind_at s at → value ≡ value_start s at → end ≡ next_at s at
-    → ◌≡◌ {A = Place} (record { number = 0; place = 0; kind = kind; name = at + 5; value = value; end = end }) (locate_at s at)
+    → ◌≡◌ {A = PlaceAnswer} (record { number = 0; place = 0; kind = kind; name = at + 5; value = value; end = end }) (locate_at s at)
 same_place s at kind value end p q r = λ i. record { number = 0; place = 0; kind = p i; name = at + 5; value = q i; end = r i }
 
 -- what `locate` answers, case by case
@@ -115,6 +115,9 @@ module _ (s : List ℕ) (bytes : Bytes s) (k : ℕ) where
     module _ (h : k < count_of s) where
       pub has-start : k < length (starts_of s)
       has-start = omega (arith, well_count s bytes e, length-map (starts_of s) (field_at s))
+
+      pub lies_by : {at : ℕ} → at ≡ get_or (starts_of s) k 0 → Lies s at
+      lies_by p = rw p (lies_true s (get_or (starts_of s) k 0) (start_lies s k has-start))
 
       pub located : locate_at s (get_or (starts_of s) k 0) ≡ locate_of s k
       located = rw (e, lt-ltb k (count_of s) h)
@@ -168,5 +171,5 @@ module _ (s : List ℕ) (bytes : Bytes s) (k : ℕ) where
       by_layout (Ok u) e = by_count e (ltb k (count_of s)) refl
       by_layout (Err r) e = no_parts_lem (refusal_number r) (refusal_place r) (at_fault r e) (rw e) (rw e) (rw (e, not_zero r))
 
-  pub is_located : (p : Place) → p ≡ locate_of s k → Located s k p
+  pub is_located : (p : PlaceAnswer) → p ≡ locate_of s k → Located s k p
   is_located p e = rw e parts

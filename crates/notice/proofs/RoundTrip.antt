@@ -5,7 +5,7 @@ use mathlib.Core.List.{Permᴰ}
 use lib.ListN.{get_or-append}
 use lib.Seq.{drop-length, get_or-append_seam}
 use Rattle.word.specs.Word.{Bytes}
-use Rattle.notice.specs.declared.Written.{Written}
+use Rattle.notice.specs.Write.{WriteAnswer}
 use Rattle.notice.specs.Field.{Field}
 use Rattle.notice.specs.Layout.{count_of, check_of, fields_of}
 use Rattle.notice.specs.Read.{blank, read_field}
@@ -65,9 +65,9 @@ module _ (s : List ℕ) (bytes : Bytes s) (well : check_of s ≡ Ok tt) where
       let f = field_answered r in
       let a : call.answer ≡ written_of b len (read_field s k) = call.promise.0 ∙ ap (written_of b len) f in
       let p : call.after ≡ written_bytes b len (read_field s k) = call.promise.1 ∙ ap (written_bytes b len) f in
-      let n : call.answer.len ≡ (written_of b len (read_field s k)).len = ap (λ (x : Written). x.len) a in
+      let n : call.answer.len ≡ (written_of b len (read_field s k)).len = ap (λ (x : WriteAnswer). x.len) a in
       let ih = copied ks call.after call.answer.len d m h.1 (rw (p, n) w.1) after after_len c.2 in
-      (((gives s k well h.0 r).0, ap (λ (x : Written). x.number) a ∙ w.0, ih.0), ih.1, ih.2)
+      (((gives s k well h.0 r).0, ap (λ (x : WriteAnswer). x.number) a ∙ w.0, ih.0), ih.1, ih.2)
 
 pub read_written_again : ReadWrittenAgain
 read_written_again s bytes well ks perm b e room after after_len c =
@@ -120,9 +120,9 @@ reads_back old new f bytes well well' count e =
 pub written_read_back : WrittenReadBack
 written_read_back b len name kind value bytes w e =
     let f = field kind name value in
-    let z : (written_of b len f).number ≡ 0 = sym (ap (λ (x : Written). x.number) w.promise.0) ∙ e in
+    let z : (written_of b len f).number ≡ 0 = sym (ap (λ (x : WriteAnswer). x.number) w.promise.0) ∙ e in
     let same : take (written_of b len f).len (written_bytes b len f) ≡ take w.answer.len w.after =
-    ap₂ (λ (x : Written) (d : List ℕ). take x.len d) (sym w.promise.0) (sym w.promise.1) in
+    ap₂ (λ (x : WriteAnswer) (d : List ℕ). take x.len d) (sym w.promise.0) (sym w.promise.1) in
     let l = left_by b len f bytes z in
     let a = write_adds b len f bytes z in
     let count : count_of (take w.answer.len w.after) ≡ length (fields_of (take w.answer.len w.after)) =

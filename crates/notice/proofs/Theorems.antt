@@ -12,7 +12,7 @@ use Rattle.octets.proofs.Theorems.{and_parts, same, before_irreflexive, before_t
 use Rattle.refusal.specs.declared.Refusal.TheVariants.{Notice}
 use Rattle.refusal.proofs.Numbers.{refuses}
 use Rattle.notice.specs.Layout.{Layout}
-use Rattle.notice.specs.declared.Written.{Written}
+use Rattle.notice.specs.Write.{WriteAnswer}
 use Rattle.notice.specs.Field.{Field, all_right, before_first, rising}
 use Rattle.notice.specs.Render.{fields_bytes, render, NoticeFields}
 use Rattle.notice.specs.Layout.{next_at, name_at, field_at, lies_at, count_of, check_of, starts_from, fields_of, header_right, stands_at, check_from, place_of}
@@ -265,7 +265,7 @@ left_by b len f bytes e =
       fits = omega (arith, a.fits);
     } in
     let w = added b len f ins.within ins.well ins.accepted in
-    let m : (written_of b len f).len ≡ len + field_size f = ap (λ (x : Written). x.len) (sym w.0) in (
+    let m : (written_of b len f).len ≡ len + field_size f = ap (λ (x : WriteAnswer). x.len) (sym w.0) in (
       added_fields fs f (length b) t,
       ap₂ (λ (k : ℕ) (d : List ℕ). take k d) m (sym w.1)
           ∙ take_at (render (insert_field f fs)) (drop (len + field_size f) b) (len + field_size f) (omega (arith, added_length fs f)),

@@ -4,7 +4,7 @@ use Rattle.std.proofs.Common.{◌≡◌, ℕ, ◌+◌, ◌<◌, ◌≤◌, true,
 use lib.Seq.{drop-append-add}
 use borrow.Author.Tests.{not-true}
 use Rattle.octets.proofs.Theorems.{and_parts}
-use Rattle.notice.specs.declared.Written.{Written}
+use Rattle.notice.specs.Write.{WriteAnswer}
 use Rattle.notice.specs.Field.{Field, name_right, size_right, field_right, all_right}
 use Rattle.notice.specs.Render.{field_bytes, fields_bytes, render, NoticeFields}
 use Rattle.notice.specs.Layout.{count_of, check_of, fields_of}
@@ -90,9 +90,9 @@ writes_all (g ∷ gs) fs b ok r n few short fits =
     let w = one_more fs g (over fs b) t (take_at (render fs) (drop (length (render fs)) b) (length (render fs)) refl) in
     let a = added_length fs g in
     let ih = writes_all gs (insert_field g fs) b (added_fields fs g (length (over fs b)) t) p.1 (fresh_inserted g gs fs q.1) (omega (arith, insert_length g fs)) (omega arith) (omega arith) in (
-      ap (λ (x : Written). x.number) (sym w.0),
+      ap (λ (x : WriteAnswer). x.number) (sym w.0),
       next (written_bytes (over fs b) (length (render fs)) g) (written_of (over fs b) (length (render fs)) g).len
-          (sym w.1 ∙ over_again fs g b) (ap (λ (x : Written). x.len) (sym w.0) ∙ sym a) ih,
+          (sym w.1 ∙ over_again fs g b) (ap (λ (x : WriteAnswer). x.len) (sym w.0) ∙ sym a) ih,
     )
   where
     next : (d : List ℕ) (m : ℕ) → d ≡ over (insert_field g fs) b → m ≡ length (render (insert_field g fs))

@@ -3,7 +3,7 @@
 use Rattle.std.specs.Prelude.{◌≡◌, ℕ, zero, suc, ◌+◌, ◌<◌, ◌≤◌, List, [], ◌∷◌, ◌++◌, length, take, drop, Ok}
 use mathlib.Core.List.{Permᴰ}
 use Rattle.word.specs.Word.{Bytes}
-use Rattle.notice.specs.declared.Written.{Written}
+use Rattle.notice.specs.Write.{WriteAnswer}
 use Rattle.notice.specs.Field.{Field}
 use Rattle.notice.specs.Render.{render}
 use Rattle.notice.specs.Layout.{count_of, check_of}
@@ -21,7 +21,7 @@ pub record ReadCall (s : List ℕ) (k : ℕ) : Type 0 where
 
 -- A call of `write(buffer, len, name, kind, value)`: what it answers, the buffer after it, and its promise.
 pub record WriteCall (buffer : List ℕ) (len : ℕ) (name : List ℕ) (kind : ℕ) (value : List ℕ) : Type 0 where
-  pub answer : Written
+  pub answer : WriteAnswer
   pub after : List ℕ
   pub promise : WriteIs buffer len (field kind name value) answer after
 

@@ -1,5 +1,5 @@
 -- Writing: "Writing adds one field, at its name's place, to a notice at the start of a lent buffer whose length the caller names; the bytes after the new notice stay."
-use Rattle.std.specs.Prelude.{◌≡◌, ℕ, suc, ◌+◌, ◌≤◌, Bool, false, cond, not, ◌&&◌, ◌||◌, List, [], ◌∷◌, ◌++◌, length, take, drop, ◌==◌, nat_le, nat_lt, Ok, Err}
+use Rattle.std.specs.Prelude.{◌≡◌, ℕ, suc, ◌+◌, ◌≤◌, Bool, false, cond, not, ◌&&◌, ◌||◌, List, [], ◌∷◌, ◌++◌, length, take, drop, ◌==◌, nat_le, nat_lt, Result, Ok, Err}
 use Rattle.common.specs.Choice.{pick}
 use Rattle.octets.specs.Octets.{same_of, before_of}
 use Rattle.refusal.specs.declared.Refusal.TheVariants.{Notice}
@@ -7,7 +7,8 @@ use Rattle.notice.specs.Field.{Field, name_right, size_right}
 use Rattle.notice.specs.Render.{render}
 use Rattle.notice.specs.Layout.{unless, name_at, count_of, check_of, number_of, place_of, starts_of, fields_of}
 use Rattle.notice.specs.Layout.{Layout}
-use Rattle.notice.specs.declared.Written.{Written}
+use Rattle.refusal.specs.declared.Refusal.{Refusal}
+use Rattle.refusal.specs.Refusal.{number_of as refusal_number, place_of as refusal_place}
 
 abbrev pub field : ℕ → List ℕ → List ℕ → Field
 field kind name value = record { kind = kind; name = name; value = value }
@@ -80,7 +81,16 @@ abbrev pub inserted_bytes : List ℕ → ℕ → Field → List ℕ
 inserted_bytes buffer len f = render (insert_field f (fields_of (take len buffer))) ++ drop (len + field_size f) buffer
 
 -- "writing answers number, place and the new length, or the old one if refused"
-abbrev pub written_of : List ℕ → ℕ → Field → Written
+pub record WriteAnswer : Type 0 where
+  pub number : ℕ
+  pub place : ℕ
+  pub len : ℕ
+
+abbrev pub write_answer : ℕ → Result ℕ Refusal → WriteAnswer
+write_answer len (Ok n) = record { number = 0; place = 0; len = n }
+write_answer len (Err r) = record { number = refusal_number r; place = refusal_place r; len = len }
+
+abbrev pub written_of : List ℕ → ℕ → Field → WriteAnswer
 written_of buffer len f = record {
   number = refusal_of buffer len f;
   place = place_of (layout_in buffer len);
@@ -92,7 +102,7 @@ abbrev pub written_bytes : List ℕ → ℕ → Field → List ℕ
 written_bytes buffer len f = pick (refusal_of buffer len f == 0) (λ _. inserted_bytes buffer len f) (λ _. buffer)
 
 -- what writing a field answers, and the bytes of the buffer with it
-abbrev pub WriteIs : List ℕ → ℕ → Field → Written → List ℕ → Type 0
+abbrev pub WriteIs : List ℕ → ℕ → Field → WriteAnswer → List ℕ → Type 0
 WriteIs buffer len f answer after = (answer ≡ written_of buffer len f) × (after ≡ written_bytes buffer len f)
 
 -- fields written one after the other, none refused, from a buffer and a length to a buffer and a length

@@ -5,7 +5,7 @@ ghost use Rattle.std.specs.Prelude.{◌≡◌, ◌≤◌, true, [], length};
 ghost use Rattle.std.proofs.lemmas.List.Edits.{sets};
 ghost use Rattle.notice.specs.Layout.{header_right, count_of, check_from, check_of, right_at, stood_from, stood_of, Indexed};
 ghost use Rattle.notice.specs.Lookup.{found_at, lookup_of};
-ghost use Rattle.notice.specs.Search.{find_of};
+ghost use Rattle.notice.specs.Search.{find_answer, find_of};
 
 mod field;
 mod name;
@@ -15,6 +15,7 @@ mod search;
 mod writing;
 
 pub use field::{field_size, name_size, size_right, stands};
+use field::{next_at, value_at};
 pub use name::name_right;
 use order::{follows, key_at};
 pub use reading::{kind_of, locate, name_of, part, read, value_of};
@@ -30,61 +31,39 @@ pub struct FoundField {
     pub len: u16,
 }
 
-// What finding a name answers: document 01's number and place, the field's index, 64 if there is no such field, and how many names were looked at.
-#[derive(Drop)]
+// What finding a name answers: the field's index, and how many names were looked at.
+#[derive(Clone, Copy)]
 pub struct Sought {
-    pub number: u8,
-    pub place: usize,
-    pub index: usize,
+    pub index: Option<usize>,
     pub looked: usize,
 }
 
-// Where field k lies, with document 01's number and place: its name, its value after the name, and its end.
-#[derive(Drop)]
+// Where field k lies: its name, its value after the name, and its end.
+#[derive(Clone, Copy)]
 pub struct Place {
-    pub number: u8,
-    pub place: usize,
     pub kind: u16,
     pub name: usize,
     pub value: usize,
     pub end: usize,
 }
 
-// What reading field k answers: document 01's number and place, the field's kind, and its name and value as parts of the notice.
-#[derive(Drop)]
+// What reading field k answers: its kind, and its name and value as parts of the notice.
+#[derive(Clone, Copy)]
 pub struct FieldParts<'a> {
-    pub number: u8,
-    pub place: usize,
     pub kind: u16,
     pub name: &'a [u8],
     pub value: &'a [u8],
-}
-
-// What writing answers: document 01's number and place, and the notice's length afterwards.
-#[derive(Drop)]
-pub struct Written {
-    pub number: u8,
-    pub place: usize,
-    pub len: usize,
 }
 
 fn header_right(notice: &[u8]) -> bool
     ensures { result ≡ header_right notice.now }
 {
     let n = notice.len();
-    if n < 8 {
+    if (n < 8) | (16384 < n) {
         return false;
     }
-    if 16384 < n {
-        return false;
-    }
-    if 4 + word::read_u32(notice, 0) as usize != n {
-        return false;
-    }
-    if word::read_u16(notice, 4) != 1 {
-        return false;
-    }
-    word::read_u16(notice, 6) <= 64
+    let whole = 4 + word::read_u32(notice, 0) as usize == n;
+    whole & ((word::read_u16(notice, 4) == 1) & (word::read_u16(notice, 6) <= 64))
 }
 
 // The fields in order, each name after the last one, and nothing after them. It leaves the start of each field that stands.
@@ -94,21 +73,18 @@ fn check_fields(notice: &[u8], starts: &mut [u16; 64]) -> Result<(), Refusal>
     ensures starts_after { starts.new ≡ sets starts.old 0 (stood_from (count_of notice.now) [] notice.now 8) }
 {
     let n = word::read_u16(notice, 6) as usize;
-    let mut i = 0;
     let mut at = 8;
     let mut last = 0;
     let mut last_key: u64 = 0;
-    while i < n {
+    for i in 0..n {
         let key = key_at(notice, at);
-        if follows(notice, last, last_key, at, key) {
-            last = at;
-            last_key = key;
-            starts[i] = at as u16;
-            at = at + 2 + field_size(notice, at);
-            i += 1;
-        } else {
+        if !follows(notice, last, last_key, at, key) {
             return Err(Refusal::Notice(at));
         }
+        last = at;
+        last_key = key;
+        starts[i] = at as u16;
+        at = next_at(notice, at);
     }
     if at == notice.len() {
         Ok(())
@@ -141,12 +117,11 @@ fn found_at(notice: &[u8], at: usize) -> FoundField
     requires { (length notice.now ≤ 16384) × (right_at notice.now at ≡ true) }
     ensures { result ≡ found_at notice.now at }
 {
-    let value = at + 5 + name_size(notice, at);
-    let next = at + 2 + field_size(notice, at);
+    let value = value_at(notice, at);
     FoundField {
         kind: word::read_u16(notice, at + 2),
         start: value as u16,
-        len: (next - value) as u16,
+        len: (next_at(notice, at) - value) as u16,
     }
 }
 
@@ -155,11 +130,10 @@ pub fn lookup(notice: &[u8], name: &[u8]) -> Option<FoundField>
     requires { check_of notice.now ≡ Ok tt }
     ensures { result ≡ lookup_of notice.now name.now }
 {
-    let stop = search(notice, name);
-    if stop.found {
-        return Some(found_at(notice, stop.at));
+    match search(notice, name).found {
+        Some(at) => Some(found_at(notice, at)),
+        None => None,
     }
-    None
 }
 
 // The same for a caller who has the starts of its fields, by halving.
@@ -167,11 +141,10 @@ pub fn lookup_in(notice: &[u8], starts: &[u16; 64], name: &[u8]) -> Option<Found
     requires { (check_of notice.now ≡ Ok tt) × Indexed notice.now starts.now }
     ensures { result ≡ lookup_of notice.now name.now }
 {
-    let stop = halved(notice, starts, name);
-    if stop.found {
-        return Some(found_at(notice, stop.at));
+    match halved(notice, starts, name).found {
+        Some(at) => Some(found_at(notice, at)),
+        None => None,
     }
-    None
 }
 
 // The same for such a caller outside the run, in order: a second caller of `lookup_in` would make it a call in the run's loop.
@@ -179,25 +152,16 @@ pub fn lookup_along(notice: &[u8], starts: &[u16; 64], name: &[u8]) -> Option<Fo
     requires { (check_of notice.now ≡ Ok tt) × Indexed notice.now starts.now }
     ensures { result ≡ lookup_of notice.now name.now }
 {
-    let stop = walked(notice, starts, name);
-    if stop.found {
-        return Some(found_at(notice, stop.at));
+    match walked(notice, starts, name).found {
+        Some(at) => Some(found_at(notice, at)),
+        None => None,
     }
-    None
 }
 
 // The index of a name's field and the names looked at, for any bytes: 11 with its place if they are no notice.
-pub fn find(notice: &[u8], name: &[u8]) -> Sought
-    ensures { result ≡ find_of notice.now name.now }
+pub fn find(notice: &[u8], name: &[u8]) -> Result<Sought, Refusal>
+    ensures { find_answer result ≡ find_of notice.now name.now }
 {
-    let layout = check(notice);
-    match layout {
-        Ok(()) => sought(notice, name),
-        Err(r) => Sought {
-            number: r.number(),
-            place: r.place(),
-            index: 64,
-            looked: 0,
-        },
-    }
+    check(notice)?;
+    Ok(sought(notice, name))
 }

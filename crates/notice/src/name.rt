@@ -1,5 +1,5 @@
 // A name by itself: "u8 name length 1..64; name (bytes 32..126)". Eight bytes at once are judged where the name has as many.
-ghost use Rattle.std.specs.Prelude.{◌≡◌, ℕ, ◌-◌, ◌*◌, ◌^◌, ◌<◌, ◌≤◌, length};
+ghost use Rattle.std.specs.Prelude.{◌≡◌, ℕ, ◌-◌, ◌*◌, ◌^◌, ◌<◌, ◌≤◌, ◌↔◌, length, All, IsTrue};
 ghost use Rattle.word.specs.Word.{word_bytes};
 ghost use Rattle.notice.specs.Field.{printable, name_right};
 
@@ -43,36 +43,18 @@ fn halves_right(name: &[u8]) -> bool
 }
 
 fn bytes_right(name: &[u8]) -> bool
-    ensures { result ≡ printable name.now }
+    ensures { IsTrue result ↔ All (λ b. (32 ≤ b) × (b ≤ 126)) name.now }
 {
-    let mut i = 0;
-    while i < name.len() {
-        let b = name[i];
-        if b < 32 {
-            return false;
-        }
-        if 126 < b {
-            return false;
-        }
-        i += 1;
-    }
-    true
+    name.iter().all(|b| (32 <= *b) & (*b <= 126))
 }
 
 pub fn name_right(name: &[u8]) -> bool
     ensures { result ≡ name_right name.now }
 {
-    if name.len() == 0 {
-        return false;
+    match name.len() {
+        1..=3 => bytes_right(name),
+        4..=7 => halves_right(name),
+        8..=64 => words_right(name),
+        _ => false,
     }
-    if 64 < name.len() {
-        return false;
-    }
-    if 8 <= name.len() {
-        return words_right(name);
-    }
-    if 4 <= name.len() {
-        return halves_right(name);
-    }
-    bytes_right(name)
 }

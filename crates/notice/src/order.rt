@@ -3,7 +3,7 @@ ghost use Rattle.std.specs.Prelude.{◌≡◌, ◌+◌, ◌≤◌, length, take,
 ghost use Rattle.notice.specs.Layout.{stands_at};
 ghost use Rattle.notice.specs.Key.{right_key, key_at, last_name_at, Last};
 
-use crate::field::{field_size, lies, name_size, size_right};
+use crate::field::{field_size, lies, name_at, name_size, size_right};
 use crate::name::{word_right, words_right};
 
 // The key of a name of n bytes at `at`, or 0 if it is not right. A short one is read with bytes before it, which the shift drops; its key is judged in place of its bytes.
@@ -34,16 +34,11 @@ fn key_of(notice: &[u8], at: usize, n: usize) -> u64
     requires { (8 ≤ at) × (at + n ≤ length notice.now) }
     ensures { result ≡ right_key (take n (drop at notice.now)) }
 {
-    if n == 0 {
-        return 0;
+    match n {
+        1..=8 => short_key(notice, at, n),
+        9..=64 => long_key(notice, at, n),
+        _ => 0,
     }
-    if n <= 8 {
-        return short_key(notice, at, n);
-    }
-    if n <= 64 {
-        return long_key(notice, at, n);
-    }
-    0
 }
 
 // The key of the name of the field at `at`, or 0 if no field that is right by itself starts there.
@@ -75,9 +70,5 @@ pub(crate) fn follows(notice: &[u8], last: usize, last_key: u64, at: usize, key:
     if key == 0 {
         return false;
     }
-    let s = last + 5;
-    let s_end = s + name_size(notice, last);
-    let t = at + 5;
-    let t_end = t + name_size(notice, at);
-    octets::before(&notice[s..s_end], false, &notice[t..t_end], false)
+    octets::before(name_at(notice, last), false, name_at(notice, at), false)
 }

@@ -1,23 +1,12 @@
 // Reading field k: its kind, and its name and value as parts of the notice.
-ghost use Rattle.std.specs.Prelude.{◌≡◌, ◌<◌, length, slice_index};
+ghost use Rattle.std.specs.Prelude.{◌≡◌, ◌<◌, [], length, slice_index, MatchResult};
+ghost use Rattle.refusal.specs.Refusal.{number_of, place_of};
 ghost use Rattle.notice.specs.Layout.{starts_of};
-ghost use Rattle.notice.specs.Read.{part_of, nowhere as nowhereOf, read_field, Located, ReadIs};
+ghost use Rattle.notice.specs.Read.{part_of, place_answer, read_field, Located, ReadIs};
 
-use crate::field::{field_size, name_size};
+use crate::field::{next_at, value_at};
 use crate::{FieldParts, Place, check};
-
-fn nowhere(number: u8, place: usize) -> Place
-    ensures { result ≡ nowhereOf number place }
-{
-    Place {
-        number,
-        place,
-        kind: 0,
-        name: 0,
-        value: 0,
-        end: 0,
-    }
-}
+use refusal::Refusal;
 
 // The start of field k.
 fn field_start(notice: &[u8], k: usize) -> usize
@@ -25,37 +14,27 @@ fn field_start(notice: &[u8], k: usize) -> usize
     ensures { result ≡ slice_index (starts_of notice.now) k }
 {
     let mut at = 8;
-    let mut i = 0;
-    while i < k {
-        at = at + 2 + field_size(notice, at);
-        i += 1;
+    for _ in 0..k {
+        at = next_at(notice, at);
     }
     at
 }
 
 // Where field k lies, or the refusal.
-pub fn locate(notice: &[u8], k: usize) -> Place
-    ensures { Located notice.now k result }
+pub fn locate(notice: &[u8], k: usize) -> Result<Place, Refusal>
+    ensures { Located notice.now k (place_answer result) }
 {
-    let layout = check(notice);
-    match layout {
-        Err(r) => nowhere(r.number(), r.place()),
-        Ok(()) => {
-            if word::read_u16(notice, 6) as usize <= k {
-                return nowhere(17, 0);
-            }
-            let at = field_start(notice, k);
-            let name = at + 5;
-            Place {
-                number: 0,
-                place: 0,
-                kind: word::read_u16(notice, at + 2),
-                name,
-                value: name + name_size(notice, at),
-                end: at + 2 + field_size(notice, at),
-            }
-        }
+    check(notice)?;
+    if word::read_u16(notice, 6) as usize <= k {
+        return Err(Refusal::Index);
     }
+    let at = field_start(notice, k);
+    Ok(Place {
+        kind: word::read_u16(notice, at + 2),
+        name: at + 5,
+        value: value_at(notice, at),
+        end: next_at(notice, at),
+    })
 }
 
 // The bytes from `a` to `e`, or none where they do not lie within the slice.
@@ -74,35 +53,37 @@ pub fn part<'a>(s: &'a [u8], a: usize, e: usize) -> &'a [u8]
 pub fn kind_of(notice: &[u8], k: usize) -> u16
     ensures { result ≡ (read_field notice.now k).kind }
 {
-    let p = locate(notice, k);
-    p.kind
+    match locate(notice, k) {
+        Ok(p) => p.kind,
+        Err(_) => 0,
+    }
 }
 
 pub fn name_of<'a>(notice: &'a [u8], k: usize) -> &'a [u8]
     ensures { result.now ≡ (read_field notice.now k).name }
 {
-    let p = locate(notice, k);
-    part(notice, p.name, p.value)
+    match locate(notice, k) {
+        Ok(p) => part(notice, p.name, p.value),
+        Err(_) => &notice[0..0],
+    }
 }
 
 pub fn value_of<'a>(notice: &'a [u8], k: usize) -> &'a [u8]
     ensures { result.now ≡ (read_field notice.now k).value }
 {
-    let p = locate(notice, k);
-    part(notice, p.value, p.end)
+    match locate(notice, k) {
+        Ok(p) => part(notice, p.value, p.end),
+        Err(_) => &notice[0..0],
+    }
 }
 
-pub fn read<'a>(notice: &'a [u8], k: usize) -> FieldParts<'a>
-    ensures { ReadIs notice.now k result.number result.place result.kind result.name.now result.value.now }
+pub fn read<'a>(notice: &'a [u8], k: usize) -> Result<FieldParts<'a>, Refusal>
+    ensures { MatchResult result (λ p. ReadIs notice.now k 0 0 p.kind p.name.now p.value.now) (λ r. ReadIs notice.now k (number_of r) (place_of r) 0 [] []) }
 {
-    let p = locate(notice, k);
-    let name = part(notice, p.name, p.value);
-    let value = part(notice, p.value, p.end);
-    FieldParts {
-        number: p.number,
-        place: p.place,
+    let p = locate(notice, k)?;
+    Ok(FieldParts {
         kind: p.kind,
-        name,
-        value,
-    }
+        name: part(notice, p.name, p.value),
+        value: part(notice, p.value, p.end),
+    })
 }

@@ -1,54 +1,45 @@
 // The search for a name. Document 02, request 11: "Names rise, so in a notice found well-formed the search for a field should stop at the first name not below the one sought".
-ghost use Rattle.std.specs.Prelude.{◌≡◌, true, ◌∷◌, drop};
+ghost use Rattle.std.specs.Prelude.{◌≡◌, true, ◌∷◌, drop, Ok};
 ghost use Rattle.notice.specs.Layout.{name_at, right_at, check_of, Indexed};
-ghost use Rattle.notice.specs.Search.{StandsTo, Stops, sought_of};
+ghost use Rattle.notice.specs.Search.{StandsTo, Stops, find_answer, sought_of};
 
 use crate::Sought;
-use crate::field::{field_size, name_size};
+use crate::field::{name_at, next_at};
+use std::cmp::Ordering;
 
-// How a field's name stands to the one sought.
-#[derive(Drop)]
-enum Standing {
-    Below,
-    Same,
-    Above,
-}
-
-// Where the search stops: the start of the first field whose name is not below the one sought, how many fields are left from there on, and whether that field has the name.
-#[derive(Drop)]
+// Where the search stops: how many names are below the one sought, and the start of the field that has it.
+#[derive(Clone, Copy)]
 pub(crate) struct Stop {
-    pub at: usize,
-    pub left: u16,
-    pub found: bool,
+    pub below: usize,
+    pub found: Option<usize>,
 }
 
-// By all bytes.
-fn compared(notice: &[u8], at: usize, name: &[u8]) -> Standing
+// How a field's name stands to the one sought, by all bytes.
+fn compared(notice: &[u8], at: usize, name: &[u8]) -> Ordering
     requires { right_at notice.now at ≡ true }
     ensures { StandsTo (name_at notice.now at) name.now result }
 {
-    let start = at + 5;
-    let end = start + name_size(notice, at);
-    if octets::same(&notice[start..end], false, name, false) {
-        return Standing::Same;
+    let own = name_at(notice, at);
+    if octets::same(own, false, name, false) {
+        return Ordering::Equal;
     }
-    if octets::before(&notice[start..end], false, name, false) {
-        return Standing::Below;
+    if octets::before(own, false, name, false) {
+        return Ordering::Less;
     }
-    Standing::Above
+    Ordering::Greater
 }
 
 // By the first byte where these differ; `first` is that of the name sought.
-fn stands_to(notice: &[u8], at: usize, name: &[u8], first: u8) -> Standing
+fn stands_to(notice: &[u8], at: usize, name: &[u8], first: u8) -> Ordering
     requires { (right_at notice.now at ≡ true) × (name.now ≡ first ∷ drop 1 name.now) }
     ensures { StandsTo (name_at notice.now at) name.now result }
 {
     let head = notice[at + 5];
     if head < first {
-        return Standing::Below;
+        return Ordering::Less;
     }
     if first < head {
-        return Standing::Above;
+        return Ordering::Greater;
     }
     compared(notice, at, name)
 }
@@ -58,41 +49,30 @@ pub(crate) fn search(notice: &[u8], name: &[u8]) -> Stop
     requires { check_of notice.now ≡ Ok tt }
     ensures { Stops notice.now name.now result }
 {
-    let mut left = word::read_u16(notice, 6);
-    let mut at = 8;
-    if name.len() == 0 {
+    if name.is_empty() {
         return Stop {
-            at,
-            left,
-            found: false,
+            below: 0,
+            found: None,
         };
     }
     let first = name[0];
-    while 0 < left {
+    let n = word::read_u16(notice, 6) as usize;
+    let mut at = 8;
+    for below in 0..n {
         match stands_to(notice, at, name, first) {
-            Standing::Below => {}
-            Standing::Same => {
+            Ordering::Less => at = next_at(notice, at),
+            Ordering::Equal => {
                 return Stop {
-                    at,
-                    left,
-                    found: true,
+                    below,
+                    found: Some(at),
                 };
             }
-            Standing::Above => {
-                return Stop {
-                    at,
-                    left,
-                    found: false,
-                };
-            }
+            Ordering::Greater => return Stop { below, found: None },
         }
-        at = at + 2 + field_size(notice, at);
-        left -= 1;
     }
     Stop {
-        at,
-        left,
-        found: false,
+        below: n,
+        found: None,
     }
 }
 
@@ -101,37 +81,32 @@ pub(crate) fn halved(notice: &[u8], starts: &[u16; 64], name: &[u8]) -> Stop
     requires { (check_of notice.now ≡ Ok tt) × Indexed notice.now starts.now }
     ensures { Stops notice.now name.now result }
 {
-    let n = word::read_u16(notice, 6);
-    if name.len() == 0 {
+    if name.is_empty() {
         return Stop {
-            at: 8,
-            left: n,
-            found: false,
+            below: 0,
+            found: None,
         };
     }
     let first = name[0];
     let mut low: usize = 0;
-    let mut high = n as usize;
-    let mut at = 8;
+    let mut high = word::read_u16(notice, 6) as usize;
     while low < high {
         let mid = (low + high) / 2;
-        at = starts[mid] as usize;
+        let at = starts[mid] as usize;
         match stands_to(notice, at, name, first) {
-            Standing::Below => low = mid + 1,
-            Standing::Same => {
+            Ordering::Less => low = mid + 1,
+            Ordering::Equal => {
                 return Stop {
-                    at,
-                    left: n - mid as u16,
-                    found: true,
+                    below: mid,
+                    found: Some(at),
                 };
             }
-            Standing::Above => high = mid,
+            Ordering::Greater => high = mid,
         }
     }
     Stop {
-        at,
-        left: n - low as u16,
-        found: false,
+        below: low,
+        found: None,
     }
 }
 
@@ -140,63 +115,42 @@ pub(crate) fn walked(notice: &[u8], starts: &[u16; 64], name: &[u8]) -> Stop
     requires { (check_of notice.now ≡ Ok tt) × Indexed notice.now starts.now }
     ensures { Stops notice.now name.now result }
 {
-    let n = word::read_u16(notice, 6);
-    let mut at = 8;
-    if name.len() == 0 {
+    if name.is_empty() {
         return Stop {
-            at,
-            left: n,
-            found: false,
+            below: 0,
+            found: None,
         };
     }
     let first = name[0];
-    let mut i: u16 = 0;
-    while i < n {
-        at = starts[i as usize] as usize;
+    let n = word::read_u16(notice, 6) as usize;
+    for (below, start) in starts[..n].iter().enumerate() {
+        let at = *start as usize;
         match stands_to(notice, at, name, first) {
-            Standing::Below => i = i + 1,
-            Standing::Same => {
+            Ordering::Less => {}
+            Ordering::Equal => {
                 return Stop {
-                    at,
-                    left: n - i,
-                    found: true,
+                    below,
+                    found: Some(at),
                 };
             }
-            Standing::Above => {
-                return Stop {
-                    at,
-                    left: n - i,
-                    found: false,
-                };
-            }
+            Ordering::Greater => return Stop { below, found: None },
         }
     }
     Stop {
-        at,
-        left: n - i,
-        found: false,
+        below: n,
+        found: None,
     }
 }
 
 // What finding a name in a notice answers: the names looked at are "those below the one sought, and one more if any is left".
 pub(crate) fn sought(notice: &[u8], name: &[u8]) -> Sought
     requires { check_of notice.now ≡ Ok tt }
-    ensures { result ≡ sought_of notice.now name.now }
+    ensures { find_answer (Ok result) ≡ sought_of notice.now name.now }
 {
     let stop = search(notice, name);
-    let below = (word::read_u16(notice, 6) - stop.left) as usize;
-    let mut index = 64;
-    if stop.found {
-        index = below;
-    }
-    let mut looked = below;
-    if 0 < stop.left {
-        looked = below + 1;
-    }
+    let n = word::read_u16(notice, 6) as usize;
     Sought {
-        number: 0,
-        place: 0,
-        index: index,
-        looked: looked,
+        index: stop.found.and(Some(stop.below)),
+        looked: n.min(stop.below + 1),
     }
 }

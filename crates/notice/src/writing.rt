@@ -1,33 +1,30 @@
 // Writing: one field more, at its name's place, in a lent buffer.
 ghost use Rattle.std.specs.Prelude.{◌≡◌, ◌+◌, ◌≤◌, length};
 ghost use Rattle.std.proofs.lemmas.List.Edits.{sets};
-ghost use Rattle.notice.specs.Layout.{check_of};
+ghost use Rattle.notice.specs.Layout.{check_of, number_of, place_of};
 ghost use Rattle.notice.specs.Render.{field_bytes};
-ghost use Rattle.notice.specs.Write.{field, place_for, has_room, refusal_in, Insertable, inserted_bytes, WriteIs};
+ghost use Rattle.notice.specs.Write.{field, place_for, has_room, refusal_in, Insertable, inserted_bytes, write_answer, WriteIs};
 
-use crate::field::{field_size, lies, name_size, size_right};
+use crate::field::{lies, name_at, next_at, size_right};
 use crate::name::name_right;
-use crate::{Written, check, lookup};
+use crate::{check, lookup};
+use refusal::Refusal;
 
 // The start of the first field that a name is before, or the notice's end.
 fn place_for(notice: &[u8], name: &[u8]) -> usize
     requires { (8 ≤ length notice.now) × (length notice.now ≤ 16384) }
     ensures { result ≡ place_for notice.now name.now }
 {
-    let mut left = word::read_u16(notice, 6);
+    let n = word::read_u16(notice, 6);
     let mut at = 8;
-    while 0 < left {
-        if lies(notice, at) {
-            let start = at + 5;
-            let value = start + name_size(notice, at);
-            if octets::before(name, false, &notice[start..value], false) {
-                return at;
-            }
-            at = at + 2 + field_size(notice, at);
-            left -= 1;
-        } else {
+    for _ in 0..n {
+        if !lies(notice, at) {
             return notice.len();
         }
+        if octets::before(name, false, name_at(notice, at), false) {
+            return at;
+        }
+        at = next_at(notice, at);
     }
     notice.len()
 }
@@ -50,33 +47,26 @@ fn has_room(count: u16, size: usize, room: usize) -> bool
     (count < 64) & ((size <= 16384) & (size <= room))
 }
 
-// The refusals of a field for a notice in `room` bytes: 13, 16, 14, 15 in this order, and 0 for none.
-fn refusal(notice: &[u8], room: usize, name: &[u8], kind: u16, value: &[u8]) -> u8
+// The refusals of a field for a notice in `room` bytes: 13, 16, 14, 15 in this order.
+fn refusal(notice: &[u8], room: usize, name: &[u8], kind: u16, value: &[u8]) -> Result<(), Refusal>
     requires { check_of notice.now ≡ Ok tt }
-    ensures { result ≡ refusal_in notice.now room (field kind name.now value.now) }
+    ensures number { number_of result ≡ refusal_in notice.now room (field kind name.now value.now) }
+    ensures no_place { place_of result ≡ 0 }
 {
-    let named = name_right(name);
-    let sized = size_right(kind, value.len());
-    if named {
-        if sized {
-            let found = lookup(notice, name);
-            match found {
-                Some(_) => 14,
-                None => {
-                    let size = notice.len() + (5 + name.len() + value.len());
-                    if has_room(word::read_u16(notice, 6), size, room) {
-                        0
-                    } else {
-                        15
-                    }
-                }
-            }
-        } else {
-            16
-        }
-    } else {
-        13
+    if !name_right(name) {
+        return Err(Refusal::Name);
     }
+    if !size_right(kind, value.len()) {
+        return Err(Refusal::Size);
+    }
+    if lookup(notice, name).is_some() {
+        return Err(Refusal::Present);
+    }
+    let size = notice.len() + (5 + name.len() + value.len());
+    if !has_room(word::read_u16(notice, 6), size, room) {
+        return Err(Refusal::Room);
+    }
+    Ok(())
 }
 
 // Adds a field that was judged to the notice at the start of the buffer.
@@ -93,40 +83,23 @@ fn insert(buffer: &mut [u8], len: usize, name: &[u8], kind: u16, value: &[u8])
     word::write_u16(buffer, 6, count + 1);
 }
 
-// Adds one field, at its name's place, to the notice of the first `len` bytes. A refusal changes no byte.
-pub fn write(buffer: &mut [u8], len: usize, name: &[u8], kind: u16, value: &[u8]) -> Written
-    ensures { WriteIs buffer.old len (field kind name.now value.now) result buffer.new }
+// Adds one field, at its name's place, to the notice of the first `len` bytes, and answers the new length. A refusal changes no byte.
+pub fn write(
+    buffer: &mut [u8],
+    len: usize,
+    name: &[u8],
+    kind: u16,
+    value: &[u8],
+) -> Result<usize, Refusal>
+    ensures { WriteIs buffer.old len (field kind name.now value.now) (write_answer len result) buffer.new }
 {
-    if buffer.len() < len {
-        return Written {
-            number: 11,
-            place: 0,
-            len,
-        };
-    }
     let room = buffer.len();
-    let layout = check(&buffer[0..len]);
-    match layout {
-        Err(r) => Written {
-            number: r.number(),
-            place: r.place(),
-            len,
-        },
-        Ok(()) => {
-            let number = refusal(&buffer[0..len], room, name, kind, value);
-            if number != 0 {
-                return Written {
-                    number,
-                    place: 0,
-                    len,
-                };
-            }
-            insert(buffer, len, name, kind, value);
-            Written {
-                number: 0,
-                place: 0,
-                len: len + (5 + name.len() + value.len()),
-            }
-        }
+    if room < len {
+        return Err(Refusal::Notice(0));
     }
+    let notice = &buffer[..len];
+    check(notice)?;
+    refusal(notice, room, name, kind, value)?;
+    insert(buffer, len, name, kind, value);
+    Ok(len + (5 + name.len() + value.len()))
 }

@@ -14,12 +14,6 @@ read_u16-n-requires c = let h = header_numbers c.args.notice.now c.requires in o
 pub loop-i-init : goal.loop-i-init
 loop-i-init c = goes_first c.args.notice.now c.args.starts.now c.requires
 
-pub key_at-key-requires : goal.key_at-key-requires
-key_at-key-requires c = let g = c.loop-i.invariant in (g.start, g.within)
-
-pub follows-requires : goal.follows-requires
-follows-requires c = (c.loop-i.invariant.last_is, c.key_at-key.ensures)
-
 pub overflow_cast-starts : goal.overflow_cast-starts
 overflow_cast-starts c =
     let h = header_numbers c.args.notice.now c.requires in
@@ -35,27 +29,27 @@ bounds-starts-i c =
     let h = header_numbers c.args.notice.now c.requires in
     omega arith
 
-pub field_size-requires : goal.field_size-requires
-field_size-requires c =
+pub next_at-at-requires : goal.next_at-at-requires
+next_at-at-requires c =
     let s = c.args.notice.now in
     let i = c.loop-i in
-    let l = right_lies s i.at (and_parts (right_at s i.at) (before_of (last_name_at s i.last) (name_at s i.at)) (sym c.follows.ensures ∙ c.if-follows.true)).0 in
+    let l = right_lies s i.at (and_parts (right_at s i.at) (before_of (last_name_at s i.last) (name_at s i.at)) (sym c.follows.ensures ∙ c.if-not-follows.false)).0 in
     omega arith
 
 pub loop-i-preserved : goal.loop-i-preserved
 loop-i-preserved c =
     let a = c.args in
     let i = c.loop-i in
-    rw c.field_size.ensures.0
+    rw c.next_at-at.ensures
     (goes_on a.notice.now a.starts.now i.starts i.i i.at i.last i.last_key i.invariant (omega arith)
-    (sym (c.follows.ensures) ∙ c.if-follows.true) c.key_at-key.result c.key_at-key.ensures)
+    (sym (c.follows.ensures) ∙ c.if-not-follows.false) c.key_at-key.result c.key_at-key.ensures)
 
-pub returns-else-follows : goal.returns-else-follows
-returns-else-follows c =
+pub returns-then-not-follows : goal.returns-then-not-follows
+returns-then-not-follows c =
     let a = c.args in
     let i = c.loop-i in
     let e = leaves_wrong a.notice.now a.starts.now i.starts i.i i.at i.last i.last_key i.invariant (omega arith)
-    (sym (c.follows.ensures) ∙ c.if-follows.false) in
+    (sym (c.follows.ensures) ∙ c.if-not-follows.true) in
     record { value = e.0; starts_after = e.1 }
 
 pub returns-then-at-notice : goal.returns-then-at-notice

@@ -1,18 +1,6 @@
-use Rattle.std.proofs.Common.{◌∙◌}
-use Rattle.notice.proofs.Names.{empty_wrong, long_wrong, by_bytes}
+use Rattle.std.proofs.Common.{◌∙◌, arith}
+use Rattle.notice.proofs.Names.{by_each, by_bytes}
 use Rattle.notice.proofs.name.name_right.Goals as goal
 
-pub returns-then-name-eq0 : goal.returns-then-name-eq0
-returns-then-name-eq0 c = empty_wrong c.args.name.now c.if-name-eq0.true
-
-pub returns-then-name-gt64 : goal.returns-then-name-gt64
-returns-then-name-gt64 c = long_wrong c.args.name.now c.if-name-gt64.true
-
-pub returns-then-name-ge8 : goal.returns-then-name-ge8
-returns-then-name-ge8 c = c.words_right.ensures ∙ by_bytes c.args.name.now c.if-name-eq0.false c.if-name-gt64.false
-
-pub returns-then-name-ge4 : goal.returns-then-name-ge4
-returns-then-name-ge4 c = c.halves_right.ensures ∙ by_bytes c.args.name.now c.if-name-eq0.false c.if-name-gt64.false
-
-pub returns : goal.returns
-returns c = c.bytes_right.ensures ∙ by_bytes c.args.name.now c.if-name-eq0.false c.if-name-gt64.false
+pub returns-in-1-to-3 : goal.returns-in-1-to-3
+returns-in-1-to-3 c = by_each c.args.name.now c.bytes_right.result c.bytes_right.ensures ∙ by_bytes c.args.name.now (λ z. omega arith) (omega arith)

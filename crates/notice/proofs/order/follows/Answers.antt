@@ -1,7 +1,7 @@
-use Rattle.std.proofs.Common.{◌≡◌, ℕ, ◌+◌, ◌-◌, ◌<◌, true, take, drop, sym, ap, ◌∙◌, ap₂, arith}
+use Rattle.std.proofs.Common.{◌≡◌, ◌<◌, true, sym, ◌∙◌, ap₂, arith}
 use Rattle.octets.specs.Octets.{before_of}
 use Rattle.octets.proofs.Theorems.{not_folded}
-use Rattle.notice.specs.Layout.{name_size_at, name_at, right_at}
+use Rattle.notice.specs.Layout.{name_at, right_at}
 use Rattle.notice.specs.Key.{key_of, last_name_at}
 use Rattle.notice.proofs.Places.{Lies, lies_true, right_lies, right_name}
 use Rattle.notice.proofs.Keys.{less_before, not_after, last_name, some_last, some_key, key_here, no_key}
@@ -17,23 +17,14 @@ right_by c h = some_key c.args.notice.now c.args.at c.args.key c.requires.1 h
 key_is : (c : lts.Start tie.the-claims reads.Pre reads.Post) → 0 < c.args.key → c.args.key ≡ key_of (name_at c.args.notice.now c.args.at)
 key_is c h = c.requires.1 ∙ key_here c.args.notice.now c.args.at (right_by c h)
 
-some : (c : lts.Else3 tie.the-claims reads.Pre reads.Post) → 0 < c.args.key
-some c = let f = c.if-key-eq0.false in omega arith
-
 right : (c : lts.Else3 tie.the-claims reads.Pre reads.Post) → right_at c.args.notice.now c.args.at ≡ true
-right c = right_by c.before.before.before.before (some c)
+right c = right_by c.before.before.before.before (let f = c.if-key-eq0.false in omega arith)
 
 -- where the keys are equal there is a last field
 after_one : (c : lts.Else3 tie.the-claims reads.Pre reads.Post) → c.args.last ≡ 0 → ⊥
 after_one c =
     let a = c.args in
-    some_last a.notice.now a.last a.at a.last_key a.key c.requires.0 (right c) (key_is c.before.before.before.before (some c)) (omega (arith, c.if-last_key-key.false))
-
-lying_last : (c : lts.Else3 tie.the-claims reads.Pre reads.Post) → Lies c.args.notice.now c.args.last
-lying_last c = lies_true c.args.notice.now c.args.last (c.requires.0.lies (after_one c))
-
-lying : (c : lts.Else3 tie.the-claims reads.Pre reads.Post) → Lies c.args.notice.now c.args.at
-lying c = right_lies c.args.notice.now c.args.at (right c)
+    some_last a.notice.now a.last a.at a.last_key a.key c.requires.0 (right c) (key_is c.before.before.before.before (let f = c.if-key-eq0.false in omega arith)) (omega (arith, c.if-last_key-key.false))
 
 pub returns-then-last_key-key : goal.returns-then-last_key-key
 returns-then-last_key-key c =
@@ -51,58 +42,17 @@ returns-then-key-last_key c =
     not_after a.notice.now a.last a.at a.last_key a.key p.0 p.1 c.if-key-last_key.true
 
 pub returns-then-key-eq0 : goal.returns-then-key-eq0
-returns-then-key-eq0 c =
-    let a = c.args in
-    rw (no_key a.notice.now a.at a.key c.requires.1 c.if-key-eq0.true)
+returns-then-key-eq0 c = rw (no_key c.args.notice.now c.args.at c.args.key c.requires.1 c.if-key-eq0.true)
 
-pub overflow_add-s : goal.overflow_add-s
-overflow_add-s c =
-    let l = lying_last c.before in
-    omega arith
-
-pub name_size-requires : goal.name_size-requires
-name_size-requires c =
-    let l = lying_last c.before in
-    omega arith
-
-pub overflow_add-s_end : goal.overflow_add-s_end
-overflow_add-s_end c =
-    let l = lying_last c.before.before in
-    omega arith
-
-pub overflow_add-t : goal.overflow_add-t
-overflow_add-t c =
-    let l = lying c.before.before in
-    omega arith
-
-pub name_size-requires-2 : goal.name_size-requires-2
-name_size-requires-2 c =
-    let l = lying c.before.before in
-    omega arith
-
-pub overflow_add-t_end : goal.overflow_add-t_end
-overflow_add-t_end c =
-    let l = lying c.before.before.before in
-    omega arith
-
-pub slice_bounds-before-end : goal.slice_bounds-before-end
-slice_bounds-before-end c =
-    let l = lying_last c.before.before.before in
-    omega arith
-
-pub slice_bounds-before-end-2 : goal.slice_bounds-before-end-2
-slice_bounds-before-end-2 c =
-    let l = lying c.before.before.before.before in
-    omega arith
+pub name_at-requires : goal.name_at-requires
+name_at-requires c =
+    let l = lies_true c.args.notice.now c.args.last (c.requires.0.lies (after_one c.before)) in
+    omega (arith, l.room, l.within)
 
 pub returns : goal.returns
 returns c =
     let a = c.args in
     let s = a.notice.now in
-    let j = a.last + 5 + c.name_size.result - (a.last + 5) in
-    let k = a.at + 5 + c.name_size-2.result - (a.at + 5) in
-    let m : j ≡ name_size_at s a.last = omega arith in
-    let n : k ≡ name_size_at s a.at = omega arith in
-    rw (right c.before.before.before.before.before.before) (c.before-2.ensures
-    ∙ ap₂ before_of (not_folded (take j (drop (a.last + 5) s)) ∙ (ap (λ (i : ℕ). take i (drop (a.last + 5) s)) m ∙ sym (last_name s a.last (after_one c.before.before.before.before.before.before))))
-    (not_folded (take k (drop (a.at + 5) s)) ∙ ap (λ (i : ℕ). take i (drop (a.at + 5) s)) n))
+    let e = c.before.before.before.before in
+    rw (right e) (c.before-2.ensures
+    ∙ ap₂ before_of (not_folded c.name_at.result.now ∙ (c.name_at.ensures ∙ sym (last_name s a.last (after_one e)))) (not_folded c.name_at-2.result.now ∙ c.name_at-2.ensures))

@@ -1,72 +1,39 @@
-use Rattle.std.proofs.Common.{get_or, arith, drop-cons}
+use Rattle.std.proofs.Common.{◌≡◌, ◌+◌, take, sym, ◌∙◌, arith, rules}
 use Rattle.notice.proofs.Places.{right_lies}
 use Rattle.notice.proofs.Renders.{well_header}
-use Rattle.notice.proofs.Searches.{stops_empty}
-use Rattle.notice.proofs.Halves.{between_all, mid-right, from-mid, to-mid, stops-mid, stops_between}
+use Rattle.notice.proofs.Searches.{first_is, stops_empty}
+use Rattle.notice.proofs.Halves.{between_all, mid-right, from-mid, to-mid, stops-mid, stops_between, indexed_part}
 use Rattle.notice.proofs.search.walked.Goals as goal
 
-pub read_u16-n-requires : goal.read_u16-n-requires
-read_u16-n-requires c = (well_header c.args.notice.now (λ i. (c.shared_slice_known-1.given i).fits) c.requires.0).long
+pub returns-then-is_empty : goal.returns-then-is_empty
+returns-then-is_empty c = stops_empty c.args.notice.now c.args.name.now (λ j. search rules) c.requires.0 (sym c.is_empty.ensures ∙ c.if-is_empty.true)
 
-pub returns-then-name-eq0 : goal.returns-then-name-eq0
-returns-then-name-eq0 c =
-    let a = c.args in
-    let r = c.read_u16-n.ensures in
-    rw r (stops_empty a.notice.now a.name.now (λ i. (c.shared_slice_known-1.given i).fits) c.requires.0 c.if-name-eq0.true)
-
-pub loop-i-init : goal.loop-i-init
-loop-i-init c =
-    let a = c.args in
-    rw c.read_u16-n.ensures (between_all a.notice.now a.name.now (λ i. (c.shared_slice_known-1.given i).fits) c.requires.0)
-
-pub offset_bounds-starts-i : goal.offset_bounds-starts-i
-offset_bounds-starts-i c = omega (arith, c.read_u16-n.ensures, (well_header c.args.notice.now (λ i. (c.shared_slice_known-1.given i).fits) c.requires.0).few)
-
-pub bounds-starts-i : goal.bounds-starts-i
-bounds-starts-i c = omega (arith, c.read_u16-n.ensures, (well_header c.args.notice.now (λ i. (c.shared_slice_known-1.given i).fits) c.requires.0).few)
-
-pub overflow_cast-at-in-loop-i : goal.overflow_cast-at-in-loop-i
-overflow_cast-at-in-loop-i c =
-    let a = c.args in
-    let l = right_lies a.notice.now (get_or a.starts.now c.loop-i.i 0) (mid-right c.args.notice.now c.args.name.now (λ i. (c.shared_slice_known-1.given i).fits) c.requires.0 c.loop-i.i c.read_u16-n.result c.loop-i.invariant c.loop-i.i (omega arith) (omega arith) c.args.starts.now c.requires.1) in
-    omega (arith, (well_header a.notice.now (λ i. (c.shared_slice_known-1.given i).fits) c.requires.0).short)
+pub loop-below-init : goal.loop-below-init
+loop-below-init c = rw c.read_u16-n.ensures (between_all c.args.notice.now c.args.name.now (λ j. search rules) c.requires.0)
 
 pub stands_to-requires : goal.stands_to-requires
-stands_to-requires c = (mid-right c.args.notice.now c.args.name.now (λ i. (c.shared_slice_known-1.given i).fits) c.requires.0 c.loop-i.i c.read_u16-n.result c.loop-i.invariant c.loop-i.i (omega arith) (omega arith) c.args.starts.now c.requires.1, drop-cons c.args.name.now 0 0 (omega arith))
+stands_to-requires c =
+    let i = c.loop-below in
+    (mid-right c.args.notice.now c.args.name.now (λ j. search rules) c.requires.0 i.below c.read_u16-n.result i.invariant i.below (omega arith) (omega arith) (take c.read_u16-n.result c.args.starts.now) (indexed_part c.args.notice.now c.args.starts.now _ c.read_u16-n.ensures c.requires.1), first_is c.args.name.now (sym c.is_empty.ensures ∙ c.if-is_empty.false))
 
-pub overflow_add-i : goal.overflow_add-i
-overflow_add-i c = omega (arith, c.read_u16-n.ensures, (well_header c.args.notice.now (λ i. (c.shared_slice_known-1.given i).fits) c.requires.0).few)
+pub loop-below-preserved : goal.loop-below-preserved
+loop-below-preserved c =
+    let i = c.loop-below in
+    from-mid c.args.notice.now c.args.name.now (λ j. search rules) c.requires.0 i.below c.read_u16-n.result i.invariant i.below (omega arith) (omega arith) (take c.read_u16-n.result c.args.starts.now) (indexed_part c.args.notice.now c.args.starts.now _ c.read_u16-n.ensures c.requires.1) (rw c.in-Less.is at c.stands_to.ensures)
 
-pub loop-i-smaller : goal.loop-i-smaller
-loop-i-smaller c = omega arith
+pub returns-in-Equal : goal.returns-in-Equal
+returns-in-Equal c =
+    let i = c.loop-below in
+    stops-mid c.args.notice.now c.args.name.now (λ j. search rules) c.requires.0 i.below c.read_u16-n.result i.invariant i.below (omega arith) (omega arith) (take c.read_u16-n.result c.args.starts.now) (indexed_part c.args.notice.now c.args.starts.now _ c.read_u16-n.ensures c.requires.1) (rw c.in-Equal.is at c.stands_to.ensures)
 
-pub loop-i-preserved : goal.loop-i-preserved
-loop-i-preserved c =
-    let a = c.args in
-    let l = c.loop-i in
-    from-mid a.notice.now a.name.now (λ i. (c.shared_slice_known-1.given i).fits) c.requires.0 l.i c.read_u16-n.result l.invariant l.i (omega arith) (omega arith) a.starts.now c.requires.1 (rw c.in-Below.is at c.stands_to.ensures)
-
-pub returns-in-Same : goal.returns-in-Same
-returns-in-Same c =
-    let a = c.args in
-    let l = c.loop-i in
-    rw c.read_u16-n.ensures
-    (stops-mid a.notice.now a.name.now (λ i. (c.shared_slice_known-1.given i).fits) c.requires.0 l.i c.read_u16-n.result l.invariant l.i (omega arith) (omega arith) a.starts.now c.requires.1 (rw c.in-Same.is at c.stands_to.ensures))
-
-pub returns-in-Above : goal.returns-in-Above
-returns-in-Above c =
-    let a = c.args in
-    let l = c.loop-i in
-    let b = to-mid a.notice.now a.name.now (λ i. (c.shared_slice_known-1.given i).fits) c.requires.0 l.i c.read_u16-n.result l.invariant l.i (omega arith) (omega arith) a.starts.now c.requires.1 (rw c.in-Above.is at c.stands_to.ensures) in
-    rw c.read_u16-n.ensures
-    (stops_between a.notice.now a.name.now (λ i. (c.shared_slice_known-1.given i).fits) c.requires.0 l.i l.i b (get_or a.starts.now l.i 0) (omega arith))
-
-pub overflow_sub-result-2 : goal.overflow_sub-result-2
-overflow_sub-result-2 c = let b = c.loop-i.invariant.order in omega arith
+pub returns-in-Greater : goal.returns-in-Greater
+returns-in-Greater c =
+    let i = c.loop-below in
+    let b = to-mid c.args.notice.now c.args.name.now (λ j. search rules) c.requires.0 i.below c.read_u16-n.result i.invariant i.below (omega arith) (omega arith) (take c.read_u16-n.result c.args.starts.now) (indexed_part c.args.notice.now c.args.starts.now _ c.read_u16-n.ensures c.requires.1) (rw c.in-Greater.is at c.stands_to.ensures) in
+    stops_between c.args.notice.now c.args.name.now (λ j. search rules) c.requires.0 i.below i.below b (omega arith)
 
 pub returns : goal.returns
 returns c =
-    let a = c.args in
-    let l = c.loop-i in
-    rw c.read_u16-n.ensures
-    (stops_between a.notice.now a.name.now (λ i. (c.shared_slice_known-1.given i).fits) c.requires.0 l.i c.read_u16-n.result l.invariant l.at (omega arith))
+    let i = c.loop-below in
+    let e : i.below ≡ c.read_u16-n.result = omega arith in
+    rw (← e) (stops_between c.args.notice.now c.args.name.now (λ j. search rules) c.requires.0 i.below c.read_u16-n.result i.invariant (omega arith))

@@ -1,56 +1,24 @@
-use Rattle.std.proofs.Common.{ℕ, ◌+◌, length, sym, ap, ◌∙◌, arith}
+use Rattle.std.proofs.Common.{ℕ, ◌+◌, length, is_some, sym, ap, ◌∙◌}
 use Rattle.notice.specs.Write.{field, has_room}
-use Rattle.notice.proofs.Renders.{well_header}
-use Rattle.notice.proofs.Inserts.{wrong_name, wrong_size, small_parts, present, no_room, no_refusal}
+use Rattle.notice.proofs.Inserts.{present, no_room, no_refusal}
 use Rattle.notice.proofs.writing.refusal.Goals as goal
 
-pub overflow_add-size-in-None : goal.overflow_add-size-in-None
-overflow_add-size-in-None c =
+pub returns-then-is_some-clause-number : goal.returns-then-is_some-clause-number
+returns-then-is_some-clause-number c =
     let a = c.args in
-    let f = field a.kind a.name.now a.value.now in
-    let m = small_parts a.notice.now a.room f (sym c.name_right-named.ensures ∙ c.if-named.true) (sym c.size_right-sized.ensures ∙ c.if-sized.true) in
-    omega (arith, m.name_fits, m.value_fits)
+    present a.notice.now a.room (field a.kind a.name.now a.value.now) (sym c.name_right.ensures ∙ c.if-not-name_right.false) (sym c.size_right.ensures ∙ c.if-not-size_right.false)
+    (ap is_some (sym c.lookup.ensures) ∙ (sym c.is_some.ensures ∙ c.if-is_some.true))
 
-pub overflow_add-size-in-None-2 : goal.overflow_add-size-in-None-2
-overflow_add-size-in-None-2 c =
+pub returns-then-not-has_room-clause-number : goal.returns-then-not-has_room-clause-number
+returns-then-not-has_room-clause-number c =
     let a = c.args in
-    let f = field a.kind a.name.now a.value.now in
-    let m = small_parts a.notice.now a.room f (sym c.name_right-named.ensures ∙ c.if-named.true) (sym c.size_right-sized.ensures ∙ c.if-sized.true) in
-    omega (arith, m.name_fits, m.value_fits, c.well_formed)
+    no_room a.notice.now a.room (field a.kind a.name.now a.value.now) (sym c.name_right.ensures ∙ c.if-not-name_right.false) (sym c.size_right.ensures ∙ c.if-not-size_right.false)
+    (ap is_some (sym c.lookup.ensures) ∙ (sym c.is_some.ensures ∙ c.if-is_some.false))
+    (ap (λ (n : ℕ). has_room n (length a.notice.now + (5 + length a.name.now + length a.value.now)) a.room) (sym c.read_u16.ensures) ∙ (sym c.has_room.ensures ∙ c.if-not-has_room.true))
 
-pub read_u16-requires : goal.read_u16-requires
-read_u16-requires c =
-    (well_header c.args.notice.now (λ i. (c.shared_slice_known-1.given i).fits) c.requires).long
-
-pub returns-in-Some : goal.returns-in-Some
-returns-in-Some c =
+pub returns-clause-number : goal.returns-clause-number
+returns-clause-number c =
     let a = c.args in
-    let f = field a.kind a.name.now a.value.now in
-    present a.notice.now a.room f (sym c.name_right-named.ensures ∙ c.if-named.true) (sym c.size_right-sized.ensures ∙ c.if-sized.true)
-    _ (sym c.lookup-found.ensures ∙ c.in-Some.is)
-
-pub returns-then-has_room : goal.returns-then-has_room
-returns-then-has_room c =
-    let a = c.args in
-    let f = field a.kind a.name.now a.value.now in
-    let s = a.notice.now in
-    no_refusal s a.room f (sym c.name_right-named.ensures ∙ c.if-named.true) (sym c.size_right-sized.ensures ∙ c.if-sized.true) (sym c.lookup-found.ensures ∙ c.in-None.is)
-    (ap (λ (n : ℕ). has_room n (length s + (5 + length a.name.now + length a.value.now)) a.room) (sym c.read_u16.ensures) ∙ (sym c.has_room.ensures ∙ c.if-has_room.true))
-
-pub returns-else-has_room : goal.returns-else-has_room
-returns-else-has_room c =
-    let a = c.args in
-    let f = field a.kind a.name.now a.value.now in
-    let s = a.notice.now in
-    no_room s a.room f (sym c.name_right-named.ensures ∙ c.if-named.true) (sym c.size_right-sized.ensures ∙ c.if-sized.true) (sym c.lookup-found.ensures ∙ c.in-None.is)
-    (ap (λ (n : ℕ). has_room n (length s + (5 + length a.name.now + length a.value.now)) a.room) (sym c.read_u16.ensures) ∙ (sym c.has_room.ensures ∙ c.if-has_room.false))
-
-pub returns-else-sized : goal.returns-else-sized
-returns-else-sized c =
-    let a = c.args in
-    wrong_size a.notice.now a.room (field a.kind a.name.now a.value.now) (sym c.name_right-named.ensures ∙ c.if-named.true) (sym c.size_right-sized.ensures ∙ c.if-sized.false)
-
-pub returns-else-named : goal.returns-else-named
-returns-else-named c =
-    let a = c.args in
-    wrong_name a.notice.now a.room (field a.kind a.name.now a.value.now) (sym c.name_right-named.ensures ∙ c.if-named.false)
+    no_refusal a.notice.now a.room (field a.kind a.name.now a.value.now) (sym c.name_right.ensures ∙ c.if-not-name_right.false) (sym c.size_right.ensures ∙ c.if-not-size_right.false)
+    (ap is_some (sym c.lookup.ensures) ∙ (sym c.is_some.ensures ∙ c.if-is_some.false))
+    (ap (λ (n : ℕ). has_room n (length a.notice.now + (5 + length a.name.now + length a.value.now)) a.room) (sym c.read_u16.ensures) ∙ (sym c.has_room.ensures ∙ c.if-not-has_room.false))
