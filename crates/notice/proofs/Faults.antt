@@ -35,8 +35,8 @@ only_faults (suc n) last s at = go (stands_at last s at) (only_faults n (name_at
     go true h = h
     go false h = (at, refl)
 
-pub only_fault : OnlyFault
-only_fault s r e = subst is_fault e (go (header_right s) (only_faults (count_of s) [] s 8))
+pub one_fault : OnlyFault
+one_fault s r e = subst is_fault e (go (header_right s) (only_faults (count_of s) [] s 8))
   where
     go : (b : Bool) → is_fault (check_from (count_of s) [] s 8) → is_fault (pick b (λ _. check_from (count_of s) [] s 8) (λ _. Err (Notice 0)))
     go true h = h
@@ -44,7 +44,7 @@ only_fault s r e = subst is_fault e (go (header_right s) (only_faults (count_of 
 
 -- its number is 11
 pub fault_number : (s : List ℕ) (r : Refusal) → check_of s ≡ Err r → refusal_number r ≡ 11
-fault_number s r e = ap refusal_number (only_fault s r e).1
+fault_number s r e = ap refusal_number (one_fault s r e).1
 
 -- what lies from `at` to the place of a fault, with n fields owed
 pub record Faulted (n : ℕ) (last s : List ℕ) (at place : ℕ) : Type 0 where

@@ -20,7 +20,7 @@ use Rattle.notice.specs.Lookup.{field_named, lookup_in, FoundIs}
 use Rattle.notice.specs.Search.{further, index_of, below_of, not_below, first_named}
 use Rattle.notice.specs.Read.{read_number, blank, read_field}
 use Rattle.notice.specs.Write.{field_size, insert_field, refusal_by, refusal_of, written_of, written_bytes, Writes, Insertable}
-use Rattle.notice.specs.Theorems.{WellFormedExactly, last_name, FaultPlace, OneList, FieldsRead, CountFields, ReadEach, Lookup, NamedField, NoneNamed, EachFound, StoppingFinds, StoppingLooks, IndexFinds, NoIndex, WriteAdds, InsertAdds, WrittenAgain, EmptyNotice, Op42}
+use Rattle.notice.specs.Theorems.{WellFormedExactly, last_name, FaultPlace, OnlyFault, OneList, FieldsRead, CountFields, ReadEach, Lookup, NamedField, NoneNamed, EachFound, StoppingFinds, StoppingLooks, IndexFinds, NoIndex, WriteAdds, InsertAdds, WrittenAgain, EmptyNotice, Op42}
 use Rattle.notice.proofs.Places.{lies_true}
 use Rattle.notice.proofs.Walks.{starts_end, starts_more, starts_stop}
 use Rattle.notice.proofs.Renders.{render_passes, render_fields, well_render, well_fields, well_count, length_render}
@@ -28,8 +28,7 @@ use Rattle.notice.proofs.Keys.{bytes_take}
 use Rattle.notice.proofs.Orders.{before_not_same, insert_splits, insert_all, fresh, perm_fresh, perm_inserted, perm_right, perm_length, perm_size, all_before_first, rising_fresh, rising_inserted}
 use Rattle.notice.proofs.Searches.{first_above, none_same, not_below_lem}
 use Rattle.notice.proofs.Checks.{header_numbers}
-use Rattle.notice.proofs.Faults.{faulted}
-pub use Rattle.notice.proofs.Faults.{only_fault}
+use Rattle.notice.proofs.Faults.{faulted, one_fault}
 use Rattle.notice.proofs.Trips.{Fitting, added_fields, added_length, over, writes_all}
 use Rattle.notice.proofs.Writes.{added}
 use Rattle.notice.proofs.Inserts.{accepted}
@@ -39,6 +38,9 @@ well_formed_exactly s bytes = (
   λ well. (fields_of s, well_fields s bytes well, well_render s bytes well),
   λ r. ap check_of r.2 ∙ render_passes r.0 r.1,
 )
+
+pub only_fault : OnlyFault
+only_fault = one_fault
 
 pub fault_place_lem : FaultPlace
 fault_place_lem s place bytes e = go (header_right s) refl e

@@ -31,13 +31,19 @@ fn put_found(to: &mut impl Write, s: &[u8], name: &[u8]) -> io::Result<()>
 
 // Lookup asks for a notice found well-formed, as every one is of which a field was read.
 fn read_case(to: &mut impl Write, s: &[u8], k: usize) -> io::Result<()> {
-    let f = notice::read(s, k);
-    write!(to, "{} {} {} ", f.number, f.place, f.kind)?;
-    put_hex(to, f.name)?;
-    put_hex(to, f.value)?;
-    if f.number == 0 {
-        if let Ok(()) = notice::check(s) {
-            put_found(to, s, f.name)?;
+    match notice::read(s, k) {
+        Ok(f) => {
+            write!(to, "0 0 {} ", f.kind)?;
+            put_hex(to, f.name)?;
+            put_hex(to, f.value)?;
+            if let Ok(()) = notice::check(s) {
+                put_found(to, s, f.name)?;
+            }
+        }
+        Err(r) => {
+            write!(to, "{} {} 0 ", r.number(), r.place())?;
+            put_hex(to, &[])?;
+            put_hex(to, &[])?;
         }
     }
     writeln!(to)
@@ -51,8 +57,10 @@ fn write_case(
     kind: u16,
     value: &[u8],
 ) -> io::Result<()> {
-    let w = notice::write(buffer, len, name, kind, value);
-    write!(to, "{} {} {} ", w.number, w.place, w.len)?;
+    match notice::write(buffer, len, name, kind, value) {
+        Ok(n) => write!(to, "0 0 {n} ")?,
+        Err(r) => write!(to, "{} {} {len} ", r.number(), r.place())?,
+    }
     put_hex(to, buffer)?;
     writeln!(to)
 }
@@ -89,8 +97,10 @@ fn put_indexed(to: &mut impl Write, s: &[u8], name: &[u8]) -> io::Result<()> {
 
 fn find_case(to: &mut impl Write, s: &[u8], name: &[u8]) -> io::Result<()> {
     put_indexed(to, s, name)?;
-    let w = notice::find(s, name);
-    writeln!(to, "{} {} {} {} ", w.number, w.place, w.index, w.looked)
+    match notice::find(s, name) {
+        Ok(f) => writeln!(to, "0 0 {} {} ", f.index.unwrap_or(64), f.looked),
+        Err(r) => writeln!(to, "{} {} 64 0 ", r.number(), r.place()),
+    }
 }
 
 fn next_read(from: &mut impl Read, to: &mut impl Write) -> io::Result<bool> {

@@ -139,13 +139,24 @@ pub fn virentolex_read(
 ) -> u8
     ensures { Located notice.now k (record { number = result; place = place.new; kind = kind.new; name = name.new; value = value.new; end = end.new }) }
 {
-    let p = notice::locate(notice, k);
-    *place = p.place;
-    *kind = p.kind;
-    *name = p.name;
-    *value = p.value;
-    *end = p.end;
-    p.number
+    match notice::locate(notice, k) {
+        Ok(p) => {
+            *place = 0;
+            *kind = p.kind;
+            *name = p.name;
+            *value = p.value;
+            *end = p.end;
+            0
+        }
+        Err(r) => {
+            *place = r.place();
+            *kind = 0;
+            *name = 0;
+            *value = 0;
+            *end = 0;
+            r.number()
+        }
+    }
 }
 
 // "it finds what a walk over all fields finds. Beside that it answers how many names it looked at": the field's index, 64 if there is no such field. "in a notice found well-formed": 11 with its place otherwise.
@@ -158,11 +169,20 @@ pub fn virentolex_find(
 ) -> u8
     ensures { record { number = result; place = place.new; index = index.new; looked = looked.new } ≡ find_of notice.now name.now }
 {
-    let s = notice::find(notice, name);
-    *place = s.place;
-    *index = s.index;
-    *looked = s.looked;
-    s.number
+    match notice::find(notice, name) {
+        Ok(s) => {
+            *place = 0;
+            *index = s.index.unwrap_or(64);
+            *looked = s.looked;
+            0
+        }
+        Err(r) => {
+            *place = r.place();
+            *index = 64;
+            *looked = 0;
+            r.number()
+        }
+    }
 }
 
 // "writing answers number, place and the new length, or the old one if refused": `len` is the length that the caller names, `total` the answered one. A refusal changes no byte.
@@ -178,10 +198,18 @@ pub fn virentolex_write(
     ensures total_after { record { number = result; place = place.new; len = total.new } ≡ written_of buffer.old len (field kind name.now value.now) }
     ensures buffer_after { buffer.new ≡ written_bytes buffer.old len (field kind name.now value.now) }
 {
-    let w = notice::write(buffer, len, name, kind, value);
-    *place = w.place;
-    *total = w.len;
-    w.number
+    match notice::write(buffer, len, name, kind, value) {
+        Ok(n) => {
+            *place = 0;
+            *total = n;
+            0
+        }
+        Err(r) => {
+            *place = r.place();
+            *total = len;
+            r.number()
+        }
+    }
 }
 
 // Reached is 1, and 0 if not.
