@@ -4,12 +4,11 @@ use mathlib.Core.Bool.{Bool, true, false, ◌&&◌, and-false, or-false}
 use mathlib.Core.List.{List, [], ◌∷◌, map}
 use Prim.Native.Nat.{ℕ, zero, suc, ◌+◌, ◌-◌, ◌≤◌, ◌<◌}
 use native.Mathlib.Numerals.{add-one}
-use native.Mathlib.Nat.{le_of_lt}
 use native.Mathlib.Omega.{arith}
 use lib.Dec.{eqb, ltb}
 use lib.ListN.{length, get_or, take, drop, drop_of_length-le, length-map, length-drop}
 use lib.Seq.{drop-cons, take_all}
-use borrow.Author.Tests.{eq-eqb, ne_eqb, lt-ltb, le-ltb, ltb-true, ltb-false}
+use borrow.Author.Tests.{eq-eqb, ne_eqb, le-ltb, ltb-true, ltb-false}
 use Rattle.octets.specs.Octets.{same_of, before_of, begins_of, contains_of, ends_of}
 
 -- strings of other lengths are not the same
@@ -37,15 +36,12 @@ module _ (f g : ℕ → ℕ) (s t : List ℕ) where
     pub same_stop : (f (get_or s i 0) ≡ g (get_or t i 0) → ⊥) → false ≡ same_from i
     same_stop e = rw (drop-cons s i 0 p, drop-cons t i 0 q, ne_eqb (f (get_or s i 0)) (g (get_or t i 0)) e)
 
-    pub less : f (get_or s i 0) < g (get_or t i 0) → true ≡ before_from i
-    less h = rw (drop-cons s i 0 p, drop-cons t i 0 q, lt-ltb _ _ h)
+    pub unlike : (f (get_or s i 0) ≡ g (get_or t i 0) → ⊥) → ltb (f (get_or s i 0)) (g (get_or t i 0)) ≡ before_from i
+    unlike h = rw (drop-cons s i 0 p, drop-cons t i 0 q, ne_eqb (f (get_or s i 0)) (g (get_or t i 0)) h) (sym (or-false _))
 
-    pub more : g (get_or t i 0) < f (get_or s i 0) → false ≡ before_from i
-    more h = rw (drop-cons s i 0 p, drop-cons t i 0 q, le-ltb _ _ (le_of_lt h), ne_eqb (f (get_or s i 0)) (g (get_or t i 0)) (λ e. omega arith))
-
-    pub level : f (get_or s i 0) ≤ g (get_or t i 0) → g (get_or t i 0) ≤ f (get_or s i 0) → before_from (i + 1) ≡ before_from i
-    level h k =
-        let e : f (get_or s i 0) ≡ g (get_or t i 0) = omega arith in
+    pub alike : f (get_or s i 0) ≡ g (get_or t i 0) → before_from (i + 1) ≡ before_from i
+    alike e =
+        let k : g (get_or t i 0) ≤ f (get_or s i 0) = omega arith in
         rw (add-one, drop-cons s i 0 p, drop-cons t i 0 q, le-ltb _ _ k, eq-eqb (f (get_or s i 0)) (g (get_or t i 0)) e)
 
   pub same_end : (i : ℕ) → length s ≤ i → length t ≤ i → true ≡ same_from i

@@ -1,9 +1,8 @@
 -- The order of two strings, eight bytes at a time: equal starts, and words as numbers whose first byte is the greatest. Assumes nothing.
 use mathlib.Core.Path.{◌≡◌, refl, sym, ap, ap₂, ◌∙◌}
-use mathlib.Core.Logic.{◌⊎◌, ⊎_elim}
 use mathlib.Core.Bool.{Bool, true, false, ◌||◌}
 use mathlib.Core.List.{List, [], ◌∷◌, ◌++◌}
-use Prim.Native.Nat.{ℕ, zero, suc, ◌+◌, ◌*◌, ◌-◌, ◌^◌, ◌≤◌, ◌<◌}
+use Prim.Native.Nat.{ℕ, zero, suc, ◌+◌, ◌*◌, ◌-◌, ◌^◌, ◌≤◌, ◌<◌, min}
 use native.Mathlib.Nat.{pow-zero, pow-suc, add-mul, mul_assoc, mul_comm}
 use native.Mathlib.Omega.{arith}
 use lib.Dec.{ltb}
@@ -37,17 +36,17 @@ after_same (suc i) (a ∷ s) (b ∷ t) g h e =
     after_same i s t (omega arith) (omega arith) (ap (drop 1) e) ∙ sym (same_first a b s t (ap (λ (l : List ℕ). get_or l 0 0) e))
 
 -- where the shorter string is the start of the other
-pub all_alike : (n : ℕ) (s t : List ℕ) → n ≤ length s → n ≤ length t → (n ≡ length s) ⊎ (n ≡ length t) → take n s ≡ take n t → ltb (length s) (length t) ≡ before_of s t
-all_alike n s t g h o e = go (ltb (length s) (length t)) refl ∙ after_same n s t g h e
+pub all_alike : (n : ℕ) (s t : List ℕ) → n ≡ min (length s) (length t) → take n s ≡ take n t → ltb (length s) (length t) ≡ before_of s t
+all_alike n s t o e = go (ltb (length s) (length t)) refl ∙ after_same n s t (omega arith) (omega arith) e
   where
     go : (b : Bool) → ltb (length s) (length t) ≡ b → b ≡ before_of (drop n s) (drop n t)
     go true p =
         let l = ltb-true (length s) (length t) p in
-        let z : n ≡ length s = ⊎_elim (λ x. x) (λ x. absurd (omega arith)) o in
+        let z : n ≡ length s = omega arith in
         rw (drop_of_length-le s {i = n} (omega arith), drop-cons t n 0 (omega arith))
     go false p =
         let l = ltb-false (length s) (length t) p in
-        let z : n ≡ length t = ⊎_elim (λ x. omega arith) (λ x. x) o in
+        let z : n ≡ length t = omega arith in
         rw (drop_of_length-le t {i = n} (omega arith)) (none_before (drop n s))
       where
         none_before : (u : List ℕ) → false ≡ before_of u []

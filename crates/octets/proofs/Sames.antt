@@ -11,7 +11,7 @@ use Rattle.word.specs.Word.{word_at, word_bytes, Bytes}
 use Rattle.word.proofs.Theorems.{read_bytes_lem}
 use Rattle.word.proofs.Laws.{word_one}
 use Rattle.octets.specs.Octets.{folded, same_of}
-use Rattle.octets.proofs.Theorems.{same, not_folded}
+use Rattle.octets.proofs.Theorems.{same}
 
 module _ (s t : List ℕ) where
   -- what differs in a word is not the same
@@ -67,6 +67,3 @@ module _ (m w : Bool) (s t : List ℕ) (r : Bool) where
 
   pub right_folded : m ≡ false → w ≡ true → r ≡ same_of (folded true t) (folded false s) → r ≡ same_of (folded m s) (folded w t)
   right_folded e f h = rw (e, f) (h ∙ turned (folded true t) (folded false s))
-
-  pub none_folded : m ≡ false → w ≡ false → r ≡ same_of s t → r ≡ same_of (folded m s) (folded w t)
-  none_folded e f h = rw (e, f, not_folded s, not_folded t) h

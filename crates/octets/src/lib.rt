@@ -12,16 +12,10 @@ pub use words::eight;
 pub fn fold(mark: bool, b: u8) -> u8
     ensures { result ≡ fold_of mark b }
 {
-    if mark {
-        if b < 65 {
-            return b;
-        }
-        if b <= 90 {
-            return b + 32;
-        }
-        return b;
+    match b {
+        b'A'..=b'Z' if mark => b + 32,
+        _ => b,
     }
-    b
 }
 
 // By words where no side is folded. A folded side goes to a function of its own with parts made anew, so that this one is small and keeps its slices out of memory:
@@ -33,36 +27,28 @@ pub fn same(s: &[u8], s_mark: bool, t: &[u8], t_mark: bool) -> bool
         return false;
     }
     if s_mark {
-        return words::same_folded(&s[0..], &t[0..], t_mark);
+        return words::same::<true>(&s[0..], &t[0..], t_mark);
     }
     if t_mark {
-        return words::same_folded(&t[0..], &s[0..], false);
+        return words::same::<true>(&t[0..], &s[0..], false);
     }
-    if s.len() < 8 {
-        return words::same_bytes(s, t);
-    }
-    words::same_words(s, t)
+    words::same::<false>(s, t, false)
 }
 
 pub fn before(s: &[u8], s_mark: bool, t: &[u8], t_mark: bool) -> bool
     ensures { result ≡ before_of (folded s_mark s.now) (folded t_mark t.now) }
 {
-    let mut i = 0;
-    while i < s.len() {
+    for i in 0..s.len() {
         if t.len() <= i {
             return false;
         }
         let a = fold(s_mark, s[i]);
         let b = fold(t_mark, t[i]);
-        if a < b {
-            return true;
+        if a != b {
+            return a < b;
         }
-        if b < a {
-            return false;
-        }
-        i += 1;
     }
-    i < t.len()
+    s.len() < t.len()
 }
 
 // The same where no side is folded, by words where both have eight bytes: for names that begin alike. `before` stays small, so that the compiler lays it into its callers.
@@ -96,12 +82,12 @@ pub fn contains(s: &[u8], s_mark: bool, p: &[u8], p_mark: bool) -> bool
         return false;
     }
     if s_mark {
-        return searching::marked(&s[0..], true, &p[0..], p_mark);
+        return searching::search::<true>(&s[0..], true, &p[0..], p_mark);
     }
     if p_mark {
-        return searching::marked(&s[0..], false, &p[0..], true);
+        return searching::search::<true>(&s[0..], false, &p[0..], true);
     }
-    searching::plain(s, p)
+    searching::search::<false>(s, false, p, false)
 }
 
 pub fn ends(s: &[u8], s_mark: bool, p: &[u8], p_mark: bool) -> bool

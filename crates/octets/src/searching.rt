@@ -1,5 +1,5 @@
 // The search of `contains`, in time proportional to value plus literal: place by place while little is compared in vain, then by the literal's borders (Knuth, Morris and Pratt).
-ghost use Rattle.std.specs.Prelude.{◌≡◌, false, ◌↔◌, ℕ, ◌+◌, ◌-◌, ◌≤◌, ◌<◌, eqb, length, get_or, drop};
+ghost use Rattle.std.specs.Prelude.{◌≡◌, ◌&&◌, ◌↔◌, ℕ, ◌+◌, ◌-◌, ◌≤◌, ◌<◌, eqb, length, get_or, drop};
 ghost use Rattle.std.specs.Int.Bits.{bit_or};
 ghost use Rattle.octets.specs.Octets.{fold as fold_of, folded, begins_of, contains_of};
 ghost use Rattle.octets.specs.Borders.{Borders};
@@ -57,34 +57,24 @@ fn follow(s: &[u8], s_mark: bool, p: &[u8], p_mark: bool, borders: &[u16]) -> bo
     false
 }
 
-// Borders in an array of 64, and of 4,096.
-fn by_few(s: &[u8], s_mark: bool, p: &[u8], p_mark: bool) -> bool
-    requires { (0 < length p.now) × (length p.now ≤ 64) }
+// The borders in an array of N. A short literal does not pay for the setting of a long one.
+fn by_borders_in<const N: usize>(s: &[u8], s_mark: bool, p: &[u8], p_mark: bool) -> bool
+    requires { (0 < length p.now) × (length p.now ≤ N) × (N ≤ 4096) }
     ensures { result ≡ contains_of (folded s_mark s.now) (folded p_mark p.now) }
 {
-    let mut borders = [0u16; 64];
+    let mut borders = [0u16; N];
     set_borders(p, p_mark, &mut borders);
     follow(s, s_mark, p, p_mark, &borders)
 }
 
-fn by_many(s: &[u8], s_mark: bool, p: &[u8], p_mark: bool) -> bool
-    requires { (0 < length p.now) × (length p.now ≤ 4096) }
-    ensures { result ≡ contains_of (folded s_mark s.now) (folded p_mark p.now) }
-{
-    let mut borders = [0u16; 4096];
-    set_borders(p, p_mark, &mut borders);
-    follow(s, s_mark, p, p_mark, &borders)
-}
-
-// A short literal does not pay for the setting of the long array.
 fn by_borders(s: &[u8], s_mark: bool, p: &[u8], p_mark: bool) -> bool
     requires { (0 < length p.now) × (length p.now ≤ 4096) }
     ensures { result ≡ contains_of (folded s_mark s.now) (folded p_mark p.now) }
 {
     if p.len() <= 64 {
-        return by_few(s, s_mark, p, p_mark);
+        return by_borders_in::<64>(s, s_mark, p, p_mark);
     }
-    by_many(s, s_mark, p, p_mark)
+    by_borders_in::<4096>(s, s_mark, p, p_mark)
 }
 
 // How many bytes of p, from its first on, agree with s from a place on. The first is known to.
@@ -92,21 +82,12 @@ fn agreed(s: &[u8], s_mark: bool, at: usize, p: &[u8], p_mark: bool) -> usize
     requires { (0 < length p.now) × (at + length p.now ≤ length s.now) × (fold_of s_mark (get_or s.now at 0) ≡ fold_of p_mark (get_or p.now 0 0)) }
     ensures { eqb result (length p.now) ≡ begins_of (folded s_mark (drop at s.now)) (folded p_mark p.now) }
 {
-    let mut j = 1;
-    while j < p.len() {
+    for j in 1..p.len() {
         if fold(s_mark, s[at + j]) != fold(p_mark, p[j]) {
             return j;
         }
-        j += 1;
     }
-    j
-}
-
-// What is left of a credit.
-fn left(credit: usize, spent: usize) -> usize
-    ensures { result ≡ credit - spent }
-{
-    if credit < spent { 0 } else { credit - spent }
+    p.len()
 }
 
 // The bit in which a..z differ from A..Z if b is a letter and the side is folded, else 0: the bytes that are b with this bit are those that fold to b.
@@ -123,56 +104,28 @@ fn case_bit(mark: bool, b: u8) -> u8
 
 // Place by place, on a credit of bytes that agree in vain. Once it is spent, the rest of s is searched by borders.
 // A literal of more than 4,096 bytes, the most of a pool, is searched place by place to the end. The last call has parts made anew, so that p stays out of memory.
-pub fn marked(s: &[u8], s_mark: bool, p: &[u8], p_mark: bool) -> bool
+// Without MARKED no mark counts, and the compiler leaves the folding out. With two instances `by_borders` stays a function of its own, and its arrays out of the caller's frame.
+pub fn search<const MARKED: bool>(s: &[u8], s_mark: bool, p: &[u8], p_mark: bool) -> bool
     requires { (0 < length p.now) × (length p.now ≤ length s.now) }
-    ensures { result ≡ contains_of (folded s_mark s.now) (folded p_mark p.now) }
+    ensures { result ≡ contains_of (folded (MARKED && s_mark) s.now) (folded (MARKED && p_mark) p.now) }
 {
-    let first = fold(p_mark, p[0]);
-    let bit = case_bit(s_mark, first);
-    let last = s.len() - p.len();
+    let m = MARKED & s_mark;
+    let n = MARKED & p_mark;
+    let first = fold(n, p[0]);
+    let bit = case_bit(m, first);
     let mut credit = 64 + s.len() / 2;
-    let mut i = 0;
-    while i <= last {
+    for i in 0..s.len() - p.len() + 1 {
         if (s[i] | bit) != first {
-            i += 1;
             continue;
         }
-        let j = agreed(s, s_mark, i, p, p_mark);
+        let j = agreed(s, m, i, p, n);
         if j == p.len() {
             return true;
         }
-        credit = left(credit, j);
+        credit = credit.saturating_sub(j);
         if (credit == 0) & (p.len() <= 4096) {
-            return by_borders(&s[i..], s_mark, &p[0..], p_mark);
+            return by_borders(&s[i..], m, &p[0..], n);
         }
-        i += 1;
-    }
-    false
-}
-
-// The same without marks. With a second caller `by_borders` stays a function of its own, and its arrays out of the caller's frame.
-pub fn plain(s: &[u8], p: &[u8]) -> bool
-    requires { (0 < length p.now) × (length p.now ≤ length s.now) }
-    ensures { result ≡ contains_of (folded false s.now) (folded false p.now) }
-{
-    let first = p[0];
-    let last = s.len() - p.len();
-    let mut credit = 64 + s.len() / 2;
-    let mut i = 0;
-    while i <= last {
-        if s[i] != first {
-            i += 1;
-            continue;
-        }
-        let j = agreed(s, false, i, p, false);
-        if j == p.len() {
-            return true;
-        }
-        credit = left(credit, j);
-        if (credit == 0) & (p.len() <= 4096) {
-            return by_borders(&s[i..], false, &p[0..], false);
-        }
-        i += 1;
     }
     false
 }

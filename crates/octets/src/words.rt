@@ -5,39 +5,6 @@ ghost use Rattle.octets.specs.Octets.{lower, folded, same_of, before_of, lead};
 
 use crate::fold;
 
-// Neither side folded.
-pub fn same_bytes(s: &[u8], t: &[u8]) -> bool
-    requires { length s.now ≡ length t.now }
-    ensures { result ≡ same_of s.now t.now }
-{
-    let mut i = 0;
-    while i < s.len() {
-        if s[i] != t[i] {
-            return false;
-        }
-        i += 1;
-    }
-    true
-}
-
-pub fn same_words(s: &[u8], t: &[u8]) -> bool
-    requires { (length s.now ≡ length t.now) × (8 ≤ length s.now) }
-    ensures { result ≡ same_of s.now t.now }
-{
-    let last = s.len() - 8;
-    if word::read_u64(s, last) != word::read_u64(t, last) {
-        return false;
-    }
-    let mut i = 0;
-    while i < last {
-        if word::read_u64(s, i) != word::read_u64(t, i) {
-            return false;
-        }
-        i += 8;
-    }
-    true
-}
-
 // The word of the bytes of x with A..Z as a..z. A byte less its high bit has it with 63 more from A on, with 37 more past Z, and carries nothing: so `upper` has the high bits of
 // the bytes A..Z, which a fourth of them turns to a..z.
 fn lower_word(x: u64) -> u64
@@ -59,32 +26,31 @@ fn word_under(mark: bool, s: &[u8], at: usize) -> u64
     if mark { lower_word(x) } else { x }
 }
 
-// The same where s is folded.
-fn folded_bytes(s: &[u8], t: &[u8], t_mark: bool) -> bool
+// Byte by byte, s folded if S is set.
+fn same_bytes<const S: bool>(s: &[u8], t: &[u8], t_mark: bool) -> bool
     requires { length s.now ≡ length t.now }
-    ensures { result ≡ same_of (folded true s.now) (folded t_mark t.now) }
+    ensures { result ≡ same_of (folded S s.now) (folded t_mark t.now) }
 {
-    let mut i = 0;
-    while i < s.len() {
-        if fold(true, s[i]) != fold(t_mark, t[i]) {
+    for i in 0..s.len() {
+        if fold(S, s[i]) != fold(t_mark, t[i]) {
             return false;
         }
-        i += 1;
     }
     true
 }
 
-fn folded_words(s: &[u8], t: &[u8], t_mark: bool) -> bool
+// Eight bytes at a time, the last eight first.
+fn same_words<const S: bool>(s: &[u8], t: &[u8], t_mark: bool) -> bool
     requires { (length s.now ≡ length t.now) × (8 ≤ length s.now) }
-    ensures { result ≡ same_of (folded true s.now) (folded t_mark t.now) }
+    ensures { result ≡ same_of (folded S s.now) (folded t_mark t.now) }
 {
     let last = s.len() - 8;
-    if word_under(true, s, last) != word_under(t_mark, t, last) {
+    if word_under(S, s, last) != word_under(t_mark, t, last) {
         return false;
     }
     let mut i = 0;
     while i < last {
-        if word_under(true, s, i) != word_under(t_mark, t, i) {
+        if word_under(S, s, i) != word_under(t_mark, t, i) {
             return false;
         }
         i += 8;
@@ -92,14 +58,14 @@ fn folded_words(s: &[u8], t: &[u8], t_mark: bool) -> bool
     true
 }
 
-pub fn same_folded(s: &[u8], t: &[u8], t_mark: bool) -> bool
+pub fn same<const S: bool>(s: &[u8], t: &[u8], t_mark: bool) -> bool
     requires { length s.now ≡ length t.now }
-    ensures { result ≡ same_of (folded true s.now) (folded t_mark t.now) }
+    ensures { result ≡ same_of (folded S s.now) (folded t_mark t.now) }
 {
     if s.len() < 8 {
-        return folded_bytes(s, t, t_mark);
+        return same_bytes::<S>(s, t, t_mark);
     }
-    folded_words(s, t, t_mark)
+    same_words::<S>(s, t, t_mark)
 }
 
 // Eight bytes as one number, the first greatest.
@@ -108,10 +74,8 @@ pub fn eight(s: &[u8], at: usize) -> u64
     ensures { result ≡ lead 8 0 (drop at s.now) }
 {
     let mut v: u64 = 0;
-    let mut i = 0;
-    while i < 8 {
+    for i in 0..8 {
         v = v * 256 + s[at + i] as u64;
-        i += 1;
     }
     v
 }
@@ -124,18 +88,12 @@ fn by_word(s: &[u8], t: &[u8], at: usize) -> bool
     eight(s, at) < eight(t, at)
 }
 
-fn shorter(s: &[u8], t: &[u8]) -> usize
-    ensures { (result ≤ length s.now) × (result ≤ length t.now) × ((result ≡ length s.now) ⊎ (result ≡ length t.now)) }
-{
-    if s.len() < t.len() { s.len() } else { t.len() }
-}
-
 // Whether s is before t, neither folded: by words, the last of which ends with the shorter string.
 pub fn before_words(s: &[u8], t: &[u8]) -> bool
     requires { (8 ≤ length s.now) × (8 ≤ length t.now) }
     ensures { result ≡ before_of s.now t.now }
 {
-    let tail = shorter(s, t) - 8;
+    let tail = s.len().min(t.len()) - 8;
     let mut i = 0;
     while i < tail {
         if word::read_u64(s, i) != word::read_u64(t, i) {

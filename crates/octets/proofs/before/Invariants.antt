@@ -1,12 +1,7 @@
-use Prim.Native.Nat.{◌≤◌, ◌-◌}
 use mathlib.Core.Path.{◌≡◌}
-use lib.ListN.{length}
 use Rattle.octets.specs.Octets.{fold, folded, before_of}
 use Rattle.octets.proofs.Laws.{before_from}
 use Rattle.octets.proofs.before.Given as goal
 
 abbrev pub invariant-loop-i : goal.invariant-loop-i
-invariant-loop-i l = (l.i ≤ length l.s) × (before_from (fold l.s_mark) (fold l.t_mark) l.s l.t l.i ≡ before_of (folded l.s_mark l.s) (folded l.t_mark l.t))
-
-abbrev pub decreases-loop-i : goal.decreases-loop-i
-decreases-loop-i l = length l.s - l.i
+invariant-loop-i l = before_from (fold l.s_mark) (fold l.t_mark) l.s l.t l.i ≡ before_of (folded l.s_mark l.s) (folded l.t_mark l.t)

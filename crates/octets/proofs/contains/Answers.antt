@@ -14,25 +14,25 @@ returns-then-s-p c =
     let a = c.args in
     no_place (fold a.s_mark) (fold a.p_mark) a.s.now a.p.now 0 (omega arith) (omega arith)
 
-pub marked-requires : goal.marked-requires
-marked-requires c =
+pub search-requires : goal.search-requires
+search-requires c =
     let a = c.args in
     rw (rest a.s.now 0, rest a.p.now 0) (omega arith, omega arith)
 
 pub returns-then-s_mark : goal.returns-then-s_mark
 returns-then-s_mark c =
     let a = c.args in
-    rw c.if-s_mark.true (rw (rest a.s.now 0, rest a.p.now 0) at c.marked.ensures)
+    rw c.if-s_mark.true (rw (rest a.s.now 0, rest a.p.now 0) at c.search.ensures)
 
-pub marked-requires-then-p_mark : goal.marked-requires-then-p_mark
-marked-requires-then-p_mark c =
+pub search-requires-then-p_mark : goal.search-requires-then-p_mark
+search-requires-then-p_mark c =
     let a = c.args in
     rw (rest a.s.now 0, rest a.p.now 0) (omega arith, omega arith)
 
 pub returns-then-p_mark : goal.returns-then-p_mark
 returns-then-p_mark c =
     let a = c.args in
-    rw (c.if-s_mark.false, c.if-p_mark.true) (rw (rest a.s.now 0, rest a.p.now 0) at c.marked-then-p_mark.ensures)
+    rw (c.if-s_mark.false, c.if-p_mark.true) (rw (rest a.s.now 0, rest a.p.now 0) at c.search-then-p_mark.ensures)
 
 pub returns : goal.returns
-returns c = rw (c.if-s_mark.false, c.if-p_mark.false) c.plain.ensures
+returns c = rw (c.if-s_mark.false, c.if-p_mark.false) c.search-2.ensures

@@ -1,53 +1,44 @@
--- `words::same_words` meets its contract: the bytes before i are the same, and the last eight are. Assumes nothing.
-use mathlib.Core.Path.{refl, sym, ◌∙◌}
+use mathlib.Core.Path.{◌≡◌, refl, sym, ◌∙◌}
+use denote.Param.{number}
+use Rattle.octets.specs.contracts.words.same_words.{S-type}
 use Prim.Native.Nat.{◌-◌}
 use native.Mathlib.Omega.{arith}
-use lib.ListN.{length}
+use lib.ListN.{length, length-map}
+use Rattle.octets.specs.Octets.{fold, folded}
 use Rattle.octets.proofs.Sames.{other_word, next_word, last_word}
+use Rattle.octets.proofs.Folds.{folded_bytes}
 use Rattle.octets.proofs.words.same_words.Goals as goal
 
-pub overflow_sub-last : goal.overflow_sub-last
-overflow_sub-last c = omega arith
-
-pub read_u64-requires : goal.read_u64-requires
-read_u64-requires c = omega arith
-
-pub read_u64-requires-2 : goal.read_u64-requires-2
-read_u64-requires-2 c = omega arith
-
-pub returns-then-read_u64 : goal.returns-then-read_u64
-returns-then-read_u64 c =
+pub returns-then-word_under : goal.returns-then-word_under
+returns-then-word_under g c =
     let a = c.args in
-    other_word a.s.now a.t.now 8 (length a.s.now - 8) (λ e. c.if-read_u64.true (c.read_u64.ensures ∙ (e ∙ sym c.read_u64-2.ensures)))
+    other_word (folded (S-type (number g.row.S)) a.s.now) (folded a.t_mark a.t.now) 8 (length a.s.now - 8) (λ e. c.if-word_under.true (c.word_under.ensures ∙ (e ∙ sym c.word_under-2.ensures)))
 
 pub loop-i-init : goal.loop-i-init
-loop-i-init c = (omega arith, refl)
+loop-i-init g c = (omega arith, refl)
 
-pub read_u64-requires-in-loop-i : goal.read_u64-requires-in-loop-i
-read_u64-requires-in-loop-i c = omega arith
-
-pub read_u64-requires-in-loop-i-2 : goal.read_u64-requires-in-loop-i-2
-read_u64-requires-in-loop-i-2 c = omega arith
-
-pub returns-then-read_u64-2 : goal.returns-then-read_u64-2
-returns-then-read_u64-2 c =
+pub returns-then-word_under-2 : goal.returns-then-word_under-2
+returns-then-word_under-2 g c =
     let a = c.args in
-    other_word a.s.now a.t.now 8 c.loop-i.i (λ e. c.if-read_u64-2.true (c.read_u64-in-loop-i.ensures ∙ (e ∙ sym c.read_u64-in-loop-i-2.ensures)))
-
-pub overflow_add-i : goal.overflow_add-i
-overflow_add-i c = omega arith
-
-pub loop-i-smaller : goal.loop-i-smaller
-loop-i-smaller c = omega arith
+    other_word (folded (S-type (number g.row.S)) a.s.now) (folded a.t_mark a.t.now) 8 c.loop-i.i (λ e. c.if-word_under-2.true (c.word_under-in-loop-i.ensures ∙ (e ∙ sym c.word_under-in-loop-i-2.ensures)))
 
 pub loop-i-preserved : goal.loop-i-preserved
-loop-i-preserved c =
+loop-i-preserved g c =
     let a = c.args in
-    let e = sym c.read_u64-in-loop-i.ensures ∙ (c.if-read_u64-2.false ∙ c.read_u64-in-loop-i-2.ensures) in
-    (omega arith, next_word a.s.now a.t.now (λ i. (c.shared_slice_known-1.given i).fits) (λ i. (c.shared_slice_known-2-1.given i).fits) (omega arith) 8 c.loop-i.i (omega arith) e c.loop-i.invariant.1)
+    let l = c.loop-i in
+    let e = sym c.word_under-in-loop-i.ensures ∙ (c.if-word_under-2.false ∙ c.word_under-in-loop-i-2.ensures) in
+    let ms : length (folded (S-type (number g.row.S)) a.s.now) ≡ length a.s.now = length-map a.s.now (fold (S-type (number g.row.S))) in
+    let mt : length (folded a.t_mark a.t.now) ≡ length a.t.now = length-map a.t.now (fold a.t_mark) in
+    let bs = folded_bytes (S-type (number g.row.S)) a.s.now (λ i. (c.type_inv.s i).fits) in
+    let bt = folded_bytes a.t_mark a.t.now (λ i. (c.type_inv.t i).fits) in
+    (omega arith, next_word (folded (S-type (number g.row.S)) a.s.now) (folded a.t_mark a.t.now) bs bt (omega (arith, ms, mt)) 8 l.i (omega (arith, ms)) e l.invariant.1)
 
 pub returns : goal.returns
-returns c =
+returns g c =
     let a = c.args in
-    let e = sym c.read_u64.ensures ∙ (c.if-read_u64.false ∙ c.read_u64-2.ensures) in
-    last_word a.s.now a.t.now (λ i. (c.shared_slice_known-1.given i).fits) (λ i. (c.shared_slice_known-2-1.given i).fits) (omega arith) 8 c.loop-i.i (length a.s.now - 8) (omega arith) (omega arith) e c.loop-i.invariant.1
+    let e = sym c.word_under.ensures ∙ (c.if-word_under.false ∙ c.word_under-2.ensures) in
+    let ms : length (folded (S-type (number g.row.S)) a.s.now) ≡ length a.s.now = length-map a.s.now (fold (S-type (number g.row.S))) in
+    let mt : length (folded a.t_mark a.t.now) ≡ length a.t.now = length-map a.t.now (fold a.t_mark) in
+    let bs = folded_bytes (S-type (number g.row.S)) a.s.now (λ i. (c.type_inv.s i).fits) in
+    let bt = folded_bytes a.t_mark a.t.now (λ i. (c.type_inv.t i).fits) in
+    last_word (folded (S-type (number g.row.S)) a.s.now) (folded a.t_mark a.t.now) bs bt (omega (arith, ms, mt)) 8 c.loop-i.i (length a.s.now - 8) (omega arith) (omega (arith, ms)) e c.loop-i.invariant.1
