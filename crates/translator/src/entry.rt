@@ -12,15 +12,6 @@ use crate::operand;
 use grammar::stream;
 use table::Entry;
 
-// The ops of literals and names, as wide as an entry has them.
-const INT32: u16 = opcode::INT32 as u16;
-
-const REAL64: u16 = opcode::REAL64 as u16;
-
-pub const TEXT: u16 = opcode::TEXT as u16;
-
-pub const NAME: u16 = opcode::NAME as u16;
-
 // The entry, over the whole of a part of 12 bytes.
 fn put_entry(part: &mut [u8], e: Entry)
     requires { length part.old ≡ 12 }
@@ -44,8 +35,8 @@ pub fn put(out: &mut [u8], i: usize, e: Entry)
 pub fn pushes(c: u16) -> bool
     ensures { result ≡ pushesOf c }
 {
-    let op = c % 64;
-    (INT32 <= op) & (op <= NAME)
+    let op = (c % 64) as u8;
+    (opcode::INT32 <= op) & (op <= opcode::NAME)
 }
 
 // The entry of an operator, a call or a skip, which its code has whole.
@@ -60,37 +51,44 @@ fn code_entry(c: u16) -> Entry
 }
 
 // "a length, b pool offset"
-fn part_entry(op: u16, len: usize, pool: usize) -> Entry
+fn part_entry(op: u8, len: usize, pool: usize) -> Entry
     requires { len ≤ 4096 }
     ensures { result ≡ entry op len pool }
 {
     Entry {
-        op: op,
+        op: op as u16,
         a: len as u16,
         b: pool as u64,
     }
 }
 
 // "b: two's complement or bits"
-fn literal_entry(op: u16, b: u64) -> Entry
+fn literal_entry(op: u8, b: u64) -> Entry
     ensures { result ≡ entry op 0 b }
 {
-    Entry { op: op, a: 0, b: b }
+    Entry {
+        op: op as u16,
+        a: 0,
+        b: b,
+    }
 }
 
 // The entry that pushes the literal or name of a kind at a place of the text, of which n bytes stand in the pool from `pool` on.
-fn leaf_entry(text: &[u8], op: u16, place: usize, n: usize, pool: usize) -> Entry
+fn leaf_entry(text: &[u8], op: u8, place: usize, n: usize, pool: usize) -> Entry
     requires { (is_operand op ≡ true) × (n ≡ length (leaf_bytes (token_of text.now op place))) × (n ≤ 4096) }
     ensures { result ≡ leaf_entry pool (token_of text.now op place) }
 {
-    if op == NAME {
-        return part_entry(NAME, n, pool);
+    if op == opcode::NAME {
+        return part_entry(opcode::NAME, n, pool);
     }
-    if op == TEXT {
-        return part_entry(TEXT, n, pool);
+    if op == opcode::TEXT {
+        return part_entry(opcode::TEXT, n, pool);
     }
-    if op == REAL64 {
-        return literal_entry(REAL64, number::bits_of_real(lexer::real_value(text, place)));
+    if op == opcode::REAL64 {
+        return literal_entry(
+            opcode::REAL64,
+            number::bits_of_real(lexer::real_value(text, place)),
+        );
     }
     literal_entry(op, operand::int_bits(text, place))
 }
@@ -115,7 +113,7 @@ pub fn put_code(
         put(out, i, code_entry(c));
         return 0;
     }
-    let op = c % 64;
+    let op = (c % 64) as u8;
     let place = stream::start(places, leaf);
     let n = stream::start(sizes, leaf);
     operand::put_bytes(text, op, place, n, out, from + pool);

@@ -9,8 +9,6 @@ ghost use Rattle.lexer.specs.Answer.{Stand};
 ghost use Rattle.grammar.specs.Stream.{token_of};
 ghost use Rattle.translator.specs.Compile.{leaf_bytes};
 
-use crate::entry;
-
 // ---- bytes
 
 // Copies n bytes from a place of the text. Those of most names are two words, which may have bytes in common.
@@ -41,13 +39,7 @@ fn copy(out: &mut [u8], at: usize, text: &[u8], from: usize, n: usize)
 fn ends_name(b: u8) -> bool
     ensures { result ≡ true → is_delimiter b ≡ true }
 {
-    match b {
-        b' ' => true,
-        b')' => true,
-        b',' => true,
-        b'\n' => true,
-        _ => false,
-    }
+    matches!(b, b' ' | b')' | b',' | b'\n')
 }
 
 // Whether the n bytes of a name stand so in the text: it ends after n bytes, and the last is no backslash.
@@ -98,34 +90,27 @@ fn put_string(text: &[u8], place: usize, n: usize, out: &mut [u8], at: usize)
 }
 
 // Copies what the operand of an op brings to the pool, n bytes, to the buffer from `at` on.
-pub fn put_bytes(text: &[u8], op: u16, place: usize, n: usize, out: &mut [u8], at: usize)
+pub fn put_bytes(text: &[u8], op: u8, place: usize, n: usize, out: &mut [u8], at: usize)
     requires { (place < 65536) × (n ≤ 4096) × (n ≡ length (leaf_bytes (token_of text.now op place))) × (at + n ≤ length out.old) }
     ensures { out.new ≡ sets out.old at (leaf_bytes (token_of text.now op place)) }
 {
-    if op == entry::NAME {
+    if op == opcode::NAME {
         put_name(text, place, n, out, at);
         return;
     }
-    if op == entry::TEXT {
+    if op == opcode::TEXT {
         put_string(text, place, n, out, at);
     }
 }
 
 // ---- integers
 
-fn wide(b: u8) -> u64
-    ensures { result ≡ b }
-{
-    b as u64
-}
-
 // The bits of an integer of decimal digits that do not start with `0`, as far as they are few; else 0.
 fn few_digits(text: &[u8], place: usize) -> u64
     ensures { 0 < result → result ≡ of_z w64 (integer_at text.now place) }
 {
     let mut v: u64 = 0;
-    let mut i = place;
-    while i < text.len() {
+    for i in place..text.len() {
         let b = text[i];
         if (b < b'0') | (b'9' < b) {
             return v;
@@ -133,8 +118,7 @@ fn few_digits(text: &[u8], place: usize) -> u64
         if (100_000_000_000_000_000 <= v) | ((v == 0) & (b == b'0')) {
             return 0;
         }
-        v = 10 * v + wide(b - b'0');
-        i += 1;
+        v = 10 * v + (b - b'0') as u64;
     }
     v
 }

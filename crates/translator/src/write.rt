@@ -14,10 +14,8 @@ pub fn pool_length(sizes: &[u16], n: usize) -> usize
     ensures { result ≡ sum_from sizes.now 0 n }
 {
     let mut sum: usize = 0;
-    let mut i = 0;
-    while i < n {
+    for i in 0..n {
         sum += stream::start(sizes, i);
-        i += 1;
     }
     sum
 }
@@ -37,12 +35,9 @@ pub fn write(text: &[u8], places: &[u16], sizes: &[u16], codes: &[u16], out: &mu
     let from = 10 + 12 * codes.len();
     let mut leaf: usize = 0;
     let mut pool: usize = 0;
-    let mut i = 0;
-    while i < codes.len() {
-        let c = codes[i];
-        let n = entry::put_code(text, c, places, sizes, leaf, out, i, from, pool);
-        leaf += operands(c);
+    for (i, c) in codes.iter().enumerate() {
+        let n = entry::put_code(text, *c, places, sizes, leaf, out, i, from, pool);
+        leaf += operands(*c);
         pool += n;
-        i += 1;
     }
 }

@@ -1,6 +1,6 @@
 use Prim.Native.Nat.{ℕ, ◌+◌, ◌*◌}
 use native.Mathlib.Omega.{arith}
-use mathlib.Core.Path.{ap}
+use mathlib.Core.Path.{refl}
 use Rattle.translator.proofs.Plain.{few_start, few_end, few_stop, digit-range, low, few-more}
 use Rattle.translator.proofs.operand.few_digits.Goals as goal
 
@@ -19,22 +19,16 @@ returns-then-v-b c = λ h. absurd (omega arith)
 pub overflow_mul-v : goal.overflow_mul-v
 overflow_mul-v c = omega (arith, low c.loop-i.invariant c.loop-i-test.true c.if-b.false c.if-v-b.false)
 
-pub overflow_sub-b : goal.overflow_sub-b
-overflow_sub-b c = (digit-range c.loop-i.invariant c.loop-i-test.true c.if-b.false c.if-v-b.false).0
+pub overflow_sub-v : goal.overflow_sub-v
+overflow_sub-v c = (digit-range c.loop-i.invariant c.loop-i-test.true c.if-b.false c.if-v-b.false).0
 
 pub overflow_add-v : goal.overflow_add-v
 overflow_add-v c =
-    omega (arith, low c.loop-i.invariant c.loop-i-test.true c.if-b.false c.if-v-b.false, (digit-range c.loop-i.invariant c.loop-i-test.true c.if-b.false c.if-v-b.false).1, c.wide.ensures)
-
-pub overflow_add-i : goal.overflow_add-i
-overflow_add-i c = omega (arith, c.loop-i-test.true)
-
-pub loop-i-smaller : goal.loop-i-smaller
-loop-i-smaller c = omega (arith, c.loop-i-test.true)
+    omega (arith, low c.loop-i.invariant c.loop-i-test.true c.if-b.false c.if-v-b.false, (digit-range c.loop-i.invariant c.loop-i-test.true c.if-b.false c.if-v-b.false).1)
 
 pub loop-i-preserved : goal.loop-i-preserved
 loop-i-preserved c =
-    few-more c.loop-i.invariant c.loop-i-test.true c.if-b.false c.if-v-b.false (ap (λ (d : ℕ). 10 * c.loop-i.v + d) c.wide.ensures)
+    few-more c.loop-i.invariant c.loop-i-test.true c.if-b.false c.if-v-b.false refl
 
 pub returns : goal.returns
 returns c = few_end c.loop-i.invariant c.loop-i-test.false

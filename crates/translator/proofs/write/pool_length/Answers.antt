@@ -11,12 +11,6 @@ pub overflow_add-sum : goal.overflow_add-sum
 overflow_add-sum c =
     omega (arith, c.loop-i.invariant.low, c.loop-i.invariant.within, c.start-sum.ensures, c.shared_slice_known-1.given c.loop-i.i, c.requires, c.loop-i-test.true)
 
-pub overflow_add-i : goal.overflow_add-i
-overflow_add-i c = omega (arith, c.loop-i-test.true, c.requires)
-
-pub loop-i-smaller : goal.loop-i-smaller
-loop-i-smaller c = omega (arith, c.loop-i-test.true)
-
 pub loop-i-preserved : goal.loop-i-preserved
 loop-i-preserved c =
     sum_on c.loop-i.invariant c.loop-i-test.true (ap (λ (m : ℕ). c.loop-i.sum + m) c.start-sum.ensures) (omega (arith, c.shared_slice_known-1.given c.loop-i.i))

@@ -13,12 +13,6 @@ overflow_add-from c = omega (arith, c.requires.0)
 pub loop-i-init : goal.loop-i-init
 loop-i-init c = write_start _ _ _ _ _ c.requires.3
 
-pub offset_bounds-codes-i : goal.offset_bounds-codes-i
-offset_bounds-codes-i c = omega (arith, c.loop-i-test.true, c.requires.0)
-
-pub bounds-codes-i : goal.bounds-codes-i
-bounds-codes-i c = omega (arith, c.loop-i-test.true)
-
 pub put_code-n-requires : goal.put_code-n-requires
 put_code-n-requires c = write-fits _ _ _ _ _ c.loop-i.invariant c.loop-i-test.true c.requires.1 c.requires.0 c.requires.2
 
@@ -28,12 +22,6 @@ overflow_add-leaf c = omega (arith, c.loop-i.invariant.few, c.operands-leaf.ensu
 pub overflow_add-pool : goal.overflow_add-pool
 overflow_add-pool c =
     omega (arith, c.put_code-n.ensures.value, (write-fits _ _ _ _ _ c.loop-i.invariant c.loop-i-test.true c.requires.1 c.requires.0 c.requires.2).3, c.loop-i.invariant.ends, c.requires.2)
-
-pub overflow_add-i : goal.overflow_add-i
-overflow_add-i c = omega (arith, c.loop-i-test.true, c.requires.0)
-
-pub loop-i-smaller : goal.loop-i-smaller
-loop-i-smaller c = omega (arith, c.loop-i-test.true)
 
 pub loop-i-preserved : goal.loop-i-preserved
 loop-i-preserved c =
