@@ -118,13 +118,24 @@ pub fn virentolex_entry(
 ) -> u8
     ensures { record { number = result; op = op.new; a = a.new; b = b.new; start = start.new; end = end.new } ≡ parts_of table.now k }
 {
-    let p = table::parts_of(table, k);
-    *op = p.op;
-    *a = p.a;
-    *b = p.b;
-    *start = p.start;
-    *end = p.end;
-    p.number
+    match table::parts_of(table, k) {
+        Ok(p) => {
+            *op = p.op;
+            *a = p.a;
+            *b = p.b;
+            *start = p.start;
+            *end = p.end;
+            0
+        }
+        Err(r) => {
+            *op = 0;
+            *a = 0;
+            *b = 0;
+            *start = 0;
+            *end = 0;
+            r.number()
+        }
+    }
 }
 
 // "Reading field k gives its kind and its name and value as parts of the lent notice": the name from `name` to `value`, the value from there to `end`.

@@ -6,12 +6,13 @@ ghost use Rattle.std.proofs.Math.Option.{Option, some};
 ghost use Rattle.opcode.specs.Opcode.{op_of, Kind, logic, value};
 ghost use Rattle.table.specs.Table.{table_kind, count_of, edition_of, entry_at, entries_of, pool_of, layout_of};
 ghost use Rattle.table.specs.Check.{in_range, part_right, load_right, entry_right, pop_one, pop, push, pattern_test, operand_right, operands_right, patterns_before, check_of};
-ghost use Rattle.table.specs.Parts.{no_parts, parts_at, parts_of};
+ghost use Rattle.table.specs.Parts.{parts_at, parts_of, answered};
 ghost use Rattle.table.specs.Groups.{group_of, right_by, takes_by, gives_by, skip_by};
 ghost use Rattle.table.specs.Number.{bit_of, number_of, met_by, Landed};
 
 use groups::Group;
 use opcode::{Edition, Load};
+use refusal::Refusal;
 
 mod groups;
 
@@ -39,6 +40,15 @@ pub fn kind(edition: Edition) -> u16
         Edition::Second => SECOND_KIND,
     }
 }
+
+// The operators whose entries have bytes in the pool, and those that take patterns.
+const TEXT: u16 = opcode::TEXT as u16;
+
+const NAME: u16 = opcode::NAME as u16;
+
+const WILDCARD: u16 = opcode::WILDCARD as u16;
+
+const REGEX: u16 = opcode::REGEX as u16;
 
 // The most bytes of a table: the header, 512 entries and a pool of 4,096.
 pub const MOST_BYTES: usize = 10 + 12 * 512 + 4096;
@@ -112,10 +122,11 @@ pub fn entry_at(table: &[u8], i: usize) -> Entry
     requires { 22 + 12 * i ≤ length table.now }
     ensures { result ≡ entry_at table.now i }
 {
-    let op = op_at(table, i);
-    let a = a_at(table, i);
-    let b = b_at(table, i);
-    Entry { op: op, a: a, b: b }
+    Entry {
+        op: op_at(table, i),
+        a: a_at(table, i),
+        b: b_at(table, i),
+    }
 }
 
 // The pool, as a part of the table. It asks that the entries lie in the table, which the layout says.
@@ -211,12 +222,12 @@ fn entry_right(pool: &[u8], g: Group, e: Entry) -> bool
         Group::Wide => e.a == 0,
         Group::Text => part_right(pool, e),
         Group::Name => name_right(pool, e),
-        Group::Change => unused(e),
-        Group::Not => unused(e),
-        Group::Test => unused(e),
-        Group::Combine => unused(e),
-        Group::Compare => unused(e),
-        Group::Connect => unused(e),
+        Group::Change
+        | Group::Not
+        | Group::Test
+        | Group::Combine
+        | Group::Compare
+        | Group::Connect => unused(e),
         Group::Many => many_right(e),
         Group::Skip => passes_some(e),
         Group::Unknown => false,
@@ -287,10 +298,8 @@ fn many_flow(a: u16, c: u64) -> u64
     ensures { (s : Option (List Kind)) → c ≡ number_of s → result ≡ number_of (push logic (pop (replicate (suc a) value) s)) }
 {
     let mut d = pop_one(c, 1);
-    let mut left = a;
-    while 0 < left {
+    for _ in 0..a {
         d = pop_one(d, 1);
-        left -= 1;
     }
     push_one(d, 0)
 }
@@ -300,18 +309,14 @@ fn flow(g: Group, a: u16, c: u64) -> u64
     ensures { (s : Option (List Kind)) → c ≡ number_of s → result ≡ number_of (push (gives_by g) (pop (takes_by g a) s)) }
 {
     match g {
-        Group::Int32 => push_one(c, 1),
-        Group::Wide => push_one(c, 1),
-        Group::Text => push_one(c, 1),
-        Group::Name => push_one(c, 1),
+        Group::Int32 | Group::Wide | Group::Text | Group::Name => push_one(c, 1),
         Group::Change => one_flow(c, 1, 1),
-        Group::Not => one_flow(c, 0, 0),
+        Group::Not | Group::Skip => one_flow(c, 0, 0),
         Group::Test => one_flow(c, 1, 0),
         Group::Combine => two_flow(c, 1, 1),
         Group::Compare => two_flow(c, 1, 0),
         Group::Connect => two_flow(c, 0, 0),
         Group::Many => many_flow(a, c),
-        Group::Skip => one_flow(c, 0, 0),
         Group::Unknown => push_one(c, 0),
     }
 }
@@ -360,8 +365,8 @@ fn is_pattern(number: u16, p: &[u8]) -> bool
     ensures { (test : List ℕ → Bool) → pattern_test (op_of number) ≡ some test → result ≡ test p.now }
 {
     match number {
-        60 => pattern::wildcard::well_formed(p),
-        61 => regexp::well_formed(p),
+        WILDCARD => pattern::wildcard::well_formed(p),
+        REGEX => regexp::well_formed(p),
         _ => false,
     }
 }
@@ -371,7 +376,7 @@ fn operand_right(pool: &[u8], number: u16, e: Entry) -> bool
     requires { e.op ≡ 4 → part_right pool.now e ≡ true }
     ensures { (test : List ℕ → Bool) → pattern_test (op_of number) ≡ some test → result ≡ operand_right test pool.now e }
 {
-    if e.op != 4 {
+    if e.op != TEXT {
         return false;
     }
     let start = e.b as usize;
@@ -384,15 +389,11 @@ fn operands_right(table: &[u8], pool: &[u8], number: u16, i: usize, a: u16) -> b
     requires { (i ≤ count_of table.now) × (10 + 12 * count_of table.now ≤ length table.now) × ((k : ℕ) → k < i → entry_right pool.now (entry_at table.now k) ≡ true) }
     ensures { (test : List ℕ → Bool) → pattern_test (op_of number) ≡ some test → result ≡ operands_right test pool.now (entries_of table.now) i a }
 {
-    let mut at = i;
-    let mut left = a;
-    while 0 < left {
-        if at == 0 {
+    for k in 0..a as usize {
+        if i <= k {
             return false;
         }
-        at -= 1;
-        left -= 1;
-        let e = entry_at(table, at);
+        let e = entry_at(table, i - k - 1);
         if !operand_right(pool, number, e) {
             return false;
         }
@@ -405,7 +406,7 @@ fn placed_right(table: &[u8], pool: &[u8], g: Group, i: usize, e: Entry) -> bool
     requires { (i ≤ count_of table.now) × (10 + 12 * count_of table.now ≤ length table.now) × ((k : ℕ) → k < i → entry_right pool.now (entry_at table.now k) ≡ true) × (g ≡ group_of (op_of e.op)) }
     ensures { result ≡ (right_by pool.now g e && patterns_before pool.now (entries_of table.now) i e) }
 {
-    if (e.op != 60) & (e.op != 61) {
+    if (e.op != WILDCARD) & (e.op != REGEX) {
         return entry_right(pool, g, e);
     }
     many_right(e) & operands_right(table, pool, e.op, i, e.a)
@@ -420,8 +421,7 @@ fn kinds_right(table: &[u8], n: usize, wanted: &mut [u64]) -> bool
 {
     let strings = pool(table);
     let mut c = 1;
-    let mut i = 0;
-    while i < n {
+    for i in 0..n {
         let w = wanted[i];
         if !meets(w, c) {
             return false;
@@ -438,11 +438,19 @@ fn kinds_right(table: &[u8], n: usize, wanted: &mut [u64]) -> bool
         if c == 0 {
             return false;
         }
-        i += 1;
     }
     // one logic slot
     let w = wanted[n];
     (c == 2) & meets(w, c)
+}
+
+// The same with an array of N for what is wanted, 0 at first.
+fn kinds_right_in<const N: usize>(table: &[u8], n: usize) -> bool
+    requires { (layout_of table.now ≡ true) × (n ≡ count_of table.now) × (n < N) × (N ≤ 513) }
+    ensures { result ≡ check_of table.now }
+{
+    let mut wanted = [0u64; N];
+    kinds_right(table, n, &mut wanted)
 }
 
 // Whether the table passes; refusal 12 if not. A small table has a small array, since every element of an array is set before it is used.
@@ -456,23 +464,19 @@ pub fn check(table: &[u8]) -> bool
     let n = count(table);
     let whole = &table[0..];
     if n < 16 {
-        let mut fewest = [0u64; 16];
-        return kinds_right(whole, n, &mut fewest);
+        return kinds_right_in::<16>(whole, n);
     }
     if n < 64 {
-        let mut few = [0u64; 64];
-        return kinds_right(whole, n, &mut few);
+        return kinds_right_in::<64>(whole, n);
     }
-    let mut wanted = [0u64; 513];
-    kinds_right(whole, n, &mut wanted)
+    kinds_right_in::<513>(whole, n)
 }
 
 // ---- what an entry is
 
-// What an entry of a table is: 12 if the table fails its check, 17 if it has no entry k; its op, a and b, and for a string or a name where its bytes lie in the table, from `start` to `end`; else all 0.
-#[derive(Drop)]
+// What an entry of a table is: its op, a and b, and for a string or a name where its bytes lie in the table, from `start` to `end`; 0 and 0 for the others.
+#[derive(Clone, Copy)]
 pub struct EntryParts {
-    pub number: u8,
     pub op: u16,
     pub a: u16,
     pub b: u64,
@@ -480,52 +484,36 @@ pub struct EntryParts {
     pub end: usize,
 }
 
-fn no_parts(number: u8) -> EntryParts
-    ensures { result ≡ no_parts number }
-{
-    EntryParts {
-        number,
-        op: 0,
-        a: 0,
-        b: 0,
-        start: 0,
-        end: 0,
-    }
-}
-
 // The entry k of a table that passes the check.
 fn parts_at(table: &[u8], k: usize) -> EntryParts
     requires { (check_of table.now ≡ true) × (k < count_of table.now) }
-    ensures { result ≡ parts_at table.now k }
+    ensures { answered (Ok result) ≡ parts_at table.now k }
 {
-    let op = op_at(table, k);
-    let a = a_at(table, k);
-    let b = b_at(table, k);
+    let e = entry_at(table, k);
     let mut start = 0;
     let mut end = 0;
-    if (op == 4) | (op == 5) {
-        start = 10 + 12 * count(table) + b as usize;
-        end = start + a as usize;
+    if (e.op == TEXT) | (e.op == NAME) {
+        start = 10 + 12 * count(table) + e.b as usize;
+        end = start + e.a as usize;
     }
     EntryParts {
-        number: 0,
-        op,
-        a,
-        b,
+        op: e.op,
+        a: e.a,
+        b: e.b,
         start,
         end,
     }
 }
 
-// For support staff (document 02, request 7): what the entry is whose number a run carries.
-pub fn parts_of(table: &[u8], k: usize) -> EntryParts
-    ensures { result ≡ parts_of table.now k }
+// For support staff (document 02, request 7): what the entry is whose number a run carries. Refused if the table fails its check, or has no entry k.
+pub fn parts_of(table: &[u8], k: usize) -> Result<EntryParts, Refusal>
+    ensures { answered result ≡ parts_of table.now k }
 {
     if !check(table) {
-        return no_parts(12);
+        return Err(Refusal::Table);
     }
     if count(table) <= k {
-        return no_parts(17);
+        return Err(Refusal::Index);
     }
-    parts_at(table, k)
+    Ok(parts_at(table, k))
 }

@@ -3,11 +3,11 @@ use mathlib.Core.Path.{◌≡◌, sym, ◌∙◌}
 use mathlib.Core.List.{List}
 use Prim.Native.Nat.{ℕ, ◌-◌, ◌<◌}
 use native.Mathlib.Omega.{arith}
-use lib.ListN.{length, take, length-replicate}
+use lib.ListN.{length, take}
 use lib.Seq.{take_all}
 use Rattle.table.proofs.Laid.{laid}
 use Rattle.table.proofs.Answer.{bad_layout}
-use Rattle.table.proofs.Passing.{nothing}
+use Rattle.std.proofs.Common.{lit≤}
 use Rattle.table.proofs.check.Goals as goal
 
 -- the whole of a table, as a part of it
@@ -20,25 +20,25 @@ returns-then-not-layout_right c = bad_layout c.args.table.now (sym c.layout_righ
 pub count-n-requires : goal.count-n-requires
 count-n-requires c = (laid c.args.table.now (sym c.layout_right.ensures ∙ c.if-not-layout_right.false)).head
 
-pub kinds_right-requires : goal.kinds_right-requires
-kinds_right-requires c =
-    rw (whole_is c.args.table.now) (sym c.layout_right.ensures ∙ c.if-not-layout_right.false, c.count-n.ensures.0, rw (length-replicate {A = ℕ} 16 0) c.if-n-lt16.true, nothing 16)
+pub kinds_right_in-requires : goal.kinds_right_in-requires
+kinds_right_in-requires c =
+    rw (whole_is c.args.table.now) (sym c.layout_right.ensures ∙ c.if-not-layout_right.false, c.count-n.ensures.0, c.if-n-lt16.true, lit≤ tt)
 
 pub returns-then-n-lt16 : goal.returns-then-n-lt16
-returns-then-n-lt16 c = c.kinds_right.ensures ∙ rw (whole_is c.args.table.now)
+returns-then-n-lt16 c = c.kinds_right_in.ensures ∙ rw (whole_is c.args.table.now)
 
-pub kinds_right-requires-then-n-lt64 : goal.kinds_right-requires-then-n-lt64
-kinds_right-requires-then-n-lt64 c =
-    rw (whole_is c.args.table.now) (sym c.layout_right.ensures ∙ c.if-not-layout_right.false, c.count-n.ensures.0, rw (length-replicate {A = ℕ} 64 0) c.if-n-lt64.true, nothing 64)
+pub kinds_right_in-requires-then-n-lt64 : goal.kinds_right_in-requires-then-n-lt64
+kinds_right_in-requires-then-n-lt64 c =
+    rw (whole_is c.args.table.now) (sym c.layout_right.ensures ∙ c.if-not-layout_right.false, c.count-n.ensures.0, c.if-n-lt64.true, lit≤ tt)
 
 pub returns-then-n-lt64 : goal.returns-then-n-lt64
-returns-then-n-lt64 c = c.kinds_right-then-n-lt64.ensures ∙ rw (whole_is c.args.table.now)
+returns-then-n-lt64 c = c.kinds_right_in-then-n-lt64.ensures ∙ rw (whole_is c.args.table.now)
 
-pub kinds_right-requires-2 : goal.kinds_right-requires-2
-kinds_right-requires-2 c =
+pub kinds_right_in-requires-2 : goal.kinds_right_in-requires-2
+kinds_right_in-requires-2 c =
     let l = laid c.args.table.now (sym c.layout_right.ensures ∙ c.if-not-layout_right.false) in
     let few : c.count-n.result < 513 = omega (arith, l.few, c.count-n.ensures.0) in
-    rw (whole_is c.args.table.now) (sym c.layout_right.ensures ∙ c.if-not-layout_right.false, c.count-n.ensures.0, rw (length-replicate {A = ℕ} 513 0) few, nothing 513)
+    rw (whole_is c.args.table.now) (sym c.layout_right.ensures ∙ c.if-not-layout_right.false, c.count-n.ensures.0, few, lit≤ tt)
 
 pub returns : goal.returns
-returns c = c.kinds_right-2.ensures ∙ rw (whole_is c.args.table.now)
+returns c = c.kinds_right_in-2.ensures ∙ rw (whole_is c.args.table.now)

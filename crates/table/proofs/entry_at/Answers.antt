@@ -1,4 +1,4 @@
 use Rattle.table.proofs.entry_at.Goals as goal
 
 pub returns : goal.returns
-returns c = rw (c.op_at-op.ensures, c.a_at-a.ensures, c.b_at-b.ensures)
+returns c = rw (c.op_at.ensures, c.a_at.ensures, c.b_at.ensures)
