@@ -1,5 +1,5 @@
 -- The functions by name. Document 01, "Grammar", "Functions"; the op of each is that of "Table". Document 02, request 1: `wildcard`, "It gets op 60."; request 13: `regex`, "op 61".
-use Rattle.std.specs.Prelude.{ℕ, Bool, cond, not, ◌&&◌, List, [], ◌∷◌, eqb}
+use Rattle.std.specs.Prelude.{ℕ, zero, suc, Option, None, Some, Bool, cond, not, ◌&&◌, List, [], ◌∷◌, eqb}
 use Rattle.octets.specs.Octets.{same_of}
 use Rattle.opcode.specs.Number.{fold_case_op, size_op, is_int32_op, is_int64_op, is_real64_op, is_text_op, is_opaque_op, is_nan_op, require_op, begins_with_op, contains_op, ends_with_op, equals_op, wildcard_op, regex_op}
 use Rattle.lexer.specs.Ascii.{ascii}
@@ -45,6 +45,11 @@ or_else a b = cond (eqb a 0) b a
 
 abbrev pub op_of_name : List ℕ → Bool → ℕ
 op_of_name s escaped = or_else (among changes s escaped) (or_else (among tests s escaped) (among matches s escaped))
+
+-- Inside the code: an op, and none for 0.
+abbrev pub op_if_any : ℕ → Option ℕ
+op_if_any zero = None
+op_if_any (suc n) = Some (suc n)
 
 -- the op of a called name, 0 if there is no such function
 abbrev pub function_of : Token → ℕ

@@ -12,23 +12,19 @@ pub fn too_deep(kinds: &[u8]) -> bool
 {
     let mut opened: usize = 0;
     let mut row: usize = 0;
-    let mut i = 0;
-    while i < kinds.len() {
-        let k = kinds[i];
-        if stream::is_flat(k) {
+    for k in kinds {
+        if stream::is_flat(*k) {
             row = 0;
-            i += 1;
             continue;
         }
-        opened = stream::open_after(k, opened);
-        row = stream::row_after(k, row);
+        opened = stream::open_after(*k, opened);
+        row = stream::row_after(*k, row);
         if 24 < opened {
             return true;
         }
         if 24 < row {
             return true;
         }
-        i += 1;
     }
     false
 }

@@ -1,7 +1,7 @@
 // What the parser asks of a single token.
 ghost use Rattle.std.specs.Prelude.{◌≡◌, true, false, ◌+◌, ◌≤◌, ◌<◌, length, get_or};
 ghost use Rattle.grammar.specs.Grammar.{is_prefix};
-ghost use Rattle.grammar.specs.Function.{changes, tests, matches, among, op_of_name};
+ghost use Rattle.grammar.specs.Function.{changes, tests, matches, among, op_of_name, op_if_any};
 ghost use Rattle.grammar.specs.Nesting.{open_after, row_after, is_flat};
 ghost use Rattle.lexer.specs.Token.{name_at, escaped_at};
 ghost use Rattle.lexer.specs.Kind.{ending};
@@ -10,111 +10,91 @@ ghost use Rattle.lexer.specs.Kind.{ending};
 pub fn kind(kinds: &[u8], at: usize) -> u8
     ensures { result ≡ get_or kinds.now at ending }
 {
-    if at < kinds.len() {
-        kinds[at]
-    } else {
-        lexer::END
-    }
+    kinds.get(at).copied().unwrap_or(lexer::END)
 }
 
 pub fn start(starts: &[u16], at: usize) -> usize
     ensures { result ≡ get_or starts.now at 0 }
 {
-    if at < starts.len() {
-        wide(starts[at])
-    } else {
-        0
-    }
-}
-
-fn wide(x: u16) -> usize
-    ensures { result ≡ x }
-{
-    x as usize
+    usize::from(starts.get(at).copied().unwrap_or(0))
 }
 
 pub fn is_prefix(k: u8) -> bool
     ensures { result ≡ is_prefix k }
 {
-    (k == opcode::NOT) | (k == opcode::COMPLEMENT)
+    matches!(k, opcode::NOT | opcode::COMPLEMENT)
 }
 
-// The op of the function that the name at a place of the text calls, 0 if there is none.
-pub fn function(text: &[u8], at: usize) -> u8
-    ensures { result ≡ op_of_name (name_at text.now at) (escaped_at text.now at) }
+// The op of the function that the name at a place of the text calls, if there is one.
+pub fn function(text: &[u8], at: usize) -> Option<u8>
+    ensures { result ≡ op_if_any (op_of_name (name_at text.now at) (escaped_at text.now at)) }
 {
-    let a = change(text, at);
-    if a != 0 {
-        return a;
-    }
-    let b = test(text, at);
-    if b != 0 {
-        return b;
-    }
-    matching(text, at)
+    change(text, at)
+        .or_else(|| test(text, at))
+        .or_else(|| matching(text, at))
 }
 
-fn change(text: &[u8], at: usize) -> u8
-    ensures { result ≡ among changes (name_at text.now at) (escaped_at text.now at) }
+fn change(text: &[u8], at: usize) -> Option<u8>
+    ensures { result ≡ op_if_any (among changes (name_at text.now at) (escaped_at text.now at)) }
 {
     if lexer::name_is(text, at, b"fold-case") {
-        return opcode::FOLD_CASE;
+        return Some(opcode::FOLD_CASE);
     }
     if lexer::name_is(text, at, b"size") {
-        return opcode::SIZE;
+        return Some(opcode::SIZE);
     }
-    0
+    None
 }
 
-fn test(text: &[u8], at: usize) -> u8
-    ensures { result ≡ among tests (name_at text.now at) (escaped_at text.now at) }
+fn test(text: &[u8], at: usize) -> Option<u8>
+    ensures { result ≡ op_if_any (among tests (name_at text.now at) (escaped_at text.now at)) }
 {
     if lexer::name_is(text, at, b"int32") {
-        return opcode::IS_INT32;
+        return Some(opcode::IS_INT32);
     }
     if lexer::name_is(text, at, b"int64") {
-        return opcode::IS_INT64;
+        return Some(opcode::IS_INT64);
     }
     if lexer::name_is(text, at, b"real64") {
-        return opcode::IS_REAL64;
+        return Some(opcode::IS_REAL64);
     }
     if lexer::name_is(text, at, b"string") {
-        return opcode::IS_TEXT;
+        return Some(opcode::IS_TEXT);
     }
     if lexer::name_is(text, at, b"opaque") {
-        return opcode::IS_OPAQUE;
+        return Some(opcode::IS_OPAQUE);
     }
     if lexer::name_is(text, at, b"nan") {
-        return opcode::IS_NAN;
+        return Some(opcode::IS_NAN);
     }
     if lexer::name_is(text, at, b"require") {
-        return opcode::REQUIRE;
+        return Some(opcode::REQUIRE);
     }
-    0
+    None
 }
 
-fn matching(text: &[u8], at: usize) -> u8
-    ensures { result ≡ among matches (name_at text.now at) (escaped_at text.now at) }
+fn matching(text: &[u8], at: usize) -> Option<u8>
+    ensures { result ≡ op_if_any (among matches (name_at text.now at) (escaped_at text.now at)) }
 {
     if lexer::name_is(text, at, b"begins-with") {
-        return opcode::BEGINS_WITH;
+        return Some(opcode::BEGINS_WITH);
     }
     if lexer::name_is(text, at, b"contains") {
-        return opcode::CONTAINS;
+        return Some(opcode::CONTAINS);
     }
     if lexer::name_is(text, at, b"ends-with") {
-        return opcode::ENDS_WITH;
+        return Some(opcode::ENDS_WITH);
     }
     if lexer::name_is(text, at, b"equals") {
-        return opcode::EQUALS;
+        return Some(opcode::EQUALS);
     }
     if lexer::name_is(text, at, b"wildcard") {
-        return opcode::WILDCARD;
+        return Some(opcode::WILDCARD);
     }
     if lexer::name_is(text, at, b"regex") {
-        return opcode::REGEX;
+        return Some(opcode::REGEX);
     }
-    0
+    None
 }
 
 // What is open after a token of the kind k, and how many prefix operators stand in a row.
@@ -122,16 +102,11 @@ pub(crate) fn open_after(k: u8, opened: usize) -> usize
     requires { opened ≤ 24 }
     ensures { result ≡ open_after k opened }
 {
-    if k == lexer::OPEN {
-        return opened + 1;
+    match k {
+        lexer::OPEN => opened + 1,
+        lexer::CLOSE => opened.saturating_sub(1),
+        _ => opened,
     }
-    if k == lexer::CLOSE {
-        if opened == 0 {
-            return 0;
-        }
-        return opened - 1;
-    }
-    opened
 }
 
 pub(crate) fn row_after(k: u8, row: usize) -> usize
@@ -145,11 +120,8 @@ pub(crate) fn row_after(k: u8, row: usize) -> usize
 pub(crate) fn is_flat(k: u8) -> bool
     ensures { result ≡ is_flat k }
 {
-    match k {
-        lexer::OPEN => false,
-        lexer::CLOSE => false,
-        opcode::NOT => false,
-        opcode::COMPLEMENT => false,
-        _ => true,
-    }
+    !matches!(
+        k,
+        lexer::OPEN | lexer::CLOSE | opcode::NOT | opcode::COMPLEMENT
+    )
 }

@@ -61,15 +61,6 @@ module _ (b : ℕ) where
   pub tens : within 48 57 b ≡ true → Digit b (b - 48)
   tens e = let h = range 48 57 b e in (rw e, omega arith)
 
-  pub smalls : within 48 57 b ≡ false → within 97 102 b ≡ true → Digit b (b - 97 + 10)
-  smalls e f = let h = range 97 102 b f in (rw (e, f), omega arith)
-
-  pub capitals : within 48 57 b ≡ false → within 97 102 b ≡ false → within 65 70 b ≡ true → Digit b (b - 65 + 10)
-  capitals e f g = let h = range 65 70 b g in (rw (e, f, g), omega arith)
-
-  pub no_digit : within 48 57 b ≡ false → within 97 102 b ≡ false → within 65 70 b ≡ false → Digit b 16
-  no_digit e f g = (rw (e, f, g), omega arith)
-
   pub decimal : within 48 57 b ≡ is_digit_in 10 b
   decimal = go (within 48 57 b) refl (within 97 102 b) refl (within 65 70 b) refl
     where

@@ -7,26 +7,15 @@ use native.Mathlib.Nat.{add-zero}
 use native.Mathlib.Numerals.{add-one}
 use native.Mathlib.Omega.{arith}
 use lib.Dec.{eqb, ltb}
-use lib.ListN.{length, get_or, take, drop, set, drop_of_length-le, length-drop, length-append, get_or-eq_default}
-use lib.Seq.{length-take-le, take-suc, drop-cons, append_snoc, drop-drop, get_or-drop, sets, set-set, set_comm, take_all, take-append_seam, drop-length}
-use borrow.Author.Tests.{eq-eqb, ne_eqb, ltb-true, eqb-true, eqb-false}
+use lib.ListN.{length, get_or, take, drop, set, drop_of_length-le, length-drop, length-append}
+use lib.Seq.{length-take-le, take-suc, drop-cons, append_snoc, drop-drop, get_or-drop, sets, set-set, set_comm, take-append_seam}
+use borrow.Author.Tests.{ne_eqb, ltb-true, eqb-true, eqb-false}
 use Rattle.common.proofs.Choice.{false_true}
 use Rattle.octets.specs.Octets.{folded, same_of, begins_of}
 use Rattle.octets.proofs.Theorems.{and_parts, not_folded}
 use Rattle.lexer.specs.Byte.{is, is_delimiter, is_common}
 use Rattle.lexer.specs.Run.{takes, ends, run_from, unescaped, Free, has_escape, legal_byte, legal_name, Passes, GoesOn, all_common, is_empty}
 use Rattle.lexer.proofs.Bytes.{common_ends_none, common_takes_none, common_plain}
-
--- a place past the end
-pub past_byte : (s : List ℕ) (i : ℕ) → length s ≤ i → 0 ≡ get_or s i 0
-past_byte s i h = sym (get_or-eq_default s 0 h)
-
--- a part that goes on to the end
-pub to_end : (s : List ℕ) (i : ℕ) → take (length s - i) (drop i s) ≡ drop i s
-to_end s i = take_all (length s - i) (drop i s) (simp length-drop (omega arith))
-
-pub past_part : (s : List ℕ) (i : ℕ) → length s < i → take (length s - length s) (drop (length s) s) ≡ drop i s
-past_part s i h = rw (to_end s (length s), drop_of_length-le s {i = i} (omega arith)) (drop-length s)
 
 pub ends_delimiter : (q b : ℕ) → q ≡ 0 → ends 0 b ≡ ends q b
 ends_delimiter q b e = rw e
@@ -44,13 +33,6 @@ module _ (s : List ℕ) (i : ℕ) where
     pub run_more : (q : ℕ) (t : Bool) → (not t && ends q (get_or s i 0)) ≡ false
         → suc (length (run_from q (takes t (get_or s i 0)) (drop (i + 1) s))) ≡ length (run_from q t (drop i s))
     run_more q t e = rw (add-one, drop-cons s i 0 h, e)
-
-    -- escapes
-    pub escape_here : get_or s i 0 ≡ 92 → true ≡ has_escape (drop i s)
-    escape_here e = rw (drop-cons s i 0 h, eq-eqb (get_or s i 0) 92 e)
-
-    pub escape_later : (get_or s i 0 ≡ 92 → ⊥) → has_escape (drop (i + 1) s) ≡ has_escape (drop i s)
-    escape_later f = rw (add-one, drop-cons s i 0 h, ne_eqb (get_or s i 0) 92 f)
 
     -- the run without escapes
     pub plain_stop : (q : ℕ) (t : Bool) → (not t && ends q (get_or s i 0)) ≡ true → unescaped t (run_from q t (drop i s)) ≡ []
@@ -102,9 +84,6 @@ module _ (s : List ℕ) (i : ℕ) where
   module _ (h : length s ≤ i) where
     pub run_end : (q : ℕ) (t : Bool) → length (run_from q t (drop i s)) ≡ 0
     run_end q t = rw (drop_of_length-le s h)
-
-    pub no_escape : false ≡ has_escape (drop i s)
-    no_escape = rw (drop_of_length-le s h)
 
     pub plain_end : (q : ℕ) (t : Bool) → unescaped t (run_from q t (drop i s)) ≡ []
     plain_end q t = rw (drop_of_length-le s h)

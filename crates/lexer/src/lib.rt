@@ -176,6 +176,7 @@ fn scan_number(text: &[u8], at: usize) -> Scanned
         if let Some(length) = plain_real(text, at, d) {
             return Ok((REAL64, length));
         }
+        return Ok(scan_odd_number(text, at)?);
     }
     Ok(scan_odd_number(text, at)?)
 }

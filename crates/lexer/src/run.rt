@@ -10,18 +10,14 @@ use crate::byte::{is_common, is_delimiter, is_plain};
 pub fn byte_at(s: &[u8], at: usize) -> u8
     ensures { result ≡ get_or s.now at 0 }
 {
-    if at < s.len() { s[at] } else { 0 }
+    s.get(at).copied().unwrap_or(0)
 }
 
 // What stands from a place on, nothing past the end.
 pub fn rest<'a>(s: &'a [u8], at: usize) -> &'a [u8]
     ensures { result.now ≡ drop at s.now }
 {
-    let n = s.len();
-    if n < at {
-        return &s[n..n];
-    }
-    &s[at..n]
+    &s[at.min(s.len())..]
 }
 
 // "A backslash takes the next byte"
@@ -45,15 +41,13 @@ fn run_length(s: &[u8], quote: u8) -> usize
     ensures { result ≡ length (run_of quote s.now) }
 {
     let mut taken = false;
-    let mut i = 0;
-    while i < s.len() {
-        if (!taken) & ends(quote, s[i]) {
+    for (i, b) in s.iter().enumerate() {
+        if !taken & ends(quote, *b) {
             return i;
         }
-        taken = takes(taken, s[i]);
-        i += 1;
+        taken = takes(taken, *b);
     }
-    i
+    s.len()
 }
 
 // The bytes from a place up to the first one that ends them and is not taken.
@@ -75,14 +69,7 @@ pub fn body<'a>(s: &'a [u8]) -> &'a [u8]
 pub fn has_escape(run: &[u8]) -> bool
     ensures { result ≡ has_escape run.now }
 {
-    let mut i = 0;
-    while i < run.len() {
-        if run[i] == b'\\' {
-            return true;
-        }
-        i += 1;
-    }
-    false
+    run.contains(&b'\\')
 }
 
 // Where the bytes of a string end, from a place on, that are neither its quote nor a backslash.
@@ -90,32 +77,28 @@ pub fn unquoted_end(s: &[u8], at: usize, quote: u8) -> usize
     requires { quote ≡ 0 → ⊥ }
     ensures { (at ≤ result) × Passes quote (drop at s.now) (result - at) }
 {
-    let mut i = at;
-    while i < s.len() {
+    for i in at..s.len() {
         let b = s[i];
         if (b == quote) | (b == b'\\') {
             return i;
         }
-        i += 1;
     }
-    i
+    at.max(s.len())
 }
 
 // How many bytes stand first that end nothing and take nothing. Where no backslash comes after them, they are all.
 fn free_length(s: &[u8], quote: u8) -> usize
     ensures { Free quote s.now result × ((get_or s.now result 0 ≡ 92 → ⊥) → unescaped false (run_of quote (drop result s.now)) ≡ []) }
 {
-    let mut i = 0;
-    while i < s.len() {
-        if ends(quote, s[i]) {
+    for (i, b) in s.iter().enumerate() {
+        if ends(quote, *b) {
             return i;
         }
-        if s[i] == b'\\' {
+        if *b == b'\\' {
             return i;
         }
-        i += 1;
     }
-    i
+    s.len()
 }
 
 // How many bytes stand from the start up to the first one that ends them and is not taken, without escapes.
@@ -124,31 +107,7 @@ pub fn plain_length(s: &[u8], quote: u8) -> usize
 {
     let n = free_length(s, quote);
     if byte_at(s, n) == b'\\' {
-        return escaped_length(s, quote, n);
-    }
-    n
-}
-
-// The same where the bytes before a place are known to end nothing and take nothing.
-fn escaped_length(s: &[u8], quote: u8, from: usize) -> usize
-    requires { Free quote s.now from }
-    ensures { result ≡ length (unescaped false (run_of quote s.now)) }
-{
-    let mut n = from;
-    let mut taken = false;
-    let mut i = from;
-    while i < s.len() {
-        let b = s[i];
-        if (!taken) & ends(quote, b) {
-            return n;
-        }
-        i += 1;
-        if takes(taken, b) {
-            taken = true;
-            continue;
-        }
-        taken = false;
-        n += 1;
+        return copy_plain(s, quote, &mut []);
     }
     n
 }
@@ -169,28 +128,18 @@ pub fn copy_plain(s: &[u8], quote: u8, part: &mut [u8]) -> usize
 {
     let mut n = 0;
     let mut taken = false;
-    let mut i = 0;
-    while i < s.len() {
-        let b = s[i];
-        if (!taken) & ends(quote, b) {
+    for b in s {
+        if !taken & ends(quote, *b) {
             return n;
         }
-        i += 1;
-        if takes(taken, b) {
-            taken = true;
+        taken = takes(taken, *b);
+        if taken {
             continue;
         }
-        taken = false;
-        put(part, n, b);
+        put(part, n, *b);
         n += 1;
     }
     n
-}
-
-fn least(a: usize, b: usize) -> usize
-    ensures { (result ≤ a) × (result ≤ b) }
-{
-    if a < b { a } else { b }
 }
 
 // Copies the bytes that most names have, as far as they stand first and the part goes, to the start of the part, and answers how many they are.
@@ -198,25 +147,22 @@ pub fn copy_common(s: &[u8], part: &mut [u8]) -> usize
     ensures goes_on { GoesOn s.now result }
     ensures part_after { part.new ≡ sets part.old 0 (take result s.now) }
 {
-    let most = least(s.len(), part.len());
-    let mut i = 0;
-    while i < most {
+    let most = s.len().min(part.len());
+    for i in 0..most {
         let b = s[i];
         if b < b'^' {
             if !is_common(b) {
                 return i;
             }
             part[i] = b;
-            i += 1;
             continue;
         }
         if b'~' < b {
             return i;
         }
         part[i] = b;
-        i += 1;
     }
-    i
+    most
 }
 
 // "A backslash takes the next byte, which must be 32..126. Unescaped bytes must be 33..126 and none of `[ ] ' "`."
@@ -233,22 +179,19 @@ fn legal_byte(taken: bool, b: u8) -> bool
 pub fn common_end(s: &[u8], at: usize) -> usize
     ensures { (at ≤ result) × GoesOn (drop at s.now) (result - at) }
 {
-    let mut i = at;
-    while i < s.len() {
+    for i in at..s.len() {
         let b = s[i];
         if b < b'^' {
             if !is_common(b) {
                 return i;
             }
-            i += 1;
             continue;
         }
         if b'~' < b {
             return i;
         }
-        i += 1;
     }
-    i
+    at.max(s.len())
 }
 
 // Whether nothing of a name or a number stands from a place on.
@@ -277,10 +220,9 @@ pub fn measure_name(s: &[u8], first: usize) -> Measured
     let mut legal = true;
     let mut n = first;
     let mut taken = false;
-    let mut i = first;
-    while i < s.len() {
+    for i in first..s.len() {
         let b = s[i];
-        if (!taken) & ends(0, b) {
+        if !taken & ends(0, b) {
             return Measured {
                 bytes: i,
                 plain: n,
@@ -288,16 +230,14 @@ pub fn measure_name(s: &[u8], first: usize) -> Measured
             };
         }
         legal = legal & legal_byte(taken, b);
-        i += 1;
-        if takes(taken, b) {
-            taken = true;
+        taken = takes(taken, b);
+        if taken {
             continue;
         }
-        taken = false;
         n += 1;
     }
     Measured {
-        bytes: i,
+        bytes: s.len(),
         plain: n,
         legal: legal & !taken,
     }

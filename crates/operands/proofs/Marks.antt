@@ -14,7 +14,8 @@ use Rattle.octets.specs.Octets.{same_of}
 use Rattle.lexer.specs.Kind.{naming, opening}
 use Rattle.lexer.specs.Token.{Token, kind_of, name_at, escaped_at}
 use Rattle.grammar.specs.Parse.{token_at, kind_at, is}
-use Rattle.grammar.specs.Function.{Function, changes, tests, matches, among, or_else, op_of_name, function_of}
+use Rattle.std.specs.Prelude.{Option, None, Some, unwrap_or}
+use Rattle.grammar.specs.Function.{Function, op_if_any, changes, tests, matches, among, or_else, op_of_name, function_of}
 use Rattle.grammar.specs.Judge.{takes_patterns}
 use Rattle.grammar.specs.Nesting.{open_after, row_after, deep_from, too_deep}
 use Rattle.grammar.specs.Stream.{token_of, tokens_in}
@@ -105,6 +106,19 @@ module _ (s kinds starts : List ℕ) (i : ℕ) (h : i < length kinds) where
   mark_call k en e ep ef =
       ap (λ (x : ℕ). 128 + x) (function_is s kinds starts i (within kinds i 99 0 h ∙ k) ep ef)
       ∙ sym (mark_called those i (here ∙ k) (kind_in s kinds starts (i + 1) ∙ sym en ∙ e))
+
+-- a function's op, of which 0 is none
+pub op_told : (op : ℕ) {o : Option ℕ} {f : ℕ} → o ≡ op_if_any op → f ≡ unwrap_or o 0 → f ≡ op
+op_told zero e d = rw e at d
+op_told (suc n) e d = rw e at d
+
+pub op_none : (op : ℕ) → None ≡ op_if_any op → 0 ≡ op
+op_none zero e = refl
+op_none (suc n) e = cc
+
+pub op_some : (op f : ℕ) → Some f ≡ op_if_any op → f ≡ op
+op_some zero f e = cc
+op_some (suc n) f e = cc
 
 -- ---- the pass, in place
 

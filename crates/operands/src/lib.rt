@@ -4,6 +4,7 @@
 ghost use Rattle.std.specs.Prelude.{◌≡◌, false, ◌+◌, ◌-◌, ◌%◌, ◌≤◌, ◌<◌, ◌^◌, length, set};
 ghost use Rattle.std.proofs.lemmas.List.Edits.{sets};
 ghost use Rattle.grammar.specs.Size.{pool_bytes};
+ghost use Rattle.grammar.specs.Function.{op_if_any};
 ghost use Rattle.grammar.specs.Nesting.{too_deep};
 ghost use Rattle.grammar.specs.Stream.{token_of, tokens_in};
 ghost use Rattle.grammar.specs.Marks.{calling, mark_at, marks_of, is_operand};
@@ -23,7 +24,7 @@ pub const CALLING: u8 = 128;
 fn called(m: u8) -> u8
     ensures { result ≡ m - calling }
 {
-    if CALLING <= m { m - CALLING } else { 0 }
+    m.saturating_sub(CALLING)
 }
 
 // The mark of the token i: "A name before `(` is always a call."
@@ -38,7 +39,7 @@ fn mark_at(text: &[u8], kinds: &[u8], starts: &[u16], i: usize) -> u8
     if stream::kind(kinds, i + 1) != lexer::OPEN {
         return k;
     }
-    CALLING + stream::function(text, stream::start(starts, i))
+    CALLING + stream::function(text, stream::start(starts, i)).unwrap_or(0)
 }
 
 // Puts the mark of each token in the place of its kind, and answers whether some function that takes patterns is called.
@@ -48,16 +49,13 @@ pub fn mark(text: &[u8], kinds: &mut [u8], starts: &[u16]) -> bool
     ensures kinds_after { kinds.new ≡ marks_of (tokens_in text.now kinds.old starts.now) }
 {
     let mut asks = false;
-    let mut i = 0;
-    while i < kinds.len() {
+    for i in 0..kinds.len() {
         let m = mark_at(text, kinds, starts, i);
         if m < CALLING {
-            i += 1;
             continue;
         }
         kinds[i] = m;
         asks = asks | takes_patterns(called(m));
-        i += 1;
     }
     asks
 }
@@ -65,13 +63,13 @@ pub fn mark(text: &[u8], kinds: &mut [u8], starts: &[u16]) -> bool
 fn is_operand(m: u8) -> bool
     ensures { result ≡ is_operand m }
 {
-    (lexer::INT32 <= m) & (m <= lexer::NAME)
+    matches!(m, lexer::INT32..=lexer::NAME)
 }
 
 fn place(starts: &[u16], i: usize) -> u16
     ensures { result ≡ place_at starts.now i }
 {
-    if i < starts.len() { starts[i] } else { 0 }
+    starts.get(i).copied().unwrap_or(0)
 }
 
 // How many bytes the operand of a kind that starts at a place brings to the pool.
@@ -136,10 +134,8 @@ pub fn gather(
     ensures sizes_after { sizes.new ≡ sets sizes.old 0 (operand_sizes text.now marks.now starts.now) }
 {
     let mut n = 0;
-    let mut i = 0;
-    while i < marks.len() {
+    for i in 0..marks.len() {
         n = gather_at(text, marks, starts, places, sizes, i, n);
-        i += 1;
     }
     n
 }
@@ -157,25 +153,21 @@ fn mark_before(marks: &[u8], i: usize) -> u8
 fn digit_of(function: u8) -> u64
     ensures { (result ≡ digit_of function) × (result < 4) }
 {
-    if function == opcode::WILDCARD {
-        return 1;
+    match function {
+        opcode::WILDCARD => 1,
+        opcode::REGEX => 2,
+        _ => 0,
     }
-    if function == opcode::REGEX {
-        return 2;
-    }
-    0
 }
 
-fn function_by(digit: u64) -> u8
-    ensures { result ≡ function_by digit }
+fn function_by(digit: u64) -> Option<u8>
+    ensures { result ≡ op_if_any (function_by digit) }
 {
-    if digit == 1 {
-        return opcode::WILDCARD;
+    match digit {
+        1 => Some(opcode::WILDCARD),
+        2 => Some(opcode::REGEX),
+        _ => None,
     }
-    if digit == 2 {
-        return opcode::REGEX;
-    }
-    0
 }
 
 // The functions of the parentheses that are open after the mark m, a digit each, where `prior` is the mark before it.
@@ -208,10 +200,9 @@ fn right_at(text: &[u8], marks: &[u8], starts: &[u16], opens: u64, i: usize) -> 
     requires { (length text.now ≤ 4096) × (i < length marks.now) }
     ensures { result ≡ right_at text.now marks.now starts.now opens i }
 {
-    let function = function_by(opens % 4);
-    if function == 0 {
+    let Some(function) = function_by(opens % 4) else {
         return true;
-    }
+    };
     if is_later(marks, i) {
         return literal_right(text, stream::start(starts, i), function);
     }
@@ -224,13 +215,11 @@ pub fn patterns(text: &[u8], marks: &[u8], starts: &[u16]) -> bool
     ensures { result ≡ patterns_by text.now marks.now starts.now }
 {
     let mut opens: u64 = 0;
-    let mut i = 0;
-    while i < marks.len() {
+    for (i, m) in marks.iter().enumerate() {
         if !right_at(text, marks, starts, opens, i) {
             return false;
         }
-        opens = opens_after(marks[i], mark_before(marks, i), opens);
-        i += 1;
+        opens = opens_after(*m, mark_before(marks, i), opens);
     }
     true
 }

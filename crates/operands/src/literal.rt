@@ -8,36 +8,27 @@ use pattern::wildcard;
 pub fn takes_patterns(function: u8) -> bool
     ensures { result ≡ takes_patterns function }
 {
-    (function == opcode::WILDCARD) | (function == opcode::REGEX)
+    matches!(function, opcode::WILDCARD | opcode::REGEX)
 }
 
 fn is_pattern(function: u8, p: &[u8]) -> bool
     ensures { result ≡ pattern_test function p.now }
 {
-    if function == opcode::WILDCARD {
-        return wildcard::well_formed(p);
+    match function {
+        opcode::WILDCARD => wildcard::well_formed(p),
+        opcode::REGEX => regexp::well_formed(p),
+        _ => true,
     }
-    if function == opcode::REGEX {
-        return regexp::well_formed(p);
-    }
-    true
 }
 
-// Whether the string at a place of the text is a pattern of the function, with room for its bytes lent.
-fn judge(text: &[u8], at: usize, function: u8, room: &mut [u8]) -> bool
-    requires { length (string_at text.now at) ≤ length room.old }
+// Whether the string at a place of the text, of at most N bytes, is a pattern of the function.
+fn judge<const N: usize>(text: &[u8], at: usize, function: u8) -> bool
+    requires { (length (string_at text.now at) ≤ N) × (N ≤ 4096) }
     ensures { result ≡ pattern_test function (string_at text.now at) }
 {
-    let n = lexer::copy_string(text, at, room);
-    is_pattern(function, &room[0..n])
-}
-
-fn judge_long(text: &[u8], at: usize, function: u8) -> bool
-    requires { length text.now ≤ 4096 }
-    ensures { result ≡ pattern_test function (string_at text.now at) }
-{
-    let mut room = [0u8; 4096];
-    judge(text, at, function, &mut room)
+    let mut room = [0u8; N];
+    let n = lexer::copy_string(text, at, &mut room);
+    is_pattern(function, &room[..n])
 }
 
 // A short string has a short array, since every element of an array is set before it is used.
@@ -46,8 +37,7 @@ pub fn literal_right(text: &[u8], at: usize, function: u8) -> bool
     ensures { result ≡ pattern_test function (string_at text.now at) }
 {
     if 256 < lexer::string_length(text, at) {
-        return judge_long(text, at, function);
+        return judge::<4096>(text, at, function);
     }
-    let mut room = [0u8; 256];
-    judge(text, at, function, &mut room)
+    judge::<256>(text, at, function)
 }

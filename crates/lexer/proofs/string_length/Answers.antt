@@ -1,4 +1,4 @@
-use Prim.Native.Nat.{◌+◌, ◌-◌}
+use Prim.Native.Nat.{◌+◌}
 use Rattle.lexer.specs.Token.{string_at}
 use Rattle.lexer.proofs.Scans.{stand_length}
 use Rattle.lexer.proofs.string_length.Goals as goal

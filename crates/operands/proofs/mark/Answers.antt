@@ -1,5 +1,4 @@
 use native.Mathlib.Omega.{arith}
-use lib.ListN.{length-set}
 use Rattle.operands.proofs.Marks.{marking_starts, marking_on, marking_past, marking_ends, asking_ends}
 use Rattle.operands.proofs.mark.Goals as goal
 
@@ -7,18 +6,15 @@ pub loop-i-init : goal.loop-i-init
 loop-i-init c = marking_starts _ _ _
 
 pub loop-i-preserved-then-m-lt-CALLING : goal.loop-i-preserved-then-m-lt-CALLING
-loop-i-preserved-then-m-lt-CALLING c = marking_past c.loop-i.invariant c.loop-i-test.true c.mark_at-m.ensures c.if-m-lt-CALLING.true
-
-pub loop-i-smaller : goal.loop-i-smaller
-loop-i-smaller c = simp length-set (omega (arith, c.loop-i-test.true))
+loop-i-preserved-then-m-lt-CALLING c = marking_past c.loop-i.invariant (omega (arith, c.loop-i.invariant.long, c.loop-i-test.true)) c.mark_at-m.ensures c.if-m-lt-CALLING.true
 
 pub loop-i-preserved : goal.loop-i-preserved
 loop-i-preserved c =
-    marking_on c.loop-i.invariant c.loop-i-test.true c.mark_at-m.ensures c.called.ensures c.takes_patterns-asks.ensures
+    marking_on c.loop-i.invariant (omega (arith, c.loop-i.invariant.long, c.loop-i-test.true)) c.mark_at-m.ensures c.called.ensures c.takes_patterns-asks.ensures
 
 pub shape_of-kinds : goal.shape_of-kinds
 shape_of-kinds c = c.loop-i.invariant.long
 
 pub returns : goal.returns
 returns c =
-    record { value = asking_ends c.loop-i.invariant c.loop-i-test.false; kinds_after = marking_ends c.loop-i.invariant c.loop-i-test.false }
+    record { value = asking_ends c.loop-i.invariant (omega (arith, c.loop-i.invariant.long, c.loop-i-test.false)); kinds_after = marking_ends c.loop-i.invariant (omega (arith, c.loop-i.invariant.long, c.loop-i-test.false)) }

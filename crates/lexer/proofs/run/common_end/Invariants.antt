@@ -1,10 +1,7 @@
-use Prim.Native.Nat.{◌≤◌, ◌-◌}
+use Prim.Native.Nat.{max, ◌≤◌, ◌-◌}
 use lib.ListN.{length, drop}
 use Rattle.lexer.specs.Run.{GoesOn}
 use Rattle.lexer.proofs.run.common_end.Given as goal
 
 abbrev pub invariant-loop-i : goal.invariant-loop-i
-invariant-loop-i l = (l.at ≤ l.i) × GoesOn (drop l.at l.s) (l.i - l.at)
-
-abbrev pub decreases-loop-i : goal.decreases-loop-i
-decreases-loop-i l = length l.s - l.i
+invariant-loop-i l = (l.at ≤ l.i) × (l.i ≤ max l.at (length l.s)) × GoesOn (drop l.at l.s) (l.i - l.at)

@@ -1,4 +1,3 @@
-use Prim.Native.Nat.{◌≤◌, ◌-◌}
 use mathlib.Core.Path.{◌≡◌}
 use lib.ListN.{length, take}
 use lib.Seq.{sets}
@@ -6,7 +5,4 @@ use Rattle.lexer.specs.Run.{GoesOn}
 use Rattle.lexer.proofs.run.copy_common.Given as goal
 
 abbrev pub invariant-loop-i : goal.invariant-loop-i
-invariant-loop-i l = (l.most ≤ length l.s) × (l.most ≤ length l.initial.part) × (l.i ≤ l.most) × (length l.part ≡ length l.initial.part) × GoesOn l.s l.i × (l.part ≡ sets l.initial.part 0 (take l.i l.s))
-
-abbrev pub decreases-loop-i : goal.decreases-loop-i
-decreases-loop-i l = l.most - l.i
+invariant-loop-i l = (length l.part ≡ length l.initial.part) × GoesOn l.s l.i × (l.part ≡ sets l.initial.part 0 (take l.i l.s))

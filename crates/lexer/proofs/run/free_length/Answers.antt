@@ -1,4 +1,5 @@
-use mathlib.Core.Path.{sym, ◌∙◌}
+use mathlib.Core.Path.{◌≡◌, sym, ◌∙◌}
+use lib.ListN.{length}
 use mathlib.Core.Bool.{false}
 use native.Mathlib.Omega.{arith}
 use Rattle.lexer.proofs.Runs.{plain_stop, plain_end, free_more}
@@ -13,17 +14,18 @@ returns-then-ends c =
     let l = c.loop-i in
     (l.invariant, (λ f. plain_stop a.s.now l.i (omega arith) a.quote false (sym c.ends.ensures ∙ c.if-ends.true)))
 
-pub returns-then-s-i-eq92 : goal.returns-then-s-i-eq92
-returns-then-s-i-eq92 c = (c.loop-i.invariant, (λ f. absurd (f c.if-s-i-eq92.true)))
+pub returns-then-b-eq92 : goal.returns-then-b-eq92
+returns-then-b-eq92 c = (c.loop-i.invariant, (λ f. absurd (f c.if-b-eq92.true)))
 
 pub loop-i-preserved : goal.loop-i-preserved
 loop-i-preserved c =
     let a = c.args in
     let l = c.loop-i in
-    free_more a.s.now l.i (omega arith) a.quote (sym c.ends.ensures ∙ c.if-ends.false) c.if-s-i-eq92.false l.invariant
+    free_more a.s.now l.i (omega arith) a.quote (sym c.ends.ensures ∙ c.if-ends.false) c.if-b-eq92.false l.invariant
 
 pub returns : goal.returns
 returns c =
     let a = c.args in
     let l = c.loop-i in
-    (l.invariant, (λ f. plain_end a.s.now l.i (omega arith) a.quote false))
+    let z : length a.s.now ≡ l.i = omega arith in
+    rw z ((omega arith, l.invariant.1), (λ f. plain_end a.s.now l.i (omega arith) a.quote false))

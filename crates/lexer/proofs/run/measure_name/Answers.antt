@@ -20,27 +20,27 @@ returns-then-taken-ends c =
     let y = legal_stop s l.i (omega arith) 0 l.taken e in
     (omega (arith, z, l.invariant.2), omega (arith, ap length p, l.invariant.3), (rw y at l.invariant.4))
 
-pub loop-i-preserved-then-takes : goal.loop-i-preserved-then-takes
-loop-i-preserved-then-takes c =
+pub loop-i-preserved-then-taken : goal.loop-i-preserved-then-taken
+loop-i-preserved-then-taken c =
     let l = c.loop-i in
     let e = rw c.ends.ensures at c.if-taken-ends.false in
     let s = c.args.s.now in
-    let g = sym c.takes.ensures ∙ c.if-takes.true in
+    let g = sym c.takes-taken.ensures ∙ c.if-taken.true in
     let m = run_more s l.i (omega arith) 0 l.taken e in
     let d = dropped s l.i (omega arith) 0 l.taken e g in
     let y = legal-so-far s l.i (omega arith) 0 l.taken e l.legal true g in
-    (omega arith, omega arith, omega (arith, (rw g at m), l.invariant.2), omega (arith, ap length d, l.invariant.3), rw c.legal_byte-legal.ensures (y ∙ l.invariant.4))
+    rw c.if-taken.true (omega arith, omega arith, omega (arith, (rw g at m), l.invariant.2), omega (arith, ap length d, l.invariant.3), rw c.legal_byte-legal.ensures (y ∙ l.invariant.4))
 
 pub loop-i-preserved : goal.loop-i-preserved
 loop-i-preserved c =
     let l = c.loop-i in
     let e = rw c.ends.ensures at c.if-taken-ends.false in
     let s = c.args.s.now in
-    let g = sym c.takes.ensures ∙ c.if-takes.false in
+    let g = sym c.takes-taken.ensures ∙ c.if-taken.false in
     let m = run_more s l.i (omega arith) 0 l.taken e in
     let d = kept s l.i (omega arith) 0 l.taken e g in
     let y = legal-so-far s l.i (omega arith) 0 l.taken e l.legal false g in
-    (omega arith, omega arith, omega (arith, (rw g at m), l.invariant.2), omega (arith, ap length d, l.invariant.3), rw c.legal_byte-legal.ensures (y ∙ l.invariant.4))
+    rw c.if-taken.false (omega arith, omega arith, omega (arith, (rw g at m), l.invariant.2), omega (arith, ap length d, l.invariant.3), rw c.legal_byte-legal.ensures (y ∙ l.invariant.4))
 
 pub returns : goal.returns
 returns c =

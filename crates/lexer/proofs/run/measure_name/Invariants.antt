@@ -1,4 +1,4 @@
-use Prim.Native.Nat.{◌≤◌, ◌-◌, ◌+◌}
+use Prim.Native.Nat.{◌≤◌, ◌+◌}
 use mathlib.Core.Path.{◌≡◌}
 use mathlib.Core.Bool.{false, ◌&&◌}
 use lib.ListN.{length, drop}
@@ -12,6 +12,3 @@ invariant-loop-i l =
     × (l.i + length (run_from 0 l.taken (drop l.i l.s)) ≡ length (run_of 0 l.s))
     × (l.n + length (unescaped l.taken (run_from 0 l.taken (drop l.i l.s))) ≡ length (unescaped false (run_of 0 l.s)))
     × (l.legal && legal_name l.taken (run_from 0 l.taken (drop l.i l.s)) ≡ legal_name false (run_of 0 l.s))
-
-abbrev pub decreases-loop-i : goal.decreases-loop-i
-decreases-loop-i l = length l.s - l.i
