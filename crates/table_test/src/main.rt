@@ -30,12 +30,10 @@ fn answer(to: &mut impl Write, table: &[u8]) -> io::Result<()> {
 }
 
 fn put_parts(to: &mut impl Write, table: &[u8], k: usize) -> io::Result<()> {
-    let p = table::parts_of(table, k);
-    writeln!(
-        to,
-        "{} {} {} {} {} {} ",
-        p.number, p.op, p.a, p.b, p.start, p.end
-    )
+    match table::parts_of(table, k) {
+        Ok(p) => writeln!(to, "0 {} {} {} {} {} ", p.op, p.a, p.b, p.start, p.end),
+        Err(r) => writeln!(to, "{} 0 0 0 0 0 ", r.number()),
+    }
 }
 
 // One table. Answers whether there was one.
