@@ -135,7 +135,7 @@ fn serve(input: &[u8], last: bool, table: &mut [u8], held: usize, out: &mut [u8]
     let mut at = 0;
     let mut size_held = held;
     let mut written = 0;
-    for _ in 0..out.len() / record::LINE_ROOM {
+    for i in 0..out.len() / record::LINE_ROOM {
         let found = record::next_record(&input[at..]);
         if record::waits(found, last) {
             return Served {
