@@ -1,6 +1,7 @@
 -- Turns and ends of the comparing loops, each byte through a function of its own. Assumes nothing.
 use mathlib.Core.Path.{◌≡◌, refl, sym, ap, ◌∙◌}
 use mathlib.Core.Bool.{Bool, true, false, ◌&&◌, and-false, or-false}
+use mathlib.Core.Logic.{◌⊎◌, ⊎_elim}
 use mathlib.Core.List.{List, [], ◌∷◌, map}
 use Prim.Native.Nat.{ℕ, zero, suc, ◌+◌, ◌-◌, ◌≤◌, ◌<◌}
 use native.Mathlib.Numerals.{add-one}
@@ -8,7 +9,7 @@ use native.Mathlib.Omega.{arith}
 use lib.Dec.{eqb, ltb}
 use lib.ListN.{length, get_or, take, drop, drop_of_length-le, length-map, length-drop}
 use lib.Seq.{drop-cons, take_all}
-use borrow.Author.Tests.{eq-eqb, ne_eqb, le-ltb, ltb-true, ltb-false}
+use borrow.Author.Tests.{eq-eqb, ne_eqb, lt-ltb, le-ltb}
 use Rattle.octets.specs.Octets.{same_of, before_of, begins_of, contains_of, ends_of}
 
 -- strings of other lengths are not the same
@@ -23,9 +24,6 @@ module _ (f g : ℕ → ℕ) (s t : List ℕ) where
   abbrev pub same_from : ℕ → Bool
   same_from i = same_of (map f (drop i s)) (map g (drop i t))
 
-  abbrev pub before_from : ℕ → Bool
-  before_from i = before_of (map f (drop i s)) (map g (drop i t))
-
   pub lengths_differ : (length s ≡ length t → ⊥) → false ≡ same_from 0
   lengths_differ h = other_length (map f s) (map g t) (λ e. h (sym (length-map s f) ∙ e ∙ length-map t g))
 
@@ -36,26 +34,18 @@ module _ (f g : ℕ → ℕ) (s t : List ℕ) where
     pub same_stop : (f (get_or s i 0) ≡ g (get_or t i 0) → ⊥) → false ≡ same_from i
     same_stop e = rw (drop-cons s i 0 p, drop-cons t i 0 q, ne_eqb (f (get_or s i 0)) (g (get_or t i 0)) e)
 
-    pub unlike : (f (get_or s i 0) ≡ g (get_or t i 0) → ⊥) → ltb (f (get_or s i 0)) (g (get_or t i 0)) ≡ before_from i
-    unlike h = rw (drop-cons s i 0 p, drop-cons t i 0 q, ne_eqb (f (get_or s i 0)) (g (get_or t i 0)) h) (sym (or-false _))
-
-    pub alike : f (get_or s i 0) ≡ g (get_or t i 0) → before_from (i + 1) ≡ before_from i
-    alike e =
-        let k : g (get_or t i 0) ≤ f (get_or s i 0) = omega arith in
-        rw (add-one, drop-cons s i 0 p, drop-cons t i 0 q, le-ltb _ _ k, eq-eqb (f (get_or s i 0)) (g (get_or t i 0)) e)
-
   pub same_end : (i : ℕ) → length s ≤ i → length t ≤ i → true ≡ same_from i
   same_end i p q = rw (drop_of_length-le s p, drop_of_length-le t q)
 
-  pub longer : (i : ℕ) → i < length s → length t ≤ i → false ≡ before_from i
-  longer i p q = rw (drop-cons s i 0 p, drop_of_length-le t q)
+-- bytes that differ, and the end of one string
+pub first_unlike : (f g : ℕ → ℕ) (x y : ℕ) (xs ys : List ℕ) → (f x ≡ g y → ⊥) → ltb (f x) (g y) ≡ before_of (map f (x ∷ xs)) (map g (y ∷ ys))
+first_unlike f g x y xs ys h = rw (ne_eqb (f x) (g y) h) (sym (or-false _))
 
-  pub ended : (i : ℕ) → length s ≤ i → ltb i (length t) ≡ before_from i
-  ended i p = go (ltb i (length t)) refl
-    where
-      go : (b : Bool) → ltb i (length t) ≡ b → b ≡ before_from i
-      go true e = rw (drop_of_length-le s p, drop-cons t i 0 (ltb-true _ _ e))
-      go false e = rw (drop_of_length-le s p, drop_of_length-le t (ltb-false _ _ e))
+pub run_out : (f g : ℕ → ℕ) (xs ys : List ℕ) (n m : ℕ) → (length xs ≡ 0) ⊎ (length ys ≡ 0) → n + length ys ≡ m + length xs → ltb n m ≡ before_of (map f xs) (map g ys)
+run_out f g [] [] n m o e = le-ltb n m (omega arith)
+run_out f g [] (y ∷ ys) n m o e = lt-ltb n m (omega arith)
+run_out f g (x ∷ xs) [] n m o e = le-ltb n m (omega arith)
+run_out f g (x ∷ xs) (y ∷ ys) n m o e = ⊎_elim (λ z. absurd (omega arith)) (λ z. absurd (omega arith)) o
 
 -- a start of the right length, and none of a longer one
 pub begins_take : (s p : List ℕ) → length p ≤ length s → same_of (take (length p) s) p ≡ begins_of s p

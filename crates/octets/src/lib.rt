@@ -38,12 +38,9 @@ pub fn same(s: &[u8], s_mark: bool, t: &[u8], t_mark: bool) -> bool
 pub fn before(s: &[u8], s_mark: bool, t: &[u8], t_mark: bool) -> bool
     ensures { result ≡ before_of (folded s_mark s.now) (folded t_mark t.now) }
 {
-    for i in 0..s.len() {
-        if t.len() <= i {
-            return false;
-        }
-        let a = fold(s_mark, s[i]);
-        let b = fold(t_mark, t[i]);
+    for (a, b) in s.iter().zip(t) {
+        let a = fold(s_mark, *a);
+        let b = fold(t_mark, *b);
         if a != b {
             return a < b;
         }
