@@ -10,9 +10,8 @@ use borrow.Author.Tests.{le-leb, lt-leb, le-ltb, lt-ltb, ne_eqb, leb-true, leb-f
 use Rattle.octets.proofs.Theorems.{and_parts}
 use Rattle.notice.specs.Render.{render}
 use Rattle.notice.specs.Layout.{unless}
-use Rattle.mend.specs.declared.Mended.{Mended}
 use Rattle.mend.specs.declared.walking.Tally.{Tally}
-use Rattle.mend.specs.Mend.{list_of, kept_of, notice_of, list_bytes, onto, room_for, refusal_of, refused, done, mended_by, MendIs}
+use Rattle.mend.specs.Mend.{MendAnswer, list_of, kept_of, notice_of, list_bytes, onto, room_for, refusal_of, refused, done, mended_by, MendIs}
 use Rattle.mend.specs.Order.{codes_of, fields_in, InOrder, Sized, Surveys}
 use Rattle.mend.proofs.Walks.{list_short}
 
@@ -42,7 +41,7 @@ module _ (s list notice : List ℕ) where
       ∙ ap₂ (λ (x y : Bool). unless a 30 (unless b 10 (unless x 15 (unless y 9 0)))) r t
 
   -- a refusal changes nothing
-  not_done : (r : Mended) (k : ℕ) → r ≡ refused k → number ≡ k → (k ≡ 0 → ⊥) → MendIs s list notice r list notice
+  not_done : (r : MendAnswer) (k : ℕ) → r ≡ refused k → number ≡ k → (k ≡ 0 → ⊥) → MendIs s list notice r list notice
   not_done r k q e z =
       let b : eqb number 0 ≡ false = ap (λ (x : ℕ). eqb x 0) e ∙ ne_eqb k 0 z in (
         q ∙ sym (ap₂ (λ (t : Bool) (x : ℕ). cond t (done s) (refused x)) b e),
@@ -50,11 +49,14 @@ module _ (s list notice : List ℕ) where
         ap (λ (t : Bool). cond t (onto (notice_of s) notice) notice) (sym b),
       )
 
-  pub too_short : (r : Mended) → r ≡ refused 30 → length s < 8 → MendIs s list notice r list notice
+  pub too_short : (r : MendAnswer) → r ≡ refused 30 → length s < 8 → MendIs s list notice r list notice
   too_short r q h = not_done r 30 q (by false _ _ _ (lt-leb 8 (length s) h) refl refl refl) (λ e. omega arith)
 
-  pub too_long : (r : Mended) → r ≡ refused 10 → 8 ≤ length s → 16384 < length s → MendIs s list notice r list notice
+  pub too_long : (r : MendAnswer) → r ≡ refused 10 → 8 ≤ length s → 16384 < length s → MendIs s list notice r list notice
   too_long r q g h = not_done r 10 q (by true false _ _ (le-leb 8 (length s) g) (lt-leb (length s) 16384 h) refl refl) (λ e. omega arith)
+
+  pub too_many : (r : MendAnswer) → r ≡ refused 15 → Sized s → 64 < length (kept_of s) → MendIs s list notice r list notice
+  too_many r q sized h = not_done r 15 q (by true true false _ (le-leb 8 (length s) sized.0) (le-leb (length s) 16384 sized.1) (lt-leb (length (kept_of s)) 64 h) refl) (λ e. omega arith)
 
   module _ (order codes : List ℕ) (v : Tally) (w : Surveys s order codes v) (sized : Sized s) where
     long : leb 8 (length s) ≡ true
@@ -63,55 +65,44 @@ module _ (s list notice : List ℕ) where
     short : leb (length s) 16384 ≡ true
     short = le-leb (length s) 16384 sized.1
 
-    pub too_many : (r : Mended) → r ≡ refused 15 → v.kept ≡ 65 → MendIs s list notice r list notice
-    too_many r q e = not_done r 15 q (by true true false _ long short (lt-leb (length (kept_of s)) 64 (omega (arith, w.many e))) refl) (λ e. omega arith)
+    pub count_fits : v.count ≤ 16384
+    count_fits = omega (arith, w.count_is, list_short s (length s) [] 8, sized.1)
 
-    module _ (e : v.kept ≡ 65 → ⊥) where
-      pub count_fits : v.count ≤ 16384
-      count_fits = omega (arith, w.count_is e, list_short s (length s) [] 8, sized.1)
+    few : length (kept_of s) ≤ 64
+    few = omega (arith, w.kept_is, w.few)
 
-      few-kept : v.kept ≤ 64
-      few-kept = go (leb v.kept 64) refl
+    room_by : (b : Bool) → (ltb (length list) (3 * v.count) || ltb (length notice) v.size) ≡ b → room_for s (length list) (length notice) ≡ not b
+    room_by b t =
+        ap₂ (λ (x y : ℕ). leb (3 * x) (length list) && leb y (length notice)) (sym w.count_is) (sym w.size_is)
+        ∙ (room_test (length list) (length notice) (3 * v.count) v.size ∙ ap not t)
+
+    pub no_room : (r : MendAnswer) → r ≡ refused 9 → (ltb (length list) (3 * v.count) || ltb (length notice) v.size) ≡ true → MendIs s list notice r list notice
+    no_room r q t = not_done r 9 q (by true true true false long short (le-leb (length (kept_of s)) 64 few) (room_by true t)) (λ e. omega arith)
+
+    module _ (t : (ltb (length list) (3 * v.count) || ltb (length notice) v.size) ≡ false) where
+      rooms : (3 * length (list_of s) ≤ length list) × (length (notice_of s) ≤ length notice)
+      rooms =
+          let p = and_parts (leb (3 * length (list_of s)) (length list)) (leb (length (notice_of s)) (length notice)) (room_by false t) in
+          (leb-true (3 * length (list_of s)) (length list) p.0, leb-true (length (notice_of s)) (length notice) p.1)
+
+      pub can-list : Sized s × (take (length (list_of s)) codes ≡ codes_of (list_of s)) × (3 * length (list_of s) ≤ length list)
+      can-list = (sized, ap (λ (k : ℕ). take k codes) (sym w.count_is) ∙ w.codes_are, rooms.0)
+
+      same_fields : render (fields_in s order v.kept) ≡ notice_of s
+      same_fields = ap render w.fields_are
+
+      pub can_write : InOrder s order v.kept × (v.size ≡ length (render (fields_in s order v.kept))) × (v.size ≤ length notice) × (v.size ≤ 16384)
+      can_write = (w.in_order, w.size_is ∙ sym (ap length same_fields), omega (arith, w.size_is, rooms.1), omega (arith, w.size_short, sized.1))
+
+      pub mended : (l n : List ℕ) → l ≡ onto (list_bytes (list_of s)) list → n ≡ onto (render (fields_in s order v.kept)) notice
+          → MendIs s list notice (record { number = 0; place = 0; length = v.size; fields = v.count }) l n
+      mended l n p q =
+          let z : number ≡ 0 = by true true true true long short (le-leb (length (kept_of s)) 64 few) (room_by false t) in
+          let b : eqb number 0 ≡ true = ap (λ (x : ℕ). eqb x 0) z in (
+            ap₂ answer w.size_is w.count_is ∙ ap (λ (x : ℕ). mended_by x s) (sym z),
+            p ∙ ap (λ (t : Bool). cond t (onto (list_bytes (list_of s)) list) list) (sym b),
+            q ∙ (ap (λ (x : List ℕ). onto x notice) same_fields ∙ ap (λ (t : Bool). cond t (onto (notice_of s) notice) notice) (sym b)),
+          )
         where
-          go : (b : Bool) → leb v.kept 64 ≡ b → v.kept ≤ 64
-          go true p = leb-true v.kept 64 p
-          go false p = let m = leb-false v.kept 64 p in absurd (e (omega (arith, w.in_order.few)))
-
-      few : length (kept_of s) ≤ 64
-      few = omega (arith, w.kept_is e, few-kept)
-
-      room_by : (b : Bool) → (ltb (length list) (3 * v.count) || ltb (length notice) v.size) ≡ b → room_for s (length list) (length notice) ≡ not b
-      room_by b t =
-          ap₂ (λ (x y : ℕ). leb (3 * x) (length list) && leb y (length notice)) (sym (w.count_is e)) (sym (w.size_is e))
-          ∙ (room_test (length list) (length notice) (3 * v.count) v.size ∙ ap not t)
-
-      pub no_room : (r : Mended) → r ≡ refused 9 → (ltb (length list) (3 * v.count) || ltb (length notice) v.size) ≡ true → MendIs s list notice r list notice
-      no_room r q t = not_done r 9 q (by true true true false long short (le-leb (length (kept_of s)) 64 few) (room_by true t)) (λ e. omega arith)
-
-      module _ (t : (ltb (length list) (3 * v.count) || ltb (length notice) v.size) ≡ false) where
-        rooms : (3 * length (list_of s) ≤ length list) × (length (notice_of s) ≤ length notice)
-        rooms =
-            let p = and_parts (leb (3 * length (list_of s)) (length list)) (leb (length (notice_of s)) (length notice)) (room_by false t) in
-            (leb-true (3 * length (list_of s)) (length list) p.0, leb-true (length (notice_of s)) (length notice) p.1)
-
-        pub can-list : Sized s × (take (length (list_of s)) codes ≡ codes_of (list_of s)) × (3 * length (list_of s) ≤ length list)
-        can-list = (sized, ap (λ (k : ℕ). take k codes) (sym (w.count_is e)) ∙ w.codes_are e, rooms.0)
-
-        same_fields : render (fields_in s order v.kept) ≡ notice_of s
-        same_fields = ap render (w.fields_are e)
-
-        pub can_write : InOrder s order v.kept × (v.size ≡ length (render (fields_in s order v.kept))) × (v.size ≤ length notice) × (v.size ≤ 16384)
-        can_write = (w.in_order, w.size_is e ∙ sym (ap length same_fields), omega (arith, w.size_is e, rooms.1), omega (arith, w.size_short, sized.1))
-
-        pub mended : (l n : List ℕ) → l ≡ onto (list_bytes (list_of s)) list → n ≡ onto (render (fields_in s order v.kept)) notice
-            → MendIs s list notice (record { number = 0; place = 0; length = v.size; fields = v.count }) l n
-        mended l n p q =
-            let z : number ≡ 0 = by true true true true long short (le-leb (length (kept_of s)) 64 few) (room_by false t) in
-            let b : eqb number 0 ≡ true = ap (λ (x : ℕ). eqb x 0) z in (
-              ap₂ answer (w.size_is e) (w.count_is e) ∙ ap (λ (x : ℕ). mended_by x s) (sym z),
-              p ∙ ap (λ (t : Bool). cond t (onto (list_bytes (list_of s)) list) list) (sym b),
-              q ∙ (ap (λ (x : List ℕ). onto x notice) same_fields ∙ ap (λ (t : Bool). cond t (onto (notice_of s) notice) notice) (sym b)),
-            )
-          where
-            answer : ℕ → ℕ → Mended
-            answer x y = record { number = 0; place = 0; length = x; fields = y }
+          answer : ℕ → ℕ → MendAnswer
+          answer x y = record { number = 0; place = 0; length = x; fields = y }

@@ -1,6 +1,5 @@
 pub mod Orders
 pub mod Stores
-pub mod Copies
 pub mod Walks
 pub mod Admitted
 pub mod Placed

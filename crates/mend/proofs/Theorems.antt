@@ -19,7 +19,7 @@ use Rattle.notice.proofs.Walks.{from_header}
 use Rattle.notice.proofs.Renders.{length_header, length_render, render_passes, render_fields, rendered_count, well_fields, well_render}
 use Rattle.notice.proofs.Orders.{all_before_first}
 use Rattle.notice.proofs.Sorted.{sorted_length, sorted_same, sorted_same_fields}
-use Rattle.mend.specs.declared.Mended.{Mended}
+use Rattle.mend.specs.Mend.{MendAnswer}
 use Rattle.mend.specs.Mend.{Entry, stays, list_from, list_of, kept_in, kept_of, notice_of, list_bytes, onto, room_for, refusal_of, refused, done, mended_by}
 use Rattle.mend.specs.Theorems.{MendCall, result_of, entries_in, listed_in, ListRead, ResultWellFormed, SameFields, SameBytes, all_kept, ComesOut, Unchanged, Twice, cut_last, CutEnds, SingleByteCut, HeaderNotBelieved, NothingWritten, DamagedList, DamagedNotice}
 use Rattle.mend.proofs.Stores.{field_bytes_lem}
@@ -35,13 +35,13 @@ passes false n next e = absurd (omega arith)
 is_zero : (s : List ℕ) (n : ℕ) → (mended_by n s).number ≡ 0 → n ≡ 0
 is_zero s n = go (eqb n 0) refl
   where
-    go : (b : Bool) → eqb n 0 ≡ b → (cond {A = Mended} b (done s) (refused n)).number ≡ 0 → n ≡ 0
+    go : (b : Bool) → eqb n 0 ≡ b → (cond {A = MendAnswer} b (done s) (refused n)).number ≡ 0 → n ≡ 0
     go true p e = eqb-true n 0 p
     go false p e = e
 
 module _ (s list notice : List ℕ) (m : MendCall s list notice) (z : m.answer.number ≡ 0) where
   none_refused : refusal_of s (length list) (length notice) ≡ 0
-  none_refused = is_zero s (refusal_of s (length list) (length notice)) (sym (ap (λ (a : Mended). a.number) m.promise.0) ∙ z)
+  none_refused = is_zero s (refusal_of s (length list) (length notice)) (sym (ap (λ (a : MendAnswer). a.number) m.promise.0) ∙ z)
 
   record Accepted : Type 0 where
     long : 8 ≤ length s
@@ -64,13 +64,13 @@ module _ (s list notice : List ℕ) (m : MendCall s list notice) (z : m.answer.n
   result : result_of m ≡ notice_of s
   result =
       let n : m.after_notice ≡ onto (notice_of s) notice = m.promise.2 ∙ ap (λ (k : ℕ). cond (eqb k 0) (onto (notice_of s) notice) notice) none_refused in
-      ap₂ (λ (a : Mended) (x : List ℕ). take a.length x) answered n ∙ take_at (notice_of s) (drop (length (notice_of s)) notice) (length (notice_of s)) refl
+      ap₂ (λ (a : MendAnswer) (x : List ℕ). take a.length x) answered n ∙ take_at (notice_of s) (drop (length (notice_of s)) notice) (length (notice_of s)) refl
 
   listed : listed_in m ≡ list_of s
   listed =
       let l : m.after_list ≡ onto (list_bytes (list_of s)) list = m.promise.1 ∙ ap (λ (k : ℕ). cond (eqb k 0) (onto (list_bytes (list_of s)) list) list) none_refused in
       let below : Each (λ (e : Entry). e.offset < 65536) (list_of s) = each_map (list_of s) (λ e h. omega (arith, h.0, accepted.short)) (listed_below (length s) s [] 8) in
-      ap₂ (λ (a : Mended) (x : List ℕ). entries_in a.fields x) answered l ∙ entries_read (list_of s) (drop (length (list_bytes (list_of s))) list) below
+      ap₂ (λ (a : MendAnswer) (x : List ℕ). entries_in a.fields x) answered l ∙ entries_read (list_of s) (drop (length (list_bytes (list_of s))) list) below
 
   fields : fields_of (result_of m) ≡ sorted (kept_of s)
   fields = ap fields_of result ∙ render_fields (sorted (kept_of s)) ok
@@ -151,7 +151,7 @@ module _ (fs : List Field) (fine : NoticeFields fs) where
       every_kept = m.promise.1 ∙ (ap (λ (n : ℕ). cond (eqb n 0) (onto (list_bytes (list_of s)) list) list) none ∙ ap (λ (x : List Entry). onto (list_bytes x) list) walked);
     }
       where
-        answer : ℕ → ℕ → Mended
+        answer : ℕ → ℕ → MendAnswer
         answer x y = record { number = 0; place = 0; length = x; fields = y }
 
 -- .. under any name for its bytes
@@ -179,7 +179,7 @@ header_not_believed s t list notice l e m k =
     ap₂ (λ (i : ℕ) (fs : List Field). unless (leb 8 i) 30 (unless (leb i 16384) 10 (unless (leb (length fs) 64) 15 (unless (room_for s (length list) (length notice)) 9 0)))) l f
     ∙ ap (λ (b : Bool). unless (leb 8 (length t)) 30 (unless (leb (length t) 16384) 10 (unless (leb (length (kept_of t)) 64) 15 (unless b 9 0)))) r in
     let d : done s ≡ done t = ap₂ (λ (x : List ℕ) (y : List Entry). record { number = 0; place = 0; length = length x; fields = length y }) n a in (
-      m.promise.0 ∙ (ap₂ (λ (i : ℕ) (x : Mended). cond (eqb i 0) x (refused i)) z d ∙ sym k.promise.0),
+      m.promise.0 ∙ (ap₂ (λ (i : ℕ) (x : MendAnswer). cond (eqb i 0) x (refused i)) z d ∙ sym k.promise.0),
       m.promise.1 ∙ (ap₂ (λ (i : ℕ) (x : List Entry). cond (eqb i 0) (onto (list_bytes x) list) list) z a ∙ sym k.promise.1),
       m.promise.2 ∙ (ap₂ (λ (i : ℕ) (x : List ℕ). cond (eqb i 0) (onto x notice) notice) z n ∙ sym k.promise.2),
     )
@@ -187,10 +187,10 @@ header_not_believed s t list notice l e m k =
 pub nothing_written : NothingWritten
 nothing_written s list notice m h =
     let k = refusal_of s (length list) (length notice) in
-    let b : eqb k 0 ≡ false = ne_eqb k 0 (λ e. h (ap (λ (a : Mended). a.number) m.promise.0 ∙ ap (λ (n : ℕ). (mended_by n s).number) e)) in
+    let b : eqb k 0 ≡ false = ne_eqb k 0 (λ e. h (ap (λ (a : MendAnswer). a.number) m.promise.0 ∙ ap (λ (n : ℕ). (mended_by n s).number) e)) in
     let a : m.answer ≡ refused k = m.promise.0 ∙ ap (λ (t : Bool). cond t (done s) (refused k)) b in (
-      ap (λ (a : Mended). a.length) a,
-      ap (λ (a : Mended). a.fields) a,
+      ap (λ (a : MendAnswer). a.length) a,
+      ap (λ (a : MendAnswer). a.fields) a,
       m.promise.1 ∙ ap (λ (t : Bool). cond t (onto (list_bytes (list_of s)) list) list) b,
       m.promise.2 ∙ ap (λ (t : Bool). cond t (onto (notice_of s) notice) notice) b,
     )

@@ -5,15 +5,16 @@ use mathlib.Core.Bool.{Bool, true, false, cond, ◌&&◌}
 use mathlib.Core.List.{List, [], ◌∷◌, ◌++◌}
 use Prim.Native.Nat.{ℕ, suc, ◌+◌, ◌-◌, ◌*◌, ◌≤◌, ◌<◌}
 use native.Mathlib.Omega.{arith}
-use lib.Dec.{ltb}
+use lib.Dec.{leb, ltb}
 use lib.ListN.{length, get_or, take, drop, set, length-append, length-map, length-set, length-take, length-drop}
 use lib.Seq.{sets, length-sets, drop-cons, take_at}
-use borrow.Author.Tests.{ltb-true, ltb-false}
+use borrow.Author.Tests.{ltb-true, ltb-false, leb-true, leb-false}
 use Rattle.common.proofs.Choice.{true_false}
 use Rattle.common.proofs.Stores.{sets_append}
 use Rattle.word.specs.Word.{word_bytes}
 use Rattle.word.proofs.Laws.{length_word_bytes}
 use Rattle.octets.proofs.Theorems.{and_parts}
+use Rattle.refusal.specs.declared.Refusal.TheVariants.{Room}
 use Rattle.notice.specs.Field.{Field}
 use Rattle.notice.specs.Render.{fields_bytes}
 use Rattle.notice.specs.Layout.{next_at}
@@ -81,18 +82,25 @@ module _ (s order codes₀ codes : List ℕ) (n at size count : ℕ) (r : Counte
   abbrev w : Walked s order r.kept n at count
   w = r.walked
 
-  pub survey_ends : (length s ≤ at) ⊎ (65 ≤ n) → Surveys s order codes (record { kept = n; size = size; count = count })
-  survey_ends end = record {
-    many = λ e. omega (arith, part_of s order r.kept n at count w);
-    kept_is = λ e. sym (kept_length s order r.kept n at count w) ∙ ap length (all e).0;
+  pub survey_over : n ≡ 65 → (Room ≡ Room) × (64 < length (kept_of s))
+  survey_over e = (refl, omega (arith, part_of s order r.kept n at count w))
+
+  pub survey_ends : (length s ≤ at) ⊎ (65 ≤ n) → (n ≡ 65 → ⊥) → Surveys s order codes (record { kept = n; size = size; count = count })
+  survey_ends end e = record {
+    kept_is = sym (kept_length s order r.kept n at count w) ∙ ap length (all e).0;
+    few = go (leb n 64) refl;
     in_order = w.in_order;
-    fields_are = λ e. w.fields_are ∙ ap sorted (all e).0;
-    size_is = λ e. omega (arith, r.size_is, ap (λ (fs : List Field). length (fields_bytes fs)) (all e).0, length_render (sorted (kept_of s)), sorted_size (kept_of s));
+    fields_are = w.fields_are ∙ ap sorted (all e).0;
+    size_is = omega (arith, r.size_is, ap (λ (fs : List Field). length (fields_bytes fs)) (all e).0, length_render (sorted (kept_of s)), sorted_size (kept_of s));
     size_short = omega (arith, r.size_is, w.short);
-    count_is = λ e. (all e).1;
-    codes_are = λ e. noted-all (at_end e) (all e).1;
+    count_is = (all e).1;
+    codes_are = noted-all (at_end e) (all e).1;
   }
     where
+      go : (b : Bool) → leb n 64 ≡ b → n ≤ 64
+      go true p = leb-true n 64 p
+      go false p = let m = leb-false n 64 p in absurd (e (omega (arith, w.in_order.few)))
+
       at_end : (n ≡ 65 → ⊥) → length s ≤ at
       at_end e = ⊎_elim (λ h. h) (λ h. absurd (e (omega (arith, w.in_order.few)))) end
 

@@ -1,6 +1,6 @@
 -- Mending the notices of the old consoles: what is asked. Document 02, request 14.
 -- Everything here is total: a byte past the end counts as 0.
-use Rattle.std.specs.Prelude.{ℕ, zero, suc, ◌*◌, ◌≡◌, Bool, false, cond, ◌&&◌, ◌||◌, List, [], ◌∷◌, ◌++◌, eqb, leb, ltb, length, drop}
+use Rattle.std.specs.Prelude.{ℕ, zero, suc, ◌*◌, ◌≡◌, Bool, false, cond, ◌&&◌, ◌||◌, List, [], ◌∷◌, ◌++◌, eqb, leb, ltb, length, drop, Result, Ok, Err}
 use Rattle.common.specs.Choice.{pick}
 use Rattle.word.specs.Word.{word_bytes}
 use Rattle.octets.specs.Octets.{before_of}
@@ -8,6 +8,8 @@ use Rattle.notice.specs.Field.{Field}
 use Rattle.notice.specs.Render.{render}
 use Rattle.notice.specs.Layout.{unless, next_at, name_at, field_at, right_at}
 use Rattle.notice.specs.Write.{has_name, sorted}
+use Rattle.refusal.specs.declared.Refusal.{Refusal}
+use Rattle.refusal.specs.Refusal.{number_of as refusal_number, place_of as refusal_place}
 use Rattle.mend.specs.declared.Mended.{Mended}
 
 -- ---- field by field
@@ -89,16 +91,26 @@ refusal_of s list notice =
     0)))
 
 -- "It answers number, place, the notice's length and the count of fields listed, the last two 0 if refused."
-abbrev pub refused : ℕ → Mended
+pub record MendAnswer : Type 0 where
+  pub number : ℕ
+  pub place : ℕ
+  pub length : ℕ
+  pub fields : ℕ
+
+abbrev pub mend_answer : Result Mended Refusal → MendAnswer
+mend_answer (Ok m) = record { number = 0; place = 0; length = m.length; fields = m.fields }
+mend_answer (Err r) = record { number = refusal_number r; place = refusal_place r; length = 0; fields = 0 }
+
+abbrev pub refused : ℕ → MendAnswer
 refused number = record { number = number; place = 0; length = 0; fields = 0 }
 
-abbrev pub done : List ℕ → Mended
+abbrev pub done : List ℕ → MendAnswer
 done s = record { number = 0; place = 0; length = length (notice_of s); fields = length (list_of s) }
 
-abbrev pub mended_by : ℕ → List ℕ → Mended
+abbrev pub mended_by : ℕ → List ℕ → MendAnswer
 mended_by number s = cond (eqb number 0) (done s) (refused number)
 
-abbrev pub mended_of : List ℕ → ℕ → ℕ → Mended
+abbrev pub mended_of : List ℕ → ℕ → ℕ → MendAnswer
 mended_of s list notice = mended_by (refusal_of s list notice) s
 
 -- new bytes at a buffer's start: "bytes past it and past the notice stay"
@@ -113,6 +125,6 @@ abbrev pub notice_after : List ℕ → List ℕ → List ℕ → List ℕ
 notice_after s list notice = cond (eqb (refusal_of s (length list) (length notice)) 0) (onto (notice_of s) notice) notice
 
 -- what mending answers, and the bytes of both lent buffers with it
-abbrev pub MendIs : List ℕ → List ℕ → List ℕ → Mended → List ℕ → List ℕ → Type 0
+abbrev pub MendIs : List ℕ → List ℕ → List ℕ → MendAnswer → List ℕ → List ℕ → Type 0
 MendIs s list notice answer after_list after_notice =
     (answer ≡ mended_of s (length list) (length notice)) × (after_list ≡ list_after s list notice) × (after_notice ≡ notice_after s list notice)

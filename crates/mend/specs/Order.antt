@@ -1,10 +1,12 @@
 -- The code's own state: where the fields kept so far start, in the order of their names.
-use Rattle.std.specs.Prelude.{ℕ, ◌+◌, ◌*◌, ◌≤◌, ◌≡◌, true, cond, List, map, length, take}
+use Rattle.std.specs.Prelude.{ℕ, ◌+◌, ◌*◌, ◌≤◌, ◌≡◌, true, ◌<◌, cond, List, map, length, take, Result, Ok, Err}
 use Rattle.common.specs.Each.{Each}
 use Rattle.notice.specs.Field.{Field, rising}
 use Rattle.notice.specs.Render.{render}
 use Rattle.notice.specs.Layout.{name_at, field_at, right_at}
 use Rattle.notice.specs.Write.{insert_field, sorted, place_among}
+use Rattle.refusal.specs.declared.Refusal.{Refusal}
+use Rattle.refusal.specs.declared.Refusal.TheVariants.{Room}
 use Rattle.mend.specs.declared.walking.Judged.{Judged}
 use Rattle.mend.specs.declared.walking.Tally.{Tally}
 use Rattle.mend.specs.Mend.{Entry, stays, code_at, list_of, kept_of}
@@ -43,13 +45,18 @@ pub record Admits (s order : List ℕ) (n at : ℕ) (after : List ℕ) (code : �
   pub in_order : InOrder s after (n + cond (stays code) 1 0)
   pub fields_are : fields_in s after (n + cond (stays code) 1 0) ≡ cond (stays code) (insert_field (field_at s at) (fields_in s order n)) (fields_in s order n)
 
--- what the first pass finds: the fields kept, 65 if there are more than 64, and if not, where they start, how many bytes the notice has, how many fields are listed and what each is
+-- what the first pass finds: at most 64 fields kept, where they start, how many bytes the notice has, how many fields are listed and what each is
 pub record Surveys (s order codes : List ℕ) (t : Tally) : Type 0 where
-  pub many : t.kept ≡ 65 → 65 ≤ length (kept_of s)
-  pub kept_is : (t.kept ≡ 65 → ⊥) → t.kept ≡ length (kept_of s)
+  pub kept_is : t.kept ≡ length (kept_of s)
+  pub few : t.kept ≤ 64
   pub in_order : InOrder s order t.kept
-  pub fields_are : (t.kept ≡ 65 → ⊥) → fields_in s order t.kept ≡ sorted (kept_of s)
-  pub size_is : (t.kept ≡ 65 → ⊥) → t.size ≡ length (render (sorted (kept_of s)))
+  pub fields_are : fields_in s order t.kept ≡ sorted (kept_of s)
+  pub size_is : t.size ≡ length (render (sorted (kept_of s)))
   pub size_short : t.size ≤ length s
-  pub count_is : (t.kept ≡ 65 → ⊥) → t.count ≡ length (list_of s)
-  pub codes_are : (t.kept ≡ 65 → ⊥) → take t.count codes ≡ codes_of (list_of s)
+  pub count_is : t.count ≡ length (list_of s)
+  pub codes_are : take t.count codes ≡ codes_of (list_of s)
+
+-- .. or that more would be kept
+abbrev pub SurveyIs : List ℕ → List ℕ → List ℕ → Result Tally Refusal → Type 0
+SurveyIs s order codes (Ok t) = Surveys s order codes t
+SurveyIs s order codes (Err r) = (r ≡ Room) × (64 < length (kept_of s))

@@ -6,12 +6,11 @@ use Rattle.word.specs.Word.{word_at, Bytes}
 use Rattle.notice.specs.Layout.{Layout}
 use Rattle.notice.specs.Render.{field_bytes, fields_bytes}
 use Rattle.notice.specs.Layout.{size_at, field_at, count_of, check_of, starts_of, fields_of}
-use Rattle.mend.specs.declared.Mended.{Mended}
-use Rattle.mend.specs.Mend.{Entry, cut_at, stays, list_of, kept_in, notice_of, list_bytes, onto, MendIs}
+use Rattle.mend.specs.Mend.{Entry, MendAnswer, cut_at, stays, list_of, kept_in, notice_of, list_bytes, onto, MendIs}
 
 -- A call of `mend(s, list, notice)`: what it answers, both lent buffers after it, and its promise.
 pub record MendCall (s list notice : List ℕ) : Type 0 where
-  pub answer : Mended
+  pub answer : MendAnswer
   pub after_list : List ℕ
   pub after_notice : List ℕ
   pub promise : MendIs s list notice answer after_list after_notice

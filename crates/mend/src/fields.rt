@@ -32,21 +32,16 @@ pub(crate) fn right(bytes: &[u8], at: usize, end: usize) -> bool
     notice::stands(bytes, at)
 }
 
-// The name of a right field.
-fn name_at<'a>(bytes: &'a [u8], at: usize) -> &'a [u8]
-    requires { right_at bytes.now at ≡ true }
-    ensures { result.now ≡ name_at bytes.now at }
-{
-    let name = at + 5;
-    let value = name + notice::name_size(bytes, at);
-    &bytes[name..value]
-}
-
 pub(crate) fn same_name(bytes: &[u8], k: usize, at: usize) -> bool
     requires { (right_at bytes.now k ≡ true) × (right_at bytes.now at ≡ true) }
     ensures { result ≡ same_of (name_at bytes.now k) (name_at bytes.now at) }
 {
-    octets::same(name_at(bytes, k), false, name_at(bytes, at), false)
+    octets::same(
+        notice::name_at(bytes, k),
+        false,
+        notice::name_at(bytes, at),
+        false,
+    )
 }
 
 // By all bytes.
@@ -54,7 +49,7 @@ fn compared(bytes: &[u8], at: usize, k: usize) -> bool
     requires { (right_at bytes.now at ≡ true) × (right_at bytes.now k ≡ true) }
     ensures { result ≡ before_of (name_at bytes.now at) (name_at bytes.now k) }
 {
-    octets::earlier(name_at(bytes, at), name_at(bytes, k))
+    octets::earlier(notice::name_at(bytes, at), notice::name_at(bytes, k))
 }
 
 // By the first byte where these differ.

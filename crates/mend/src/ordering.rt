@@ -30,9 +30,9 @@ pub(crate) fn place_for(bytes: &[u8], order: &[u16; 65], n: usize, at: usize) ->
         let middle = low + (high - low) / 2;
         if name_before(bytes, at, order[middle] as usize) {
             high = middle;
-            continue;
+        } else {
+            low = middle + 1;
         }
-        low = middle + 1;
     }
     low
 }
@@ -59,23 +59,11 @@ pub(crate) fn among(bytes: &[u8], order: &[u16; 65], n: usize, place: usize, at:
     if place < n { 1 } else { 0 }
 }
 
-// Moves the places from `place` to n up by one.
-fn make_place(order: &mut [u16; 65], n: usize, place: usize)
-    requires { (length order.old ≡ 65) × (place ≤ n) × (n < 65) }
-    ensures { order.new ≡ sets order.old (place + 1) (take (n - place) (drop place order.old)) }
-{
-    let mut i = n;
-    while place < i {
-        i -= 1;
-        order[i + 1] = order[i];
-    }
-}
-
-// One more among the first n.
+// One more among the first n: the places from its own on move up by one.
 pub(crate) fn put_in(order: &mut [u16; 65], n: usize, place: usize, at: usize)
     requires { (length order.old ≡ 65) × (place ≤ n) × (n < 65) × (at < 65536) }
     ensures { (length order.new ≡ 65) × (take (n + 1) order.new ≡ take place (take n order.old) ++ (at ∷ drop place (take n order.old))) }
 {
-    make_place(order, n, place);
+    order.copy_within(place..n, place + 1);
     order[place] = at as u16;
 }

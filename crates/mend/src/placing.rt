@@ -5,8 +5,6 @@ ghost use Rattle.notice.specs.Render.{fields_bytes, render};
 ghost use Rattle.mend.specs.Mend.{onto};
 ghost use Rattle.mend.specs.Order.{fields_in, InOrder};
 
-use crate::copying::copy;
-
 // The fields at the first n places, from offset 8 on. Fields that lie side by side in the bytes as well are stored at once: those from `from` to `end` are still to store.
 fn put_fields(notice: &mut [u8], bytes: &[u8], order: &[u16; 65], n: usize)
     requires { InOrder bytes.now order.now n × (8 + length (fields_bytes (fields_in bytes.now order.now n)) ≤ length notice.old) }
@@ -15,18 +13,16 @@ fn put_fields(notice: &mut [u8], bytes: &[u8], order: &[u16; 65], n: usize)
     let mut to = 8;
     let mut from = 0;
     let mut end = 0;
-    let mut i = 0;
-    while i < n {
-        let at = order[i] as usize;
+    for start in &order[..n] {
+        let at = *start as usize;
         if at != end {
-            copy(notice, to, &bytes[from..end]);
+            common::copy_to(notice, to, &bytes[from..end]);
             to += end - from;
             from = at;
         }
-        end = at + 2 + notice::field_size(bytes, at);
-        i += 1;
+        end = notice::next_at(bytes, at);
     }
-    copy(notice, to, &bytes[from..end]);
+    common::copy_to(notice, to, &bytes[from..end]);
 }
 
 pub(crate) fn put_notice(notice: &mut [u8], bytes: &[u8], order: &[u16; 65], n: usize, size: usize)

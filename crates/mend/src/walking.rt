@@ -4,10 +4,11 @@ ghost use Rattle.std.proofs.lemmas.List.Edits.{sets};
 ghost use Rattle.word.specs.Word.{word_bytes};
 ghost use Rattle.notice.specs.Layout.{next_at};
 ghost use Rattle.mend.specs.Mend.{stays, list_of, list_bytes, onto};
-ghost use Rattle.mend.specs.Order.{codes_of, InOrder, Sized, Roomy, Judges, Admits, Surveys};
+ghost use Rattle.mend.specs.Order.{codes_of, InOrder, Sized, Roomy, Judges, Admits, SurveyIs};
 
 use crate::fields::{next, right};
 use crate::ordering::{among, comes_last, place_for, put_in};
+use refusal::Refusal;
 
 // What a field is, and its name's place among those kept if it stays.
 #[derive(Drop)]
@@ -17,7 +18,7 @@ struct Judged {
 }
 
 // What the first pass finds: how many fields are kept, the notice's length, and how many fields are listed.
-#[derive(Drop)]
+#[derive(Clone, Copy)]
 pub(crate) struct Tally {
     pub kept: usize,
     pub size: usize,
@@ -71,10 +72,14 @@ fn goes_on(bytes: &[u8], at: usize, kept: usize) -> bool
     (at < bytes.len()) & (kept < 65)
 }
 
-// The first pass: judges, notes and counts.
-pub(crate) fn survey(bytes: &[u8], order: &mut [u16; 65], codes: &mut [u8]) -> Tally
+// The first pass: judges, notes and counts. "15 if 65 fields would be kept"
+pub(crate) fn survey(
+    bytes: &[u8],
+    order: &mut [u16; 65],
+    codes: &mut [u8],
+) -> Result<Tally, Refusal>
     requires { Sized bytes.now × (length order.old ≡ 65) × Roomy bytes.now codes.old }
-    ensures { Surveys bytes.now order.new codes.new result }
+    ensures { SurveyIs bytes.now order.new codes.new result }
 {
     let mut kept = 0;
     let mut at = 8;
@@ -89,7 +94,10 @@ pub(crate) fn survey(bytes: &[u8], order: &mut [u16; 65], codes: &mut [u8]) -> T
         at = end;
         count += 1;
     }
-    Tally { kept, size, count }
+    if kept == 65 {
+        return Err(Refusal::Room);
+    }
+    Ok(Tally { kept, size, count })
 }
 
 // "3 bytes a field, u16 offset and one byte 0..4"

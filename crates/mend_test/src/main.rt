@@ -34,20 +34,30 @@ fn next_case(from: &mut impl Read, to: &mut impl Write) -> io::Result<bool> {
     if list.len() < list_room || notice.len() < notice_room {
         return Ok(false);
     }
-    let m = mend::mend(
+    let mended = mend::mend(
         &bytes[..n],
         &mut list[..list_room],
         &mut notice[..notice_room],
     );
-    let listed = m.fields.saturating_mul(3);
-    write!(to, "{} {} {} {} ", m.number, m.place, m.length, m.fields)?;
+    let (length, fields) = match mended {
+        Ok(m) => {
+            write!(to, "0 0 ")?;
+            (m.length, m.fields)
+        }
+        Err(r) => {
+            write!(to, "{} {} ", r.number(), r.place())?;
+            (0, 0)
+        }
+    };
+    let listed = fields.saturating_mul(3);
+    write!(to, "{length} {fields} ")?;
     put_start(to, &list, listed)?;
-    put_start(to, &notice, m.length)?;
+    put_start(to, &notice, length)?;
     writeln!(
         to,
         "{} {} ",
         kept_from(&list, listed) as u8,
-        kept_from(&notice, m.length) as u8
+        kept_from(&notice, length) as u8
     )?;
     Ok(true)
 }

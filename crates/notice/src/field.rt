@@ -33,7 +33,7 @@ pub fn name_size(notice: &[u8], at: usize) -> usize
 }
 
 // The name, where the value starts, and where the next field does, of a field that lies within the notice.
-pub(crate) fn name_at<'a>(notice: &'a [u8], at: usize) -> &'a [u8]
+pub fn name_at<'a>(notice: &'a [u8], at: usize) -> &'a [u8]
     requires { at + 5 + name_size_at notice.now at ≤ length notice.now }
     ensures { result.now ≡ name_at notice.now at }
 {
@@ -49,7 +49,7 @@ pub(crate) fn value_at(notice: &[u8], at: usize) -> usize
     at + 5 + name_size(notice, at)
 }
 
-pub(crate) fn next_at(notice: &[u8], at: usize) -> usize
+pub fn next_at(notice: &[u8], at: usize) -> usize
     requires { at + 2 ≤ length notice.now }
     ensures { result ≡ next_at notice.now at }
 {

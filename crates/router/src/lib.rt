@@ -416,9 +416,18 @@ pub fn virentolex_mend(
     ensures list_after { list.new ≡ list_after bytes.now list.old notice.old }
     ensures notice_after { notice.new ≡ notice_after bytes.now list.old notice.old }
 {
-    let a = mend::mend(bytes, list, notice);
-    *place = a.place;
-    *len = a.length;
-    *fields = a.fields;
-    a.number
+    match mend::mend(bytes, list, notice) {
+        Ok(m) => {
+            *place = 0;
+            *len = m.length;
+            *fields = m.fields;
+            0
+        }
+        Err(r) => {
+            *place = r.place();
+            *len = 0;
+            *fields = 0;
+            r.number()
+        }
+    }
 }

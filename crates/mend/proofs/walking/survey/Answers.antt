@@ -5,7 +5,7 @@ use native.Mathlib.Omega.{arith}
 use lib.ListN.{length}
 use Rattle.mend.specs.Mend.{stays}
 use Rattle.mend.proofs.Walks.{less}
-use Rattle.mend.proofs.Turns.{count_starts, both, not_both, note_room, counts_on, survey_ends}
+use Rattle.mend.proofs.Turns.{count_starts, both, not_both, note_room, counts_on, survey_over, survey_ends}
 use Rattle.mend.proofs.walking.survey.Goals as goal
 
 pub loop-end-init : goal.loop-end-init
@@ -59,8 +59,13 @@ loop-end-preserved c =
 pub shape_of-codes : goal.shape_of-codes
 shape_of-codes c = c.loop-end.invariant.same_long
 
+pub returns-then-kept-eq65 : goal.returns-then-kept-eq65
+returns-then-kept-eq65 c =
+    let i = c.loop-end in
+    survey_over c.args.bytes.now i.order c.args.codes.now i.codes i.kept i.at i.size i.count i.invariant c.if-kept-eq65.true
+
 pub returns : goal.returns
 returns c =
     let i = c.loop-end in
     let s = c.args.bytes.now in
-    survey_ends s i.order c.args.codes.now i.codes i.kept i.at i.size i.count i.invariant (not_both i.at (length s) i.kept 65 (sym c.goes_on.ensures ∙ c.loop-end-test.false))
+    survey_ends s i.order c.args.codes.now i.codes i.kept i.at i.size i.count i.invariant (not_both i.at (length s) i.kept 65 (sym c.goes_on.ensures ∙ c.loop-end-test.false)) c.if-kept-eq65.false
