@@ -4,11 +4,12 @@
 ghost use Rattle.std.specs.Prelude.{false, ◌≡◌, ℕ, ◌+◌, ◌^◌, ◌<◌, Ok, IfOk, length};
 ghost use Rattle.session.specs.State.{Stands, Ready, Reads};
 ghost use Rattle.verdict.specs.Reading.{answer_of, BroughtBy};
-ghost use Rattle.verdict.specs.Going.{Answered, ReadOn, Goes};
+ghost use Rattle.verdict.specs.Going.{Answered, ReadOn, state_of, Goes};
 
 use session::{Brought, Next, State};
 use std::io;
 use std::io::ErrorKind;
+use std::ops::ControlFlow;
 
 // Whether a read is repeated: it failed since a signal came first, or since nothing had come and standard input does not wait. Then it is asked again at once, since nothing here can wait for more.
 fn is_repeated(got: &io::Result<usize>) -> bool
@@ -16,10 +17,7 @@ fn is_repeated(got: &io::Result<usize>) -> bool
 {
     match got {
         Ok(_) => false,
-        Err(e) => {
-            let kind = e.kind();
-            (kind == ErrorKind::Interrupted) | (kind == ErrorKind::WouldBlock)
-        }
+        Err(e) => matches!(e.kind(), ErrorKind::Interrupted | ErrorKind::WouldBlock),
     }
 }
 
@@ -56,13 +54,6 @@ fn more(from: &mut impl io::Read, input: &mut [u8], s: State) -> State
     session::received(ready, came)
 }
 
-// What the program has come to, and whether it goes on.
-#[derive(Drop)]
-struct Stage {
-    state: State,
-    going: bool,
-}
-
 // Answers what is there and writes the lines. Nothing is left to do where they cannot be written.
 fn answer(
     to: &mut impl io::Write,
@@ -70,18 +61,18 @@ fn answer(
     table: &mut [u8],
     out: &mut [u8],
     s: State,
-) -> Stage
+) -> ControlFlow<State, State>
     requires { Ready input.now table.old s × (s.next ≡ Next.Answer) }
-    ensures { Answered input.now table.old s table.new out.new result.state }
+    ensures { Answered input.now table.old s table.new out.new (state_of result) }
 {
     let after = session::turn(input, table, out, s);
-    let lines = session::lines(out, after);
-    Stage {
-        state: after,
-        going: to.write_all(lines).is_ok(),
+    match to.write_all(session::lines(out, after)) {
+        Ok(()) => ControlFlow::Continue(after),
+        Err(_) => ControlFlow::Break(after),
     }
 }
 
+// What the state asks for. The program goes on with the state after it, or stops.
 fn step(
     from: &mut impl io::Read,
     to: &mut impl io::Write,
@@ -89,25 +80,18 @@ fn step(
     table: &mut [u8],
     out: &mut [u8],
     s: State,
-) -> Stage
+) -> ControlFlow<State, State>
     requires { Ready input.old table.old s }
-    ensures { Goes input.old table.old s input.new table.new result.state }
+    ensures { Goes input.old table.old s input.new table.new (state_of result) }
 {
-    let next = s.next;
-    match next {
+    match s.next {
         Next::Answer => answer(to, input, table, out, s),
-        Next::Read => Stage {
-            state: more(from, input, s),
-            going: true,
-        },
-        Next::Done => Stage {
-            state: s,
-            going: false,
-        },
+        Next::Read => ControlFlow::Continue(more(from, input, s)),
+        Next::Done => ControlFlow::Break(s),
     }
 }
 
-// Nothing says that the input ends, so the steps are counted down, from a number that no run uses up.
+// Nothing says that the input ends, so the steps are counted, up to a number that no run uses up.
 fn main(rt: HostRuntime) {
     let mut from = rt.stdin();
     let mut to = rt.stdout();
@@ -117,13 +101,11 @@ fn main(rt: HostRuntime) {
     let input: &mut [u8] = &mut input_space;
     let table: &mut [u8] = &mut table_space;
     let out: &mut [u8] = &mut out_space;
-    let mut at = Stage {
-        state: session::start(),
-        going: true,
-    };
-    let mut left = u64::MAX;
-    while 0 < left && at.going {
-        at = step(&mut from, &mut to, input, table, out, at.state);
-        left -= 1;
+    let mut state = session::start();
+    for _ in 0..u64::MAX {
+        match step(&mut from, &mut to, input, table, out, state) {
+            ControlFlow::Continue(after) => state = after,
+            ControlFlow::Break(_) => break,
+        }
     }
 }

@@ -7,14 +7,14 @@ use Rattle.session.proofs.Theorems.{always_ready}
 use Rattle.verdict.proofs.Laws.{starts}
 use Rattle.verdict.proofs.main.Goals as goal
 
-pub loop-left-init : goal.loop-left-init
-loop-left-init c = ([], [], starts _ _ _ (length-replicate {A = ℕ} 65536 0) (length-replicate {A = ℕ} most_bytes 0) c.start.ensures)
+pub loop-init : goal.loop-init
+loop-init c = ([], [], starts _ _ _ (length-replicate {A = ℕ} 65536 0) (length-replicate {A = ℕ} most_bytes 0) c.start-state.ensures)
 
-pub step-at-requires : goal.step-at-requires
-step-at-requires c = let h = c.loop-left.invariant in always_ready _ _ _ _ _ h.2
+pub step-requires : goal.step-requires
+step-requires c = let h = c.loop.invariant in always_ready _ _ _ _ _ h.2
 
-pub loop-left-preserved : goal.loop-left-preserved
-loop-left-preserved c =
-    let h = c.loop-left.invariant in
-    let k = c.step-at.ensures h.0 h.1 h.2 in
+pub loop-preserved : goal.loop-preserved
+loop-preserved c =
+    let h = c.loop.invariant in
+    let k = c.in-Continue.ensures h.0 h.1 h.2 in
     (_, _, k.2)

@@ -4,8 +4,5 @@ use Prim.Native.Nat.{ℕ}
 use Rattle.session.specs.History.{Session}
 use Rattle.verdict.proofs.main.Given as goal
 
-abbrev pub invariant-loop-left : goal.invariant-loop-left
-invariant-loop-left l = (read : List ℕ) × (written : List ℕ) × Session l.input l.table l.at.state read written
-
-abbrev pub decreases-loop-left : goal.decreases-loop-left
-decreases-loop-left l = l.left
+abbrev pub invariant-loop : goal.invariant-loop
+invariant-loop l = (read : List ℕ) × (written : List ℕ) × Session l.input l.table l.state read written
