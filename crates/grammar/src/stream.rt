@@ -1,7 +1,8 @@
 // What the parser asks of a single token.
-ghost use Rattle.std.specs.Prelude.{◌≡◌, true, false, ◌+◌, ◌≤◌, ◌<◌, length, get_or};
+ghost use Rattle.std.specs.Prelude.{◌≡◌, true, false, ◌+◌, ◌-◌, ◌≤◌, ◌<◌, length, get_or};
 ghost use Rattle.grammar.specs.Grammar.{is_prefix};
 ghost use Rattle.grammar.specs.Function.{changes, tests, matches, among, op_of_name, op_if_any};
+ghost use Rattle.grammar.specs.Marks.{calling, is_operand};
 ghost use Rattle.grammar.specs.Nesting.{open_after, row_after, is_flat};
 ghost use Rattle.lexer.specs.Token.{name_at, escaped_at};
 ghost use Rattle.lexer.specs.Kind.{ending};
@@ -17,6 +18,23 @@ pub fn start(starts: &[u16], at: usize) -> usize
     ensures { result ≡ get_or starts.now at 0 }
 {
     usize::from(starts.get(at).copied().unwrap_or(0))
+}
+
+// Added to the op of a called function: no kind and no op is as large.
+pub const CALLING: u8 = 128;
+
+// The op of a called function by its mark, 0 for any other mark.
+pub fn called(m: u8) -> u8
+    ensures { result ≡ m - calling }
+{
+    m.saturating_sub(CALLING)
+}
+
+// Whether a mark is a literal's, or that of a name that is not called.
+pub fn is_operand(m: u8) -> bool
+    ensures { result ≡ is_operand m }
+{
+    matches!(m, lexer::INT32..=lexer::NAME)
 }
 
 pub fn is_prefix(k: u8) -> bool

@@ -12,20 +12,11 @@ ghost use Rattle.operands.specs.Gather.{each_from, place_at, size_at, operand_pl
 ghost use Rattle.operands.specs.Patterns.{asks_patterns, mark_before, digit_of, function_by, opens_after, is_later, right_at, patterns_by};
 
 use grammar::stream;
+use grammar::stream::{called, is_operand, CALLING};
 
 mod literal;
 
 use literal::{literal_right, takes_patterns};
-
-// Added to the op of a called function: no kind and no op is as large.
-pub const CALLING: u8 = 128;
-
-// The op of a called function by its mark, 0 for any other mark.
-fn called(m: u8) -> u8
-    ensures { result ≡ m - calling }
-{
-    m.saturating_sub(CALLING)
-}
 
 // The mark of the token i: "A name before `(` is always a call."
 fn mark_at(text: &[u8], kinds: &[u8], starts: &[u16], i: usize) -> u8
@@ -58,12 +49,6 @@ pub fn mark(text: &[u8], kinds: &mut [u8], starts: &[u16]) -> bool
         asks = asks | takes_patterns(called(m));
     }
     asks
-}
-
-fn is_operand(m: u8) -> bool
-    ensures { result ≡ is_operand m }
-{
-    matches!(m, lexer::INT32..=lexer::NAME)
 }
 
 fn place(starts: &[u16], i: usize) -> u16

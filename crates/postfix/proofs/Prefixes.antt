@@ -2,10 +2,12 @@
 use mathlib.Core.Path.{◌≡◌, refl, sym, ap, ◌∙◌}
 use mathlib.Core.Bool.{Bool, true, false, cond}
 use mathlib.Core.List.{List, [], ◌∷◌}
-use Prim.Native.Nat.{ℕ, ◌+◌, ◌-◌, ◌*◌, ◌≤◌, ◌<◌}
+use Prim.Native.Nat.{ℕ, zero, suc, ◌+◌, ◌-◌, ◌*◌, ◌≤◌, ◌<◌}
 use native.Mathlib.Decide.{dec_lt, ℕ_discrete}
 use native.Mathlib.Omega.{arith}
-use lib.ListN.{length, get_or, get_or-eq_default}
+use lib.ListN.{length, get_or, take, drop, get_or-eq_default}
+use Rattle.std.proofs.lemmas.List.{get_or-drop}
+use Rattle.std.specs.List.{prefix_len, take_while}
 use lib.Seq.{sets, length-sets}
 use borrow.Author.Tests.{ne_eqb}
 use Rattle.common.proofs.Choice.{false_true}
@@ -24,6 +26,42 @@ use Rattle.postfix.proofs.Marks.{is_plain, same_prefix}
 use Rattle.postfix.proofs.Bounds.{bounded_prefix}
 use Rattle.postfix.proofs.Steps.{small, unary_answered}
 
+-- what stands at the front of a list, and after it
+prefix-each : (xs : List ℕ) (k : ℕ) → k < prefix_len is_prefix xs → is_prefix (get_or xs k 99) ≡ true
+prefix-each [] k = λ h. absurd (omega arith)
+prefix-each (x ∷ xs) k = go (is_prefix x) refl (prefix-each xs) k
+  where
+    go : (b : Bool) → is_prefix x ≡ b → ((k : ℕ) → k < prefix_len is_prefix xs → is_prefix (get_or xs k 99) ≡ true) → (k : ℕ) → k < cond b (1 + prefix_len is_prefix xs) 0
+        → is_prefix (get_or (x ∷ xs) k 99) ≡ true
+    go true e f zero h = e
+    go true e f (suc k) h = f k (omega arith)
+    go false e f k h = absurd (omega arith)
+
+prefix-past : (xs : List ℕ) → is_prefix (get_or xs (prefix_len is_prefix xs) 99) ≡ false
+prefix-past [] = refl
+prefix-past (x ∷ xs) = go (is_prefix x) refl (prefix-past xs)
+  where
+    go : (b : Bool) → is_prefix x ≡ b → is_prefix (get_or xs (prefix_len is_prefix xs) 99) ≡ false → is_prefix (get_or (x ∷ xs) (cond b (1 + prefix_len is_prefix xs) 0) 99) ≡ false
+    go true e f = let n : 1 + prefix_len is_prefix xs ≡ suc (prefix_len is_prefix xs) = omega arith in rw n f
+    go false e f = e
+
+sized : (xs : List ℕ) → length (take_while is_prefix xs) ≡ prefix_len is_prefix xs
+sized [] = refl
+sized (x ∷ xs) = go (is_prefix x) (sized xs)
+  where
+    go : (b : Bool) → length (take_while is_prefix xs) ≡ prefix_len is_prefix xs → length (take (cond b (1 + prefix_len is_prefix xs) 0) (x ∷ xs)) ≡ cond b (1 + prefix_len is_prefix xs) 0
+    go true e = let n : 1 + prefix_len is_prefix xs ≡ suc (prefix_len is_prefix xs) = omega arith in rw n (ap suc e)
+    go false e = refl
+
+pub run_of : (ms : List ℕ) (i : ℕ) → Run ms i (i + length (take_while is_prefix (drop i ms)))
+run_of ms i =
+    let xs = drop i ms in
+    rw (sized xs) (record {
+      upto = omega arith;
+      each = λ n a b. let e : i + (n - i) ≡ n = omega arith in ap (λ (k : ℕ). is_prefix (get_or ms k 99)) (sym e) ∙ ap is_prefix (sym (get_or-drop i ms (n - i) 99)) ∙ prefix-each (drop i ms) (n - i) (omega arith);
+      past = ap is_prefix (sym (get_or-drop i ms (prefix_len is_prefix (drop i ms)) 99)) ∙ prefix-past (drop i ms);
+    })
+
 -- a mark past the end is no prefix operator
 pub prefix_within : (ms : List ℕ) (n : ℕ) → is_prefix (get_or ms n 99) ≡ true → n < length ms
 prefix_within ms n e = go (dec_lt n (length ms))
@@ -31,22 +69,6 @@ prefix_within ms n e = go (dec_lt n (length ms))
     go : Dec (n < length ms) → n < length ms
     go (yes h) = h
     go (no h) = false_true (ap is_prefix (sym (get_or-eq_default ms 99 (omega arith))) ∙ e)
-
--- the prefix operators that were passed so far
-pub record Passed (ms : List ℕ) (i n : ℕ) : Type 0 where
-  pub upto : i ≤ n
-  pub each : (m : ℕ) → i ≤ m → m < n → is_prefix (get_or ms m 99) ≡ true
-
-pub none_passed : (ms : List ℕ) (i : ℕ) → Passed ms i i
-none_passed ms i = record { upto = omega arith; each = λ m a b. absurd (omega arith) }
-
-pub one_passed : (ms : List ℕ) (i n : ℕ) → is_prefix (get_or ms n 99) ≡ true → Passed ms i n → Passed ms i (n + 1)
-one_passed ms i n e p =
-    record { upto = omega (arith, p.upto); each = λ m a b. go m a b (ℕ_discrete m n) }
-  where
-    go : (m : ℕ) → i ≤ m → m < n + 1 → Dec (m ≡ n) → is_prefix (get_or ms m 99) ≡ true
-    go m a b (yes q) = rw q e
-    go m a b (no q) = p.each m a (omega arith)
 
 -- ---- the expression that follows the run, wrapped from the last operator to the first
 

@@ -74,7 +74,7 @@ fn first(marks: &[u8], codes: &mut [u16], at: usize, i: usize) -> Packed
     ensures { Tells marks.now (λ ks. prefix_of ks at) i codes.old codes.new result.0 }
 {
     let m = stream::kind(marks, at);
-    if mark::is_leaf(m) {
+    if stream::is_operand(m) {
         return part::leaf(codes, m, at, i);
     }
     prefix(marks, codes, at, i)
@@ -102,7 +102,7 @@ fn operand(marks: &[u8], codes: &mut [u16], at: usize, i: usize) -> Packed
         let inner = level(marks, codes, at + 1, 0, i);
         return part::group(marks, inner);
     }
-    if mark::CALLING <= m {
+    if stream::CALLING <= m {
         return arguments(marks, codes, at, i);
     }
     part::leaf(codes, m, at, i)

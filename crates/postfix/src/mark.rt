@@ -1,16 +1,12 @@
 // What the parser asks of a single mark.
-ghost use Rattle.std.specs.Prelude.{◌≡◌, ◌≤◌, length, get_or};
+ghost use Rattle.std.specs.Prelude.{◌≡◌, ◌≤◌, length, get_or, take_while};
 ghost use Rattle.lexer.specs.Kind.{ending};
-ghost use Rattle.grammar.specs.Grammar.{rank as rank_of};
-ghost use Rattle.grammar.specs.Marks.{is_operand};
+ghost use Rattle.grammar.specs.Grammar.{rank as rank_of, is_prefix};
 ghost use Rattle.postfix.specs.Packed.{mark_after, mark_before, function_in, alone_in};
 ghost use Rattle.postfix.specs.Answer.{Run};
 
 use crate::packed::Packed;
 use grammar::stream;
-
-// Added to the op of a called function.
-pub const CALLING: u8 = 128;
 
 // The mark after an expression, `END` if it is broken.
 pub fn after(marks: &[u8], x: Packed) -> u8
@@ -36,8 +32,7 @@ pub fn before(marks: &[u8], x: Packed) -> u8
 pub fn function(marks: &[u8], i: usize) -> u8
     ensures { result ≡ function_in (get_or marks.now i ending) }
 {
-    let m = stream::kind(marks, i);
-    m.saturating_sub(CALLING)
+    stream::called(stream::kind(marks, i))
 }
 
 // The level of a binary operator, 11 for any other mark. Listed, since an array would be laid out in the frames of the recursion.
@@ -69,30 +64,26 @@ pub fn rank(m: u8) -> u8
     }
 }
 
-// Whether it is a literal, or a name that is not called.
-pub fn is_leaf(m: u8) -> bool
-    ensures { result ≡ is_operand m }
-{
-    (lexer::INT32 <= m) & (m <= lexer::NAME)
-}
-
 // Whether such a token stands at `at` with no operator of the level l or a tighter one after it.
 pub fn alone(marks: &[u8], at: usize, l: u8) -> bool
     requires { at ≤ 4096 }
     ensures { result ≡ alone_in marks.now at l }
 {
     let r = rank(stream::kind(marks, at + 1));
-    is_leaf(stream::kind(marks, at)) & ((r < l) | (11 <= r))
+    stream::is_operand(stream::kind(marks, at)) & ((r < l) | (11 <= r))
+}
+
+// How many prefix operators stand first.
+fn prefixes(marks: &[u8]) -> usize
+    ensures { (result ≡ length (take_while is_prefix marks.now)) × (result ≤ length marks.now) }
+{
+    marks.iter().take_while(|m| stream::is_prefix(**m)).count()
 }
 
 // The first token from `i` on that is no prefix operator.
 pub fn past_prefixes(marks: &[u8], i: usize) -> usize
-    requires { length marks.now ≤ 4096 }
+    requires { (length marks.now ≤ 4096) × (i ≤ length marks.now) }
     ensures { Run marks.now i result }
 {
-    let mut n = i;
-    while stream::is_prefix(stream::kind(marks, n)) {
-        n += 1;
-    }
-    n
+    i + prefixes(&marks[i..])
 }

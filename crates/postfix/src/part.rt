@@ -172,7 +172,7 @@ pub fn leaf(codes: &mut [u16], k: u8, at: usize, i: usize) -> Packed
     requires { (at < 65536) × (i < 65536) }
     ensures { (result.0 ≡ leaf_part k at i) × (codes.new ≡ leaf_codes k i codes.old) }
 {
-    if !mark::is_leaf(k) {
+    if !stream::is_operand(k) {
         return Packed::broken_at(at);
     }
     leave(codes, i, code_of(k, 0));

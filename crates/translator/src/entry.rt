@@ -35,8 +35,7 @@ pub fn put(out: &mut [u8], i: usize, e: Entry)
 pub fn pushes(c: u16) -> bool
     ensures { result ≡ pushesOf c }
 {
-    let op = (c % 64) as u8;
-    (opcode::INT32 <= op) & (op <= opcode::NAME)
+    stream::is_operand((c % 64) as u8)
 }
 
 // The entry of an operator, a call or a skip, which its code has whole.

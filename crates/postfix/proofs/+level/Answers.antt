@@ -102,13 +102,13 @@ arguments-loop-codes-preserved t c =
 pub first-leaf-requires : goal.first-leaf-requires
 first-leaf-requires t c = let r = c.requires in (omega (arith, r.within, r.few), omega (arith, r.room, r.within, r.few))
 
-pub first-returns-then-is_leaf : goal.first-returns-then-is_leaf
-first-returns-then-is_leaf t c =
-    λ ks m. leaf_first m c.args.at c.kind-m.ensures (sym c.is_leaf.ensures ∙ c.if-is_leaf.true) c.leaf.ensures.0 c.leaf.ensures.1
+pub first-returns-then-is_operand : goal.first-returns-then-is_operand
+first-returns-then-is_operand t c =
+    λ ks m. leaf_first m c.args.at c.kind-m.ensures (sym c.is_operand.ensures ∙ c.if-is_operand.true) c.leaf.ensures.0 c.leaf.ensures.1
 
-pub first-shape_of-codes-then-is_leaf : goal.first-shape_of-codes-then-is_leaf
-first-shape_of-codes-then-is_leaf t c =
-    let r = c.requires in kept (prefix_of r.tokens c.args.at) (first-returns-then-is_leaf t c r.tokens r.marked)
+pub first-shape_of-codes-then-is_operand : goal.first-shape_of-codes-then-is_operand
+first-shape_of-codes-then-is_operand t c =
+    let r = c.requires in kept (prefix_of r.tokens c.args.at) (first-returns-then-is_operand t c r.tokens r.marked)
 
 pub first-prefix-requires : goal.first-prefix-requires
 first-prefix-requires t c = (omega arith, c.requires)
@@ -262,7 +262,7 @@ pub operand-shape_of-codes : goal.operand-shape_of-codes
 operand-shape_of-codes t c = let r = c.requires in kept (operand_of r.tokens c.args.at) (operand-returns t c r.tokens r.marked)
 
 pub prefix-past_prefixes-first-requires : goal.prefix-past_prefixes-first-requires
-prefix-past_prefixes-first-requires t c = c.requires.few
+prefix-past_prefixes-first-requires t c = (c.requires.few, c.requires.within)
 
 pub prefix-operand-inner-requires : goal.prefix-operand-inner-requires
 prefix-operand-inner-requires t c =

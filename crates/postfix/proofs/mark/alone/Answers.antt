@@ -9,5 +9,5 @@ use Rattle.postfix.proofs.mark.alone.Goals as goal
 pub returns : goal.returns
 returns c =
     ap₂ (λ (o : Bool) (r : ℕ). o && (ltb r c.args.l || leb 11 r))
-    (c.is_leaf.ensures ∙ ap is_operand c.kind-2.ensures)
+    (c.is_operand.ensures ∙ ap is_operand c.kind-2.ensures)
     (c.rank-r.ensures.0 ∙ ap rank c.kind.ensures)

@@ -1,23 +1,18 @@
-use mathlib.Core.Path.{sym, ◌∙◌}
+use Prim.Native.Nat.{ℕ, ◌+◌, ◌-◌}
 use native.Mathlib.Omega.{arith}
-use Rattle.postfix.proofs.Prefixes.{prefix_within, none_passed, one_passed}
+use mathlib.Core.List.{List}
+use mathlib.Core.Path.{◌≡◌, sym, ap, subst, ◌∙◌}
+use lib.ListN.{length, take, drop, length-drop}
+use Rattle.std.proofs.lemmas.List.{take_all}
+use Rattle.std.specs.List.{take_while}
+use Rattle.grammar.specs.Grammar.{is_prefix}
+use Rattle.postfix.specs.Answer.{Run}
+use Rattle.postfix.proofs.Prefixes.{run_of}
 use Rattle.postfix.proofs.mark.past_prefixes.Goals as goal
-
-pub loop-n-init : goal.loop-n-init
-loop-n-init c = none_passed _ _
-
-pub overflow_add-n : goal.overflow_add-n
-overflow_add-n c =
-    omega (arith, prefix_within c.args.marks.now c.loop-n.n (sym (c.is_prefix.ensures ∙ rw c.kind.ensures) ∙ c.loop-n-test.true), c.requires)
-
-pub loop-n-smaller : goal.loop-n-smaller
-loop-n-smaller c =
-    omega (arith, prefix_within c.args.marks.now c.loop-n.n (sym (c.is_prefix.ensures ∙ rw c.kind.ensures) ∙ c.loop-n-test.true))
-
-pub loop-n-preserved : goal.loop-n-preserved
-loop-n-preserved c =
-    one_passed c.args.marks.now c.args.i c.loop-n.n (sym (c.is_prefix.ensures ∙ rw c.kind.ensures) ∙ c.loop-n-test.true) c.loop-n.invariant
 
 pub returns : goal.returns
 returns c =
-    record { upto = c.loop-n.invariant.upto; each = c.loop-n.invariant.each; past = sym (c.is_prefix.ensures ∙ rw c.kind.ensures) ∙ c.loop-n-test.false }
+    let a = c.args in
+    let xs = drop a.i a.marks.now in
+    let all : take (length a.marks.now - a.i) xs ≡ xs = take_all _ xs (omega (arith, length-drop a.i a.marks.now)) in
+    subst (λ (n : ℕ). Run a.marks.now a.i (a.i + n)) (sym (c.prefixes.ensures.0 ∙ ap (λ (l : List ℕ). length (take_while is_prefix l)) all)) (run_of a.marks.now a.i)
