@@ -19,7 +19,7 @@ mod symbol;
 use byte::{is_decimal, is_quote, is_space, starts_name};
 use digits::Numeral;
 use integer::{integer_digits, integer_fits, is_integer, is_long};
-use real::{fraction_digits, is_real, real_fits, whole_digits};
+use real::{Real, whole_digits};
 use refusal::Refusal;
 use run::{
     body, byte_at, common_end, copy_common, copy_plain, ended, has_escape, measure_name,
@@ -126,11 +126,11 @@ fn scan_odd_number(text: &[u8], at: usize) -> Scanned
 {
     let bytes = run(text, at, 0);
     let whole = whole_digits(bytes);
-    let all = fraction_digits(bytes, whole);
-    if !is_real(bytes, whole.end, all.end) {
+    let real = Real::new(bytes, whole);
+    if !real.is_real() {
         return scan_integer(bytes, whole);
     }
-    if real_fits(bytes, whole.end, all) {
+    if real.fits() {
         return Ok((REAL64, bytes.len()));
     }
     Err(Fault::Limit)
@@ -377,5 +377,6 @@ pub fn int_value(text: &[u8], at: usize) -> i64
 pub fn real_value(text: &[u8], at: usize) -> f64
     ensures { result ≡ real_at text.now at }
 {
-    real::real_value(run(text, at, 0))
+    let bytes = run(text, at, 0);
+    Real::new(bytes, whole_digits(bytes)).value()
 }
