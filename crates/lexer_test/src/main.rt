@@ -32,7 +32,11 @@ fn put_string(to: &mut impl Write, text: &[u8], at: usize) -> io::Result<()> {
 fn put_value(to: &mut impl Write, text: &[u8], at: usize, kind: u8) -> io::Result<()> {
     match kind {
         1 | 2 => write!(to, " {:016x}", lexer::int_value(text, at).cast_unsigned()),
-        3 => write!(to, " {:016x}", number::bits_of_real(lexer::real_value(text, at))),
+        3 => write!(
+            to,
+            " {:016x}",
+            number::bits_of_real(lexer::real_value(text, at))
+        ),
         4 => put_string(to, text, at),
         5 => put_name(to, text, at),
         _ => Ok(()),
