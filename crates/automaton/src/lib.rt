@@ -3,13 +3,13 @@
 
 ghost use Rattle.std.specs.Prelude.{◌≡◌, ◌==◌, position, unwrap_or, Bool, true, false, cond, ◌||◌, ◌&&◌, [], ◌+◌, ◌-◌, ◌*◌, ◌≤◌, ◌<◌, ltb, length, get_or, replicate, drop};
 ghost use Rattle.octets.specs.Octets.{fold, folded};
-ghost use Rattle.automaton.specs.Table.{repeats as repeatsOf, absent as absentOf, outside as outsideOf, sort as sortOf, hits as hitsOf, mark_by, level_by, tokens_of};
+ghost use Rattle.automaton.specs.Table.{repeats as repeatsOf, absent as absentOf, outside as outsideOf, sort as sortOf, held_of, hits as hitsOf, mark_by, level_by, tokens_of};
 ghost use Rattle.automaton.specs.Pass.{started as startedOf, passed as passedOf, barred as barredOf, closed as closedOf, pass, left, depth_by, up_of};
 ghost use Rattle.automaton.specs.Decide.{walk_on, run_on, decide};
 ghost use Rattle.automaton.specs.Word.{bit_if, cells_in, ended_in, single as singleOf, plain as plain_of, optional as optionalOf, small as smallOf, Leads, Low, Reaches};
 
 use octets::fold;
-use pattern::sets::set_test;
+use pattern::sets::{SetTest, set_test};
 
 // ---- a token: the byte of its kind, and a number
 
@@ -41,19 +41,31 @@ fn sort(k: u8) -> u8
     k / 8
 }
 
-// Whether the token takes a byte; the number says where its text stands. What is no set has no byte.
+// Whether a set that was read has the byte; what is no set has none.
+fn held(t: Option<SetTest>) -> bool
+    ensures { result ≡ held_of t }
+{
+    match t {
+        Some(set) => set.hit,
+        None => false,
+    }
+}
+
+// Whether the token takes a byte; the number says where its text stands.
 fn hits(text: &[u8], kind: u8, at: usize, c: u8) -> bool
     ensures { result ≡ hitsOf text.now kind at c }
 {
-    match sort(kind) {
-        0 => at < text.len() && text[at] == c,
-        1 => true,
-        2 => match set_test(text, false, at, c) {
-            Some(set) => set.hit != outside(kind),
-            None => outside(kind),
-        },
-        _ => false,
+    let s = sort(kind);
+    if 2 < s {
+        return false;
     }
+    if s == 0 {
+        return at < text.len() && text[at] == c;
+    }
+    if s == 1 {
+        return true;
+    }
+    held(set_test(text, false, at, c)) != outside(kind)
 }
 
 // The same where a way enters: elsewhere the set is not looked at.

@@ -81,17 +81,24 @@ fn allowed(text: &[u8], i: usize, room: usize, some: bool) -> Read
     }
 }
 
-// A byte that stands for itself.
+// A byte that stands for itself. By `|` and not as a pattern of bytes, which becomes a slower chain of tests in the loop over the pattern.
 fn is_plain(b: u8) -> bool
     ensures { result ≡ plain_byte b }
 {
-    !matches!(b, b'\\' | b'[' | b'(' | b')' | b'|' | b'.' | b'^' | b'$')
+    !((b == b'\\')
+        | (b == b'[')
+        | (b == b'(')
+        | (b == b')')
+        | (b == b'|')
+        | (b == b'.')
+        | (b == b'^')
+        | (b == b'$'))
 }
 
 fn is_repeat(b: u8) -> bool
     ensures { result ≡ repeat_byte b }
 {
-    matches!(b, b'*' | b'+' | b'?')
+    (b == b'*') | (b == b'+') | (b == b'?')
 }
 
 // Whether a byte stands at an index that stands for itself, or a repeat mark behind a piece: all that most words are.
