@@ -1,18 +1,16 @@
 -- The refusals of an opening, in their order, and what is promised of it. Assumes nothing.
-use mathlib.Core.Path.{◌≡◌, refl, sym, ap, ◌∙◌}
+use mathlib.Core.Path.{◌≡◌, refl}
 use mathlib.Core.Bool.{Bool, true, false}
 use mathlib.Core.List.{List}
 use Prim.Native.Nat.{ℕ, ◌+◌, ◌≤◌, ◌<◌}
 use native.Mathlib.Omega.{arith}
 use native.Mathlib.Decide.{dec_le}
-use lib.Dec.{eqb}
 use lib.ListN.{length}
-use borrow.Author.Tests.{le-leb, lt-leb, ne_eqb}
+use borrow.Author.Tests.{le-leb, lt-leb}
 use Rattle.table.specs.Table.{most_bytes}
 use Rattle.table.specs.Check.{check_of as tableCheck}
 use Rattle.table.proofs.Theorems.{checked_short}
-use Rattle.quorum.specs.Decision.{opened_with}
-use Rattle.quorum.specs.Showing.{nothing_yet, open_refusal, Opens}
+use Rattle.quorum.specs.Showing.{open_refusal}
 
 module _ (room : ℕ) (table : List ℕ) (needed : ℕ) where
   pub bad_table : tableCheck table ≡ false → 12 ≡ open_refusal room table needed
@@ -52,14 +50,3 @@ openable room table needed e = go (tableCheck table) (dec_le 1 needed) (dec_le n
     go true (yes b) (no c) d p = never (too_many room table needed p b (omega arith)) (omega arith)
     go true (yes b) (yes c) (no d) p = never (no_room room table needed p b c (omega arith)) (omega arith)
     go true (yes b) (yes c) (yes d) p = record { checked = p; some_needed = b; few_needed = c; fits = d; short = checked_short table p }
-
-module _ (s table : List ℕ) (needed : ℕ) (number : ℕ) (e : number ≡ open_refusal (length s) table needed) where
-  pub open_refused : (number ≡ 0 → ⊥) → Opens s table needed s (nothing_yet number)
-  open_refused h =
-      let z : eqb (open_refusal (length s) table needed) 0 ≡ false = ne_eqb (open_refusal (length s) table needed) 0 (λ x. h (e ∙ x)) in
-      record { answer = ap nothing_yet e; bytes = rw z }
-
-  pub open_done : number ≡ 0 → Opens s table needed (opened_with s table needed) (nothing_yet 0)
-  open_done h =
-      let z : open_refusal (length s) table needed ≡ 0 = sym e ∙ h in
-      record { answer = rw z; bytes = rw z }

@@ -4,7 +4,7 @@ use mathlib.Core.Path.{◌≡◌, refl, sym, ap, subst, ◌∙◌}
 use mathlib.Core.Bool.{Bool, true, false, ◌&&◌}
 use mathlib.Core.List.{List, [], ◌∷◌}
 use mathlib.Core.Option.{Option, some, none}
-use Prim.Native.Nat.{ℕ, ◌+◌, ◌-◌, ◌≤◌}
+use Prim.Native.Nat.{ℕ, ◌+◌, ◌-◌, ◌≤◌, ◌<◌}
 use native.Mathlib.Omega.{arith}
 use lib.Dec.{eqb, leb}
 use lib.ListN.{length, take, drop, length-drop}
@@ -57,6 +57,14 @@ module _ (s : List ℕ) where
     staff_found t =
         let z : start + len - start ≡ len = omega arith in
         rw z (sym (ap (λ (b : Bool). pick b (λ _. take len (drop start s)) (λ _. [])) t) ∙ is)
+
+    pub staff_long : (eqb kind 4 && (leb 1 len && leb len 64)) ≡ true → 0 < length (take (start + len - start) (drop start s))
+    staff_long t =
+        let z : start + len - start ≡ len = omega arith in
+        let h = staff_lies in
+        let l : length (take len (drop start s)) ≡ len = length-take-le len (drop start s) (simp length-drop (omega arith)) in
+        let a = leb-true 1 len (and_parts (leb 1 len) (leb len 64) (and_parts (eqb kind 4) _ t).1).0 in
+        rw z (omega (arith, l, a))
 
     pub staff_wrong : (eqb kind 4 && (leb 1 len && leb len 64)) ≡ false → [] ≡ staff_of s
     staff_wrong t = sym (ap (λ (b : Bool). pick b (λ _. take len (drop start s)) (λ _. [])) t) ∙ is

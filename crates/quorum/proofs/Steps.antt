@@ -10,18 +10,14 @@ use lib.ListN.{length, get_or, length-append}
 use borrow.Author.Tests.{lt-ltb, le-ltb, le-leb, lt-leb, ne_eqb, eq-eqb}
 use Rattle.common.proofs.Choice.{true_false}
 use Rattle.truth.specs.Truth.{is_true}
-use Rattle.refusal.specs.declared.Refusal.{Refusal}
 use Rattle.notice.specs.Layout.{Layout}
 use Rattle.notice.proofs.Faults.{fault_number}
 use Rattle.notice.specs.Layout.{check_of as noticeCheck}
 use Rattle.table.specs.Check.{check_of as tableCheck}
 use Rattle.interpreter.specs.Running.{RunAnswer, running_of}
 use Rattle.interpreter.proofs.Answers.{notice_refused, neither_refused}
-use Rattle.quorum.specs.declared.Turn.{Turn}
-use Rattle.quorum.specs.declared.Turn.TheVariants.{Keep, Add, Refuse}
-use Rattle.quorum.specs.declared.Shown.{Shown}
 use Rattle.quorum.specs.Decision.{has, needed_of, count_of, values_of, table_of, kept, holds_of}
-use Rattle.quorum.specs.Showing.{staff_of, turn_of, shown_as, answer_by, bytes_by, Shows}
+use Rattle.quorum.specs.Showing.{Turn, Keep, Add, Refuse, Shown, staff_of, turn_of, shown_as, answer_by, bytes_by, Shows}
 use Rattle.quorum.specs.Theorems.{Event, Follows, counts, staffs_of, brought, staff_values}
 use Rattle.quorum.proofs.Counting.{collect, collect_append}
 use Rattle.quorum.proofs.Reading.{Holding, holds, length_values}

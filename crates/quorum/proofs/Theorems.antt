@@ -12,11 +12,8 @@ use borrow.Author.Tests.{ltb-false, ne_eqb}
 use Rattle.common.specs.Choice.{pick}
 use Rattle.common.proofs.Choice.{true_false}
 use Rattle.octets.proofs.Theorems.{and_parts, same_refl}
-use Rattle.quorum.specs.declared.Turn.{Turn}
-use Rattle.quorum.specs.declared.Turn.TheVariants.{Keep, Add, Refuse}
-use Rattle.quorum.specs.declared.Shown.{Shown}
 use Rattle.quorum.specs.Decision.{has, count_of, values_of, kept, holds_of, head_bytes, opened_with}
-use Rattle.quorum.specs.Showing.{staff_of, turn_of, adds, bytes_by, open_refusal, Opens, Shows}
+use Rattle.quorum.specs.Showing.{Turn, Keep, Add, Refuse, Shown, staff_of, turn_of, adds, bytes_by, open_refusal, Opens, Shows}
 use Rattle.quorum.specs.Theorems.{Event, Follows, History, counts, staffs_of, brought, staff_values, how_many, Counted, Reached, CountedOnce, NeverTwenty, ShownAgain, NeverTwelve, AtMostEight, RefusedStays, RefusedMakesNone, ShownPast, OpenedPast, OpenedKeeps}
 use Rattle.quorum.proofs.Counting.{neither, has_append, collect, collect_append, has_collect, collect_number, collect_full}
 use Rattle.quorum.proofs.Reading.{holding, holds, length_values}

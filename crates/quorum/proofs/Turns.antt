@@ -1,5 +1,4 @@
 -- What a notice is to a decision, case by case, and what is answered. Assumes nothing.
-use Rattle.std.specs.Prelude.{Ok}
 use mathlib.Core.Path.{◌≡◌, refl, sym, ap, subst, ◌∙◌}
 use mathlib.Core.Bool.{Bool, true, false, cond}
 use mathlib.Core.List.{List, ◌∷◌}
@@ -12,14 +11,9 @@ use borrow.Author.Tests.{lt-ltb, le-ltb, eq-eqb, ne_eqb}
 use Rattle.common.specs.Choice.{pick}
 use Rattle.common.proofs.Choice.{true_false}
 use Rattle.truth.specs.Truth.{is_true}
-use Rattle.notice.specs.Layout.{check_of as noticeCheck}
 use Rattle.interpreter.specs.Running.{RunAnswer, running_of}
-use Rattle.interpreter.proofs.Answers.{ran_well}
-use Rattle.quorum.specs.declared.Turn.{Turn}
-use Rattle.quorum.specs.declared.Turn.TheVariants.{Keep, Add, Refuse}
-use Rattle.quorum.specs.declared.Shown.{Shown}
 use Rattle.quorum.specs.Decision.{Decision, has, table_of, needed_of, count_of, kept, holds_of, added_to}
-use Rattle.quorum.specs.Showing.{nothing_yet, staff_of, staff_turn, turn_by, turn_of, answer_by, adds, bytes_by, show_of, shown_bytes, Shows, Gives}
+use Rattle.quorum.specs.Showing.{Turn, Keep, Add, Refuse, Shown, nothing_yet, staff_of, staff_turn, turn_by, turn_of, answer_by, adds, bytes_by, show_of, shown_bytes, Shows, Gives}
 use Rattle.quorum.proofs.Reading.{length_values}
 
 -- ---- a notice whose verdict is true, by its Staff
@@ -128,9 +122,6 @@ module _ (s notice : List ℕ) where
     module _ (t : Turn) (e : t ≡ turn_of (kept s) notice) where
       added : adds t ≡ true → Delivered (kept s) notice × (length (kept s).values < 8)
       added a = adding (kept s) notice (turn_of (kept s) notice) (told (kept s) notice) (rw e at a)
-
-      pub added-well : adds t ≡ true → noticeCheck notice ≡ Ok tt
-      added-well a = ran_well (kept s).table notice (added a).0.accepted
 
       pub free-place : adds t ≡ true → count_of s < 8
       free-place a = omega (arith, (added a).1, length_values s 0 (count_of s))

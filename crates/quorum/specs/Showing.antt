@@ -1,7 +1,9 @@
 -- What opening and showing answer, and every byte of the buffer afterwards. Document 02, request 3.
-use Rattle.std.specs.Prelude.{ℕ, ◌+◌, ◌≡◌, Bool, true, false, cond, ◌&&◌, List, [], ◌∷◌, eqb, leb, ltb, length, Ok}
+use Rattle.std.specs.Prelude.{Option as Optional, Some, None, Result, Ok, Err, ℕ, ◌+◌, ◌≡◌, Bool, true, false, cond, ◌&&◌, List, [], ◌∷◌, eqb, leb, ltb, length}
 use Rattle.std.proofs.Math.Option.{Option, some, none}
 use Rattle.common.specs.Choice.{pick}
+use Rattle.refusal.specs.declared.Refusal.{Refusal}
+use Rattle.refusal.specs.Refusal.{number_of, place_of}
 use Rattle.truth.specs.Truth.{is_true}
 use Rattle.notice.specs.Field.{Field}
 use Rattle.notice.specs.Layout.{unless, check_of as noticeCheck, fields_of, Indexed}
@@ -9,12 +11,31 @@ use Rattle.notice.specs.Lookup.{field_named}
 use Rattle.table.specs.Check.{check_of as tableCheck, refusal_of}
 use Rattle.interpreter.specs.Undecided.{no_entry}
 use Rattle.interpreter.specs.Running.{RunAnswer, running_of}
-use Rattle.quorum.specs.declared.Turn.{Turn}
-use Rattle.quorum.specs.declared.Turn.TheVariants.{Keep, Add, Refuse}
-use Rattle.quorum.specs.declared.Shown.{Shown}
+use Rattle.quorum.specs.declared.Turn.{Turn as CodeTurn}
+use Rattle.quorum.specs.declared.Turn.TheVariants.{Left, Added, Refused}
+use Rattle.quorum.specs.declared.Shown.{Shown as CodeShown}
 use Rattle.quorum.specs.Decision.{Decision, has, decision_of, opened_with, added_to}
 
 -- ---- what is answered
+
+-- the number of the refusal, 0 for none, the run's place, the count, whether it has reached the needed number, and the first undecided entry
+pub record Shown : Type 0 where
+  pub number : ℕ
+  pub place : ℕ
+  pub count : ℕ
+  pub reached : Bool
+  pub undecided : ℕ
+
+abbrev pub refused_number : Optional Refusal → ℕ
+refused_number None = 0
+refused_number (Some r) = number_of r
+
+abbrev pub refused_place : Optional Refusal → ℕ
+refused_place None = 0
+refused_place (Some r) = place_of r
+
+abbrev pub shown : CodeShown → Shown
+shown a = record { number = refused_number a.refusal; place = refused_place a.refusal; count = a.count; reached = a.reached; undecided = a.undecided }
 
 -- "The answer is the count and whether it has reached the needed number."; document 02, request 7: the run's first undecided entry, which "the quorum counter passes on"
 abbrev pub shown_as : ℕ → ℕ → ℕ → ℕ → ℕ → Shown
@@ -25,6 +46,15 @@ abbrev pub nothing_yet : ℕ → Shown
 nothing_yet number = record { number = number; place = 0; count = 0; reached = false; undecided = no_entry }
 
 -- ---- opening
+
+-- the number and the place of a refusal; 0 for none
+abbrev pub ended : Result (Unit {0}) Refusal → ℕ
+ended (Ok done) = 0
+ended (Err r) = number_of r
+
+abbrev pub placed : Result (Unit {0}) Refusal → ℕ
+placed (Ok done) = 0
+placed (Err r) = place_of r
 
 -- "Refusals: at opening 12, then 21 for a needed number outside 1..8"; then 9 for a buffer too short, on which document 02 is silent; 0 for none
 abbrev pub open_refusal : ℕ → List ℕ → ℕ → ℕ
@@ -74,6 +104,23 @@ abbrev pub staff_of : List ℕ → List ℕ
 staff_of notice = staff_in (staff_field notice)
 
 -- ---- what a notice is to a decision
+
+-- it leaves it as it stood, adds its Staff, or is refused by a number with a place
+pub data Turn : Type 0 where
+  Keep : Turn
+  Add : Turn
+  Refuse : ℕ → ℕ → Turn
+
+abbrev pub turned : CodeTurn → Turn
+turned Left = Keep
+turned (Added v) = Add
+turned (Refused r) = Refuse (number_of r) (place_of r)
+
+-- what is added is this value
+abbrev pub Brings : CodeTurn → List ℕ → Type 0
+Brings Left v = Unit {0}
+Brings (Added x) v = x.now ≡ v
+Brings (Refused r) v = Unit {0}
 
 -- a notice whose verdict is true, with its Staff: 19 if there is none that is right; "counted unless those bytes were counted before in this decision"; "then 20 for a ninth person"
 abbrev pub staff_turn : List ℕ → List (List ℕ) → Turn

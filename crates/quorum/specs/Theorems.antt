@@ -5,9 +5,8 @@ use Rattle.common.specs.Choice.{pick}
 use Rattle.truth.specs.Truth.{is_true}
 use Rattle.notice.specs.Field.{Field}
 use Rattle.interpreter.specs.Running.{running_of}
-use Rattle.quorum.specs.declared.Shown.{Shown}
 use Rattle.quorum.specs.Decision.{has, different, decision_of}
-use Rattle.quorum.specs.Showing.{staff_field, Opens, Shows}
+use Rattle.quorum.specs.Showing.{Shown, staff_field, Opens, Shows}
 
 -- ---- the history: the notices that were shown, and what was answered
 

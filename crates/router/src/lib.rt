@@ -13,13 +13,14 @@ ghost use Rattle.notice.specs.Read.{Located};
 ghost use Rattle.notice.specs.Search.{find_of};
 ghost use Rattle.notice.specs.Write.{field, written_of, written_bytes};
 ghost use Rattle.interpreter.specs.Running.{running_of};
-ghost use Rattle.quorum.specs.Showing.{open_of, opened_bytes, show_of, shown_bytes, Gives};
+ghost use Rattle.quorum.specs.Showing.{refused_number, refused_place, open_of, opened_bytes, show_of, shown_bytes, Gives};
 ghost use Rattle.many.specs.Many.{many_of, many_bytes};
 ghost use Rattle.many.specs.Held.{match_of, matched_bytes};
 ghost use Rattle.ubf.specs.Answer.{read_answer, read_bytes, write_answer, write_bytes};
 ghost use Rattle.mend.specs.Mend.{mended_of, list_after, notice_after};
 ghost use Rattle.store.specs.Calls.{make_refusal, made_bytes, added_of, added_bytes, held_refusal, removed_bytes, part_of};
 
+use refusal::Refusal;
 use truth::Truth;
 
 pub mod matching;
@@ -223,6 +224,16 @@ pub fn virentolex_write(
     }
 }
 
+// The number and the place of a refusal, 0 if there is none.
+fn refused(refusal: Option<Refusal>) -> (u8, usize)
+    ensures { (result.0 ≡ refused_number refusal) × (result.1 ≡ refused_place refusal) }
+{
+    match refusal {
+        Some(r) => (r.number(), r.place()),
+        None => (0, 0),
+    }
+}
+
 // Reached is 1, and 0 if not.
 fn flag(b: bool) -> u8
     ensures { result ≡ cond b 1 0 }
@@ -244,11 +255,12 @@ pub fn virentolex_quorum_open(
     ensures decision_after { decision.new ≡ opened_bytes decision.old table.now needed }
 {
     let a = quorum::open(decision, table, needed);
-    *place = a.place;
+    let (number, at) = refused(a.refusal);
+    *place = at;
     *count = a.count;
     *reached = flag(a.reached);
     *undecided = a.undecided;
-    a.number
+    number
 }
 
 // "The answer is the count and whether it has reached the needed number.", and the run's first undecided entry, which the counter "passes .. on". A refusal changes no byte.
@@ -264,11 +276,12 @@ pub fn virentolex_quorum_show(
     ensures decision_after { decision.new ≡ shown_bytes decision.old notice.now }
 {
     let a = quorum::show(decision, notice);
-    *place = a.place;
+    let (number, at) = refused(a.refusal);
+    *place = at;
     *count = a.count;
     *reached = flag(a.reached);
     *undecided = a.undecided;
-    a.number
+    number
 }
 
 // "reading into our notice, with fields put in name order": the notice that a UBF(A) text says, at the buffer's start. A refusal changes no byte.

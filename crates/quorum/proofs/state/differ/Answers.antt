@@ -13,9 +13,6 @@ loop-i-init c =
     let e : c.args.n - 0 ≡ c.args.n = omega arith in
     (omega arith, rw e)
 
-pub overflow_add-i : goal.overflow_add-i
-overflow_add-i c = omega (arith, c.loop-i.invariant.0, c.requires.few)
-
 pub value-requires : goal.value-requires
 value-requires c =
     let z = size_at_lem c.args.buffer.now c.requires c.loop-i.i (omega arith) in

@@ -6,6 +6,3 @@ use Rattle.quorum.proofs.state.has.Given as goal
 
 abbrev pub invariant-loop-i : goal.invariant-loop-i
 invariant-loop-i l = (l.from ≤ l.i) × (l.i ≤ l.n) × (has l.v (values_from l.buffer l.i (l.n - l.i)) ≡ has l.v (values_from l.buffer l.from (l.n - l.from)))
-
-abbrev pub decreases-loop-i : goal.decreases-loop-i
-decreases-loop-i l = l.n - l.i

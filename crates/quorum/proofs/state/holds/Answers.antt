@@ -5,7 +5,6 @@ use native.Mathlib.Omega.{arith}
 use lib.ListN.{take, drop}
 use Rattle.quorum.proofs.Reading.{head_is, no_head, no_sizes, not_apart, by_table}
 use Rattle.table.specs.Check.{check_of as tableCheck}
-use borrow.Author.Rules.{rules}
 use Rattle.quorum.proofs.state.holds.Goals as goal
 
 pub bounds-buffer-7 : goal.bounds-buffer-7

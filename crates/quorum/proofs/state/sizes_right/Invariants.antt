@@ -6,6 +6,3 @@ use Rattle.quorum.proofs.state.sizes_right.Given as goal
 
 abbrev pub invariant-loop-i : goal.invariant-loop-i
 invariant-loop-i l = (l.i ≤ l.n) × (sizes_right l.buffer l.i (l.n - l.i) ≡ sizes_right l.buffer 0 l.n)
-
-abbrev pub decreases-loop-i : goal.decreases-loop-i
-decreases-loop-i l = l.n - l.i

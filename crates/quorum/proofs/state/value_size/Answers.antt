@@ -1,7 +1,6 @@
 -- `state::value_size` meets its contract: the length byte lies in the buffer. Assumes nothing.
 use Prim.Native.Nat.{◌+◌, ◌*◌}
 use native.Mathlib.Omega.{arith}
-use borrow.Author.Rules.{rules}
 use Rattle.quorum.proofs.state.value_size.Goals as goal
 
 pub overflow_cast-result : goal.overflow_cast-result
