@@ -121,6 +121,7 @@ fn scan_integer(bytes: &[u8], whole: Numeral) -> Scanned
 }
 
 // The digits of a number are read once, but those of an octal or hex integer, which are read as decimal ones too.
+#[inline(never)]
 fn scan_odd_number(text: &[u8], at: usize) -> Scanned
     ensures { scanned result ≡ scanned_of (scan_number (drop at text.now)) }
 {
@@ -153,7 +154,7 @@ fn plain_real(text: &[u8], at: usize, whole: Numeral) -> Option<usize>
     None
 }
 
-// Decimal digits alone whose value fits, without a leading zero, are an int32, and an int64 with its suffix; else, and where they are no plain real, all forms are tried, which is called for at two places and so not laid in line.
+// Decimal digits alone whose value fits, without a leading zero, are an int32, and an int64 with its suffix; else, and where they are no plain real, all forms are tried, in a call of its own. Its answer is unwrapped, so that it does not stay in memory.
 fn scan_number(text: &[u8], at: usize) -> Scanned
     requires { (length text.now ≤ 4096) × (at < length text.now) }
     ensures { scanned result ≡ scanned_of (scan_number (drop at text.now)) }
@@ -176,7 +177,6 @@ fn scan_number(text: &[u8], at: usize) -> Scanned
         if let Some(length) = plain_real(text, at, d) {
             return Ok((REAL64, length));
         }
-        return Ok(scan_odd_number(text, at)?);
     }
     Ok(scan_odd_number(text, at)?)
 }
