@@ -1,3 +1,4 @@
 pub mod Mend
+pub mod Fate
 pub mod Order
 pub mod Theorems

@@ -7,8 +7,9 @@ use Rattle.notice.specs.Layout.{name_at, field_at, right_at}
 use Rattle.notice.specs.Write.{insert_field, sorted, place_among}
 use Rattle.refusal.specs.declared.Refusal.{Refusal}
 use Rattle.refusal.specs.declared.Refusal.TheVariants.{Room}
-use Rattle.mend.specs.declared.walking.Judged.{Judged}
+use Rattle.mend.specs.declared.fate.Fate.{Fate}
 use Rattle.mend.specs.declared.walking.Tally.{Tally}
+use Rattle.mend.specs.Fate.{FateIs}
 use Rattle.mend.specs.Mend.{Entry, stays, code_at, list_of, kept_of}
 
 -- the fields that start at the first n places
@@ -35,9 +36,8 @@ abbrev pub Roomy : List ℕ → List ℕ → Type 0
 Roomy s codes = length s ≤ 8 + 2 * length codes
 
 -- what the field at `at` is, and its name's place if it stays
-pub record Judges (s order : List ℕ) (n at : ℕ) (j : Judged) : Type 0 where
-  pub code_is : j.code ≡ code_at s (fields_in s order n) at
-  pub place_is : stays j.code ≡ true → j.place ≡ place_among (name_at s at) (fields_in s order n)
+abbrev pub Judges : List ℕ → List ℕ → ℕ → ℕ → Fate → Type 0
+Judges s order n at f = FateIs f (code_at s (fields_in s order n) at) (place_among (name_at s at) (fields_in s order n))
 
 -- .. and the places with it
 pub record Admits (s order : List ℕ) (n at : ℕ) (after : List ℕ) (code : ℕ) : Type 0 where

@@ -4,8 +4,10 @@ ghost use Rattle.std.proofs.lemmas.List.Edits.{sets};
 ghost use Rattle.notice.specs.Layout.{name_at, right_at};
 ghost use Rattle.notice.specs.Write.{has_name, place_among};
 ghost use Rattle.mend.specs.Mend.{code_among};
+ghost use Rattle.mend.specs.Fate.{FateIs};
 ghost use Rattle.mend.specs.Order.{fields_in, InOrder};
 
+use crate::fate::Fate;
 use crate::fields::{name_before, same_name};
 
 // Whether a right field is kept and not moved: its name is after all others. Names that rise in the bytes as well take this comparison alone.
@@ -49,14 +51,17 @@ fn repeated(bytes: &[u8], order: &[u16; 65], n: usize, place: usize, at: usize) 
 }
 
 // A right field whose name has this place: repeated, moved or kept. A greater name was kept if the place is not the last.
-pub(crate) fn among(bytes: &[u8], order: &[u16; 65], n: usize, place: usize, at: usize) -> u8
+pub(crate) fn among(bytes: &[u8], order: &[u16; 65], n: usize, place: usize, at: usize) -> Fate
     requires { (right_at bytes.now at ≡ true) × InOrder bytes.now order.now n × (place ≡ place_among (name_at bytes.now at) (fields_in bytes.now order.now n)) }
-    ensures { result ≡ code_among (fields_in bytes.now order.now n) (name_at bytes.now at) }
+    ensures { FateIs result (code_among (fields_in bytes.now order.now n) (name_at bytes.now at)) place }
 {
     if repeated(bytes, order, n, place, at) {
-        return 2;
+        return Fate::Repeated;
     }
-    if place < n { 1 } else { 0 }
+    if place < n {
+        return Fate::Moved(place);
+    }
+    Fate::Kept(place)
 }
 
 // One more among the first n: the places from its own on move up by one.

@@ -4,18 +4,13 @@ ghost use Rattle.std.proofs.lemmas.List.Edits.{sets};
 ghost use Rattle.word.specs.Word.{word_bytes};
 ghost use Rattle.notice.specs.Layout.{next_at};
 ghost use Rattle.mend.specs.Mend.{stays, list_of, list_bytes, onto};
+ghost use Rattle.mend.specs.Fate.{code_of};
 ghost use Rattle.mend.specs.Order.{codes_of, InOrder, Sized, Roomy, Judges, Admits, SurveyIs};
 
+use crate::fate::Fate;
 use crate::fields::{next, right};
 use crate::ordering::{among, comes_last, place_for, put_in};
 use refusal::Refusal;
-
-// What a field is, and its name's place among those kept if it stays.
-#[derive(Drop)]
-struct Judged {
-    pub code: u8,
-    pub place: usize,
-}
 
 // What the first pass finds: how many fields are kept, the notice's length, and how many fields are listed.
 #[derive(Clone, Copy)]
@@ -26,42 +21,40 @@ pub(crate) struct Tally {
 }
 
 // The field from `at` to `end`: kept, moved, repeated, bad or cut.
-fn judge(bytes: &[u8], order: &[u16; 65], n: usize, at: usize, end: usize) -> Judged
+fn judge(bytes: &[u8], order: &[u16; 65], n: usize, at: usize, end: usize) -> Fate
     requires { (at < length bytes.now) × (end ≡ next_at bytes.now at) × InOrder bytes.now order.now n }
     ensures { Judges bytes.now order.now n at result }
 {
     if bytes.len() < end {
-        return Judged { code: 4, place: 0 };
+        return Fate::Cut;
     }
     if !right(bytes, at, end) {
-        return Judged { code: 3, place: 0 };
+        return Fate::Bad;
     }
     if comes_last(bytes, order, n, at) {
-        return Judged { code: 0, place: n };
+        return Fate::Kept(n);
     }
-    let place = place_for(bytes, order, n, at);
-    let code = among(bytes, order, n, place, at);
-    Judged { code, place }
+    among(bytes, order, n, place_for(bytes, order, n, at), at)
 }
 
 // The same, and its place among those kept if it stays.
-fn admit(bytes: &[u8], order: &mut [u16; 65], n: usize, at: usize, end: usize) -> u8
+fn admit(bytes: &[u8], order: &mut [u16; 65], n: usize, at: usize, end: usize) -> Fate
     requires { (at < length bytes.now) × Sized bytes.now × (end ≡ next_at bytes.now at) × (n < 65) × InOrder bytes.now order.old n }
-    ensures { Admits bytes.now order.old n at order.new result }
+    ensures { Admits bytes.now order.old n at order.new (code_of result) }
 {
-    let j = judge(bytes, order, n, at, end);
-    if 1 < j.code {
-        return j.code;
-    }
-    put_in(order, n, j.place, at);
-    j.code
+    let fate = judge(bytes, order, n, at, end);
+    let Some(place) = fate.place() else {
+        return fate;
+    };
+    put_in(order, n, place, at);
+    fate
 }
 
 // n if the field stays, and none if not.
-fn gain(code: u8, n: usize) -> usize
-    ensures { result ≡ cond (stays code) n 0 }
+fn gain(fate: Fate, n: usize) -> usize
+    ensures { result ≡ cond (stays (code_of fate)) n 0 }
 {
-    if code <= 1 { n } else { 0 }
+    if fate.place().is_some() { n } else { 0 }
 }
 
 // Whether the first pass goes on: bytes are left, and fewer than 65 fields are kept. "The header's words are not believed."
@@ -87,10 +80,10 @@ pub(crate) fn survey(
     let mut count = 0;
     while goes_on(bytes, at, kept) {
         let end = next(bytes, at);
-        let code = admit(bytes, order, kept, at, end);
-        codes[count] = code;
-        kept += gain(code, 1);
-        size += gain(code, end - at);
+        let fate = admit(bytes, order, kept, at, end);
+        codes[count] = u8::from(fate);
+        kept += gain(fate, 1);
+        size += gain(fate, end - at);
         at = end;
         count += 1;
     }

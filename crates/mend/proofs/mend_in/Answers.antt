@@ -1,6 +1,6 @@
 -- `mend_in` meets its contract: the refusals in their order, and both buffers. Assumes nothing.
 use native.Mathlib.Omega.{arith}
-use Rattle.mend.proofs.Answers.{too_many, count_fits, no_room, can-list, can_write, mended}
+use Rattle.mend.proofs.Answers.{count_fits}
 use Rattle.mend.proofs.mend_in.Goals as goal
 
 pub overflow_mul-t : goal.overflow_mul-t
