@@ -14,8 +14,8 @@ mod reading;
 mod search;
 mod writing;
 
-pub use field::{field_size, name_at, name_size, next_at, size_right, stands};
 use field::value_at;
+pub use field::{field_size, name_at, name_size, next_at, size_right, stands};
 pub use name::name_right;
 use order::{follows, key_at};
 pub use reading::{kind_of, locate, name_of, part, read, value_of};

@@ -12,7 +12,7 @@ ghost use Rattle.operands.specs.Gather.{each_from, place_at, size_at, operand_pl
 ghost use Rattle.operands.specs.Patterns.{asks_patterns, mark_before, digit_of, function_by, opens_after, is_later, right_at, patterns_by};
 
 use grammar::stream;
-use grammar::stream::{called, is_operand, CALLING};
+use grammar::stream::{CALLING, called, is_operand};
 
 mod literal;
 
