@@ -3,6 +3,7 @@
 
 ghost use Rattle.std.specs.Prelude.{◌≡◌, ◌++◌, ◌+◌, ◌*◌, ◌≤◌, length};
 ghost use Rattle.std.proofs.lemmas.List.Edits.{sets};
+ghost use Rattle.word.specs.Word.{Bytes};
 ghost use Rattle.table.specs.Table.{entries_bytes};
 ghost use Rattle.translator.specs.Expand.{expand, pooled, Sized};
 ghost use Rattle.translator.specs.Emit.{Room, Roomy, Tokened, Known, first_by, Coded, entry_start, header_bytes};
@@ -18,6 +19,15 @@ mod operand;
 pub mod read;
 pub mod write;
 
+// A text, and of its operands where each starts and how many bytes it brings to the pool.
+#[derive(Clone, Copy)]
+struct Operands<'a> {
+    text: &'a [u8],
+    places: &'a [u16],
+    sizes: &'a [u16],
+    ghost bytes: { Bytes text.now },
+}
+
 // "u32 length of all after it; u16 kind 2; u16 entry count N ..; u16 pool length ..", the kind by the edition.
 fn put_header(edition: Edition, out: &mut [u8], entries: usize, pool: usize)
     requires { (entries ≤ 512) × (pool ≤ 4096) × (10 ≤ length out.old) }
@@ -30,40 +40,30 @@ fn put_header(edition: Edition, out: &mut [u8], entries: usize, pool: usize)
 }
 
 // The whole table: header, entries, pool. It asks for the pool's length.
-fn put_table(
-    edition: Edition,
-    text: &[u8],
-    places: &[u16],
-    sizes: &[u16],
-    codes: &[u16],
-    pool: usize,
-    out: &mut [u8],
-)
-    requires { (length codes.now ≤ 512) × (pool ≤ 4096) × (pool ≡ length (pooled text.now places.now codes.now 0)) × (entry_start (length codes.now) + pool ≤ length out.old) × Sized text.now places.now sizes.now codes.now 0 }
-    ensures { out.new ≡ sets out.old 0 (header_bytes edition (length codes.now) pool ++ (entries_bytes (expand text.now places.now codes.now 0 0) ++ pooled text.now places.now codes.now 0)) }
+fn put_table(edition: Edition, operands: Operands, codes: &[u16], pool: usize, out: &mut [u8])
+    requires { (length codes.now ≤ 512) × (pool ≤ 4096) × (pool ≡ length (pooled operands.text.now operands.places.now codes.now 0)) × (entry_start (length codes.now) + pool ≤ length out.old) × Sized operands.text.now operands.places.now operands.sizes.now codes.now 0 }
+    ensures { out.new ≡ sets out.old 0 (header_bytes edition (length codes.now) pool ++ (entries_bytes (expand operands.entry.text.now operands.entry.places.now codes.now 0 0) ++ pooled operands.entry.text.now operands.entry.places.now codes.now 0)) }
 {
     put_header(edition, out, codes.len(), pool);
-    write::write(text, places, sizes, codes, out);
+    write::write(operands.text, operands.places, operands.sizes, codes, out);
 }
 
 // Of an expression to which none of 4, 18, 5, 7 and 8 applies: 9, or its table, written once all is judged.
 fn coded(
     edition: Edition,
-    text: &[u8],
-    places: &[u16],
-    sizes: &[u16],
+    operands: Operands,
     codes: &[u16],
     pool: usize,
     buffer: &mut [u8],
 ) -> Result<usize, Refusal>
-    requires { Coded text.now places.now sizes.now codes.now pool }
-    ensures { Answers (translation_in edition text.now (length buffer.old)) buffer.old buffer.new (answered result) }
+    requires { Coded operands.text.now operands.places.now operands.sizes.now codes.now pool }
+    ensures { Answers (translation_in edition operands.entry.text.now (length buffer.old)) buffer.old buffer.new (answered result) }
 {
     let length = 10 + 12 * codes.len() + pool;
     if buffer.len() < length {
         return Err(Refusal::Buffer);
     }
-    put_table(edition, text, places, sizes, codes, pool, buffer);
+    put_table(edition, operands, codes, pool, buffer);
     Ok(length)
 }
 
@@ -92,40 +92,36 @@ fn judged(j: Judged, patterns: bool) -> Result<(), Refusal>
 // Of an expression.
 fn expression(
     edition: Edition,
-    text: &[u8],
-    places: &[u16],
-    sizes: &[u16],
+    operands: Operands,
     codes: &[u16],
     buffer: &mut [u8],
     reading: Reading,
     j: Judged,
 ) -> Result<usize, Refusal>
-    requires { Roomy (length text.now) places.now × Roomy (length text.now) sizes.now × Roomy (2 * length text.now) codes.now × Known text.now places.now sizes.now codes.now reading.operands reading.patterns j }
-    ensures { Answers (translation_in edition text.now (length buffer.old)) buffer.old buffer.new (answered result) }
+    requires { Roomy (length operands.text.now) operands.places.now × Roomy (length operands.text.now) operands.sizes.now × Roomy (2 * length operands.text.now) codes.now × Known operands.text.now operands.places.now operands.sizes.now codes.now reading.operands reading.patterns j }
+    ensures { Answers (translation_in edition operands.entry.text.now (length buffer.old)) buffer.old buffer.new (answered result) }
 {
     judged(j, reading.patterns)?;
     let n = j.entries;
-    let pool = write::pool_length(sizes, reading.operands);
-    coded(edition, text, places, sizes, &codes[0..n], pool, buffer)
+    let pool = write::pool_length(operands.sizes, reading.operands);
+    coded(edition, operands, &codes[0..n], pool, buffer)
 }
 
 // Of the marks of a text's tokens.
 fn tokens(
     edition: Edition,
-    text: &[u8],
+    operands: Operands,
     marks: &[u8],
-    places: &[u16],
-    sizes: &[u16],
     codes: &mut [u16],
     buffer: &mut [u8],
     reading: Reading,
 ) -> Result<usize, Refusal>
-    requires { Roomy (length text.now) places.now × Roomy (length text.now) sizes.now × Roomy (2 * length text.now) codes.old × Tokened text.now marks.now places.now sizes.now reading.operands reading.patterns }
-    ensures { Answers (translation_in edition text.now (length buffer.old)) buffer.old buffer.new (answered result) }
+    requires { Roomy (length operands.text.now) operands.places.now × Roomy (length operands.text.now) operands.sizes.now × Roomy (2 * length operands.text.now) codes.old × Tokened operands.text.now marks.now operands.places.now operands.sizes.now reading.operands reading.patterns }
+    ensures { Answers (translation_in edition operands.entry.text.now (length buffer.old)) buffer.old buffer.new (answered result) }
 {
     match postfix::parse(marks, codes) {
-        Ok(j) => expression(edition, text, places, sizes, codes, buffer, reading, j),
-        Err(p) => Err(Refusal::Grammar(read::place(text, p))),
+        Ok(j) => expression(edition, operands, codes, buffer, reading, j),
+        Err(p) => Err(Refusal::Grammar(read::place(operands.text, p))),
     }
 }
 
@@ -145,16 +141,12 @@ fn translate_in<const TOKENS: usize, const OPERANDS: usize, const CODES: usize>(
     let mut codes = [0u16; CODES];
     let reading = read::read(text, marks, &mut places, &mut sizes)?;
     let n = reading.tokens;
-    tokens(
-        edition,
-        text,
-        &marks[0..n],
-        &places,
-        &sizes,
-        &mut codes,
-        buffer,
-        reading,
-    )
+    let operands = Operands {
+        text: text,
+        places: &places,
+        sizes: &sizes,
+    };
+    tokens(edition, operands, &marks[0..n], &mut codes, buffer, reading)
 }
 
 // Text to table of an edition. A refusal leaves every byte of the buffer as it was; a table stands at the buffer's start, and every later byte stays.

@@ -25,7 +25,7 @@ shape_of-out c = ap length c.write.ensures ∙ simp length-sets (ap length c.put
 pub returns : goal.returns
 returns c =
     let a = c.args in
-    let s = a.text.now in
-    let places = a.places.now in
+    let s = a.operands.text.now in
+    let places = a.operands.places.now in
     let codes = a.codes.now in
     table_written a.edition (length codes) a.pool (entries_bytes (expand s places codes 0 0)) (pooled s places codes 0) a.out.now (length_written s places codes 0 0) c.put_header.ensures c.write.ensures

@@ -15,6 +15,9 @@ returns-in_err-reading g c =
     let p = err_from_is_err_and c.from_residual.result c.from_residual.ensures.1 in
     rw (p.1, p.2) (answers_read c.args.text.now _ c.args.edition (length c.args.buffer.now) (subst (Reads c.args.text.now _ _ _) c.in_err-reading.was c.read.ensures.reads))
 
+pub invariant_of-operands : goal.invariant_of-operands
+invariant_of-operands g c = record { bytes = λ i. omega (arith, c.type_inv.text i) }
+
 pub slice_bounds-tokens-end : goal.slice_bounds-tokens-end
 slice_bounds-tokens-end g c =
     let rd = subst (Reads c.args.text.now _ _ _) c.in_ok-reading.was c.read.ensures.reads in
