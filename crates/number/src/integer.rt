@@ -1,5 +1,5 @@
 // Exact arithmetic on integers. Document 01, "Meaning": "`+ - * /` on integers is exact; `/` cuts toward zero.", "`%` .. has the sign of the left side".
-// Two int32 have their result in 64 bits, and two int64 theirs in 128. Only a quotient of two int64 stays in 64 bits, since 128 are divided by a call.
+// Two int32 have their result in 64 bits, and two int64 theirs in 128. Signed quotient and remainder are those of the operands' own width, exact at both ends of the range (document 01 names this form): only a quotient by -1 can leave it.
 ghost use Rattle.std.specs.Prelude.{◌≡◌, true, false};
 ghost use Rattle.number.specs.Number.{typed, arithmetic_of};
 
@@ -14,14 +14,21 @@ pub(crate) fn arithmetic_i32(op: Arithmetic, a: i32, b: i32) -> Number
     let y = b as i64;
     match op {
         Arithmetic::Mul => narrow(x * y),
-        Arithmetic::Div => if y == 0 { Number::None } else { narrow(x / y) },
-        Arithmetic::Rem => if y == 0 { Number::None } else { narrow(x % y) },
+        Arithmetic::Div => match b {
+            0 => Number::None,
+            -1 => narrow(-x),
+            _ => Number::Int32(a / b),
+        },
+        Arithmetic::Rem => match b {
+            0 => Number::None,
+            _ => Number::Int32(a.wrapping_rem(b)),
+        },
         Arithmetic::Add => narrow(x + y),
         Arithmetic::Sub => narrow(x - y),
     }
 }
 
-// An operator on two int64, likewise. Only a quotient by -1 can be past 64 bits.
+// An operator on two int64, likewise.
 pub(crate) fn arithmetic_i64(op: Arithmetic, a: i64, b: i64) -> Number
     ensures { result ≡ arithmetic_of op (Number.Int64 a) (Number.Int64 b) }
 {
