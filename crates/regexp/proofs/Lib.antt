@@ -13,5 +13,4 @@ pub mod Walks
 pub mod Simple
 pub mod Turns
 pub mod Parts
-pub mod Allow
 pub mod Loops

@@ -1,22 +1,17 @@
 -- A branch with its anchors, and the loops over the branches. Assumes nothing.
 use mathlib.Core.Path.{◌≡◌, refl, sym, ap, ◌∙◌}
-use mathlib.Core.Bool.{Bool, true, false, not, ◌&&◌, ◌||◌, or-false}
+use mathlib.Core.Bool.{Bool, true, false, ◌&&◌, ◌||◌, or-false}
 use mathlib.Core.List.{List, [], ◌∷◌, map}
 use mathlib.Core.Option.{Option, none, some}
 use Prim.Native.Nat.{ℕ, ◌+◌, ◌-◌, ◌≤◌, ◌<◌}
-use native.Mathlib.Numerals.{add-one}
 use native.Mathlib.Omega.{arith}
-use lib.ListN.{length, get_or, take, drop, drop_of_length-le, length-map}
-use lib.Seq.{drop-cons, drop-drop, length-take-le}
-use lib.Dec.{eqb}
+use lib.ListN.{length, take, drop, length-map}
+use lib.Seq.{drop-drop, length-take-le}
 use native.Mathlib.Decide.{dec_lt}
-use borrow.Author.Tests.{eq-eqb, ne_eqb, le-leb, lt-leb, le-ltb, lt-ltb}
-use Rattle.common.specs.Choice.{pick}
-use Rattle.common.proofs.Choice.{pick_yes, pick_no}
+use borrow.Author.Tests.{le-leb, lt-leb, le-ltb, lt-ltb}
 use Rattle.octets.specs.Octets.{fold, folded}
 use Rattle.octets.proofs.Theorems.{and_parts}
 use Rattle.pattern.specs.Steps.{begins}
-use Rattle.pattern.specs.Wildcard.{is_none}
 use Rattle.pattern.proofs.Texts.{begins_inside}
 use Rattle.automaton.specs.Marks.{walk}
 use Rattle.automaton.specs.Pass.{Token, tokens, Flat}
@@ -25,7 +20,7 @@ use Rattle.automaton.specs.Decide.{decide}
 use Rattle.automaton.proofs.Found.{by_marks}
 use Rattle.regexp.specs.Language.{Tree, Anchored, anchored}
 use Rattle.regexp.specs.Scan.{read, branch_of, tree_of, has}
-use Rattle.regexp.specs.Regex.{last, more, fault, end_of, ended, hat_of, one_if, part_of, with_first, branches, branches_of, is_some, re_of, held_in, regex_of}
+use Rattle.regexp.specs.Regex.{end_of, ended, hat_of, one_if, part_of, with_first, branches, branches_of, is_some, re_of, held_in, regex_of}
 use Rattle.regexp.specs.Promise.{EndAt, TableOf, BranchAt, BehindAt, TurnAt, TableAt}
 use Rattle.std.specs.Prelude.{Some, None}
 use Rattle.std.specs.Prelude.{Option as Maybe}
@@ -57,43 +52,6 @@ module _ (text : List ℕ) (i : ℕ) (first : Bool) where
       same : (b : Bool) → bool_byte b ≡ one_if b
       same true = refl
       same false = refl
-
--- ---- what stands behind a branch
-module _ (text : List ℕ) (h : Bool) (n : ℕ) (some : Bool) (j : ℕ) where
-  none_left : length text ≤ j → (t : Tree) → end_of (some || h) h t (drop j text) ≡ end_of (some || h) h t []
-  none_left l t = ap (end_of (some || h) h t) (drop_of_length-le text l)
-
-  pub behind_end : length text ≤ j → (some || h) ≡ true → BehindAt text h n some j (Some (Last n (not h) true))
-  behind_end l e = (refl, λ t. none_left l t ∙ pick_yes (some || h) _ _ e)
-
-  pub behind_end_bad : length text ≤ j → (some || h) ≡ false → BehindAt text h n some j None
-  behind_end_bad l e t = none_left l t ∙ pick_no (some || h) _ _ e
-
-  module _ (l : j < length text) where
-    byte : (t : Tree) → end_of (some || h) h t (drop j text) ≡ end_of (some || h) h t (get_or text j 0 ∷ drop (j + 1) text)
-    byte t = let z : drop j text ≡ get_or text j 0 ∷ drop (j + 1) text = rw (add-one j) (drop-cons text j 0 l) in ap (end_of (some || h) h t) z
-
-    bar : get_or text j 0 ≡ 124 → (t : Tree) → end_of (some || h) h t (drop j text) ≡ pick (some || h) (λ _. more (anchored (not h) true t) (drop (j + 1) text)) (λ _. fault)
-    bar e t = byte t ∙ pick_yes (eqb (get_or text j 0) 124) _ _ (eq-eqb (get_or text j 0) 124 e)
-
-    pub behind_bar : get_or text j 0 ≡ 124 → (some || h) ≡ true → BehindAt text h n some j (Some (More n (not h) (j + 1)))
-    behind_bar e f = (refl, omega arith, omega arith, λ t. bar e t ∙ pick_yes (some || h) _ _ f)
-
-    pub behind_bar_bad : get_or text j 0 ≡ 124 → (some || h) ≡ false → BehindAt text h n some j None
-    behind_bar_bad e f t = bar e t ∙ pick_no (some || h) _ _ f
-
-    module _ (e : get_or text j 0 ≡ 124 → ⊥) where
-      other : (t : Tree) → end_of (some || h) h t (drop j text) ≡ pick (eqb (get_or text j 0) 36 && is_none (drop (j + 1) text)) (λ _. last (anchored (not h) false t)) (λ _. fault)
-      other t = byte t ∙ pick_no (eqb (get_or text j 0) 124) _ _ (ne_eqb (get_or text j 0) 124 e)
-
-      pub behind-other : (get_or text j 0 ≡ 36 → ⊥) → BehindAt text h n some j None
-      behind-other f t = other t ∙ rw (ne_eqb (get_or text j 0) 36 f)
-
-      pub behind-early : get_or text j 0 ≡ 36 → j + 1 < length text → BehindAt text h n some j None
-      behind-early f k t = other t ∙ rw (eq-eqb (get_or text j 0) 36 f, drop-cons text (j + 1) 0 k)
-
-      pub behind-dollar : get_or text j 0 ≡ 36 → length text ≤ j + 1 → BehindAt text h n some j (Some (Last n (not h) false))
-      behind-dollar f k = (refl, λ t. other t ∙ rw (eq-eqb (get_or text j 0) 36 f, drop_of_length-le text k))
 
 -- ---- a branch with its anchors
 module _ (text : List ℕ) (i : ℕ) (first h : Bool) (eh : h ≡ hat_of first (drop i text)) (from : ℕ) (ef : from ≡ i + one_if (hat_of first (drop i text))) where

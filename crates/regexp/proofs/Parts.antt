@@ -25,8 +25,7 @@ use Rattle.automaton.specs.Table.{held_of, repeats, absent, outside, sort}
 use Rattle.regexp.specs.Language.{plain, any, set, takes, star, plus, optional}
 use Rattle.regexp.specs.Words.{item, set_by, set_or_not, set_of, word_of}
 use Rattle.regexp.specs.Promise.{SetAt, WordAt}
-use Rattle.regexp.specs.declared.Read.{Read}
-use Rattle.regexp.specs.declared.Read.TheVariants.{Item, Repeat, Open, Bar, Close, Stop, Bad}
+use Rattle.regexp.specs.declared.Read.TheVariants.{Item, Repeat, Bad}
 use Rattle.regexp.proofs.Told.{set_width}
 use Rattle.regexp.proofs.Turns.{Again, Lacks}
 
@@ -216,34 +215,8 @@ module _ (text : List ℕ) (i : ℕ) where
           refl,
         )
 
-    pub word_bad : get_or text i 0 ≡ 92 → length text ≤ i + 1 → WordAt text i Bad
-    word_bad e k =
-        let k2 : length text ≤ suc i = omega arith in
-        rw (drop-cons text i 0 h, eq-eqb (get_or text i 0) 92 e, drop_of_length-le text k2)
-
     module _ (a1 : get_or text i 0 ≡ 92 → ⊥) where
-      set_is : get_or text i 0 ≡ 91 → word_of (drop i text) ≡ set_of (drop (i + 1) text)
-      set_is e = first ∙ rw e
-
-      pub word_set : get_or text i 0 ≡ 91 → (r : Read) → SetAt text (i + 1) r → WordAt text i r
-      word_set e (Item k x j) q = ((q.0.0, set_is e ∙ q.0.1, q.0.2), q.1, q.2, omega (arith, q.3), q.4, q.5, q.6, q.7)
-      word_set e (Repeat r o) q = absurd q
-      word_set e Open q = absurd q
-      word_set e Bar q = absurd q
-      word_set e Close q = absurd q
-      word_set e Stop q = absurd q
-      word_set e Bad q = set_is e ∙ q
-
       module _ (a2 : get_or text i 0 ≡ 91 → ⊥) where
-        pub word-open : get_or text i 0 ≡ 40 → WordAt text i Open
-        word-open e = first ∙ rw e
-
-        pub word-close : get_or text i 0 ≡ 41 → WordAt text i Close
-        word-close e = first ∙ rw e
-
-        pub word-bar : get_or text i 0 ≡ 124 → WordAt text i Bar
-        word-bar e = first ∙ rw e
-
         pub word-star : get_or text i 0 ≡ 42 → WordAt text i (Repeat true true)
         word-star e = (star, first ∙ rw e, refl, refl)
 
@@ -256,12 +229,6 @@ module _ (text : List ℕ) (i : ℕ) where
         pub word-any : get_or text i 0 ≡ 46 → WordAt text i (Item 8 i (i + 1))
         unfolding repeats absent outside sort
         word-any e = ((any, first ∙ rw e, refl), omega arith, h, omega arith, omega arith, omega arith, refl, refl)
-
-        pub word-hat : get_or text i 0 ≡ 94 → WordAt text i Stop
-        word-hat e = first ∙ rw e
-
-        pub word-dollar : get_or text i 0 ≡ 36 → WordAt text i Stop
-        word-dollar e = first ∙ rw e
 
         pub word_plain : (get_or text i 0 ≡ 40 → ⊥) → (get_or text i 0 ≡ 41 → ⊥) → (get_or text i 0 ≡ 124 → ⊥) → (get_or text i 0 ≡ 42 → ⊥) → (get_or text i 0 ≡ 43 → ⊥) → (get_or text i 0 ≡ 63 → ⊥) → (get_or text i 0 ≡ 46 → ⊥) → (get_or text i 0 ≡ 94 → ⊥) → (get_or text i 0 ≡ 36 → ⊥) → WordAt text i (Item 0 i (i + 1))
         unfolding repeats absent outside sort
