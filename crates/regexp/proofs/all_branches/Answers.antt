@@ -1,20 +1,13 @@
 use mathlib.Core.Path.{refl}
-use native.Mathlib.Omega.{arith}
 use Rattle.regexp.proofs.Loops.{formed_last, formed_more, formed_bad}
 use Rattle.regexp.proofs.all_branches.Goals as goal
 
 pub loop-j-init : goal.loop-j-init
 loop-j-init c = (c.requires, refl)
 
-pub next_end-requires : goal.next_end-requires
-next_end-requires c = let l = c.loop-j in l.invariant.0
-
 pub returns-in-Some-Last : goal.returns-in-Some-Last
 returns-in-Some-Last c =
     let l = c.loop-j in let q0 = rw c.in-Some-Last.is at c.next_end.ensures in let q = rw c.in-Some-Last.field-0-is at q0 in formed_last c.args.p.now l.i l.first _ l.invariant.1 0 _ _ q
-
-pub loop-j-smaller : goal.loop-j-smaller
-loop-j-smaller c = let q0 = rw c.in-Some-More.is at c.next_end.ensures in let q = rw c.in-Some-More.field-0-is at q0 in omega (arith, q.0, q.1)
 
 pub loop-j-preserved : goal.loop-j-preserved
 loop-j-preserved c =

@@ -11,61 +11,9 @@ pub loop-last-init : goal.loop-last-init
 loop-last-init c =
     (omega arith, c.requires.0, refl, refl, refl, omega arith, begins c.args.text.now c.args.kinds.now c.args.args.now c.args.from (replicate 8 0) 0)
 
-pub bounds-kinds-n : goal.bounds-kinds-n
-bounds-kinds-n c =
-    let l = c.loop-last in let q = easy_plain c.args.text.now l.i (sym c.easy.ensures ∙ c.if-easy.true) in omega (arith, q.2, q.3, q.4, l.invariant.0, l.invariant.1, l.invariant.2, l.invariant.3, l.invariant.4, l.invariant.5, c.requires.0, c.requires.1, c.requires.2, c.requires.3)
-
-pub narrow-requires : goal.narrow-requires
-narrow-requires c =
-    let l = c.loop-last in let q = easy_plain c.args.text.now l.i (sym c.easy.ensures ∙ c.if-easy.true) in omega (arith, q.2, q.3, q.4, l.invariant.0, l.invariant.1, l.invariant.2, l.invariant.3, l.invariant.4, l.invariant.5, c.requires.0, c.requires.1, c.requires.2, c.requires.3)
-
-pub offset_bounds-args-n : goal.offset_bounds-args-n
-offset_bounds-args-n c =
-    let l = c.loop-last in let q = easy_plain c.args.text.now l.i (sym c.easy.ensures ∙ c.if-easy.true) in omega (arith, q.2, q.3, q.4, l.invariant.0, l.invariant.1, l.invariant.2, l.invariant.3, l.invariant.4, l.invariant.5, c.requires.0, c.requires.1, c.requires.2, c.requires.3)
-
-pub bounds-args-n : goal.bounds-args-n
-bounds-args-n c =
-    let l = c.loop-last in let q = easy_plain c.args.text.now l.i (sym c.easy.ensures ∙ c.if-easy.true) in omega (arith, q.2, q.3, q.4, l.invariant.0, l.invariant.1, l.invariant.2, l.invariant.3, l.invariant.4, l.invariant.5, c.requires.0, c.requires.1, c.requires.2, c.requires.3)
-
-pub overflow_add-n : goal.overflow_add-n
-overflow_add-n c =
-    let l = c.loop-last in let q = easy_plain c.args.text.now l.i (sym c.easy.ensures ∙ c.if-easy.true) in omega (arith, q.2, q.3, q.4, l.invariant.0, l.invariant.1, l.invariant.2, l.invariant.3, l.invariant.4, l.invariant.5, c.requires.0, c.requires.1, c.requires.2, c.requires.3)
-
-pub overflow_add-i : goal.overflow_add-i
-overflow_add-i c =
-    let l = c.loop-last in let q = easy_plain c.args.text.now l.i (sym c.easy.ensures ∙ c.if-easy.true) in omega (arith, q.2, q.3, q.4, l.invariant.0, l.invariant.1, l.invariant.2, l.invariant.3, l.invariant.4, l.invariant.5, c.requires.0, c.requires.1, c.requires.2, c.requires.3)
-
-pub loop-last-smaller-then-easy : goal.loop-last-smaller-then-easy
-loop-last-smaller-then-easy c =
-    let l = c.loop-last in let q = easy_plain c.args.text.now l.i (sym c.easy.ensures ∙ c.if-easy.true) in omega (arith, q.2, q.3, q.4, l.invariant.0, l.invariant.1, l.invariant.2, l.invariant.3, l.invariant.4, l.invariant.5, c.requires.0, c.requires.1, c.requires.2, c.requires.3)
-
 pub loop-last-preserved-then-easy : goal.loop-last-preserved-then-easy
 loop-last-preserved-then-easy c =
     let l = c.loop-last in let q = easy_plain c.args.text.now l.i (sym c.easy.ensures ∙ c.if-easy.true) in (omega (arith, q.2, q.3, q.4, l.invariant.0, l.invariant.1, l.invariant.2, l.invariant.3, l.invariant.4, l.invariant.5, c.requires.0, c.requires.1, c.requires.2, c.requires.3), q.4, simp length-set l.invariant.2, simp length-set l.invariant.3, l.invariant.4, l.invariant.5, rw c.narrow.ensures (item_turn c.args.text.now l.kinds l.args c.args.from l.opens l.room l.last l.some l.n l.i l.invariant.6 (omega (arith, q.2, q.3, q.4, l.invariant.0, l.invariant.1, l.invariant.2, l.invariant.3, l.invariant.4, l.invariant.5, c.requires.0, c.requires.1, c.requires.2, c.requires.3)) (omega (arith, q.2, q.3, q.4, l.invariant.0, l.invariant.1, l.invariant.2, l.invariant.3, l.invariant.4, l.invariant.5, c.requires.0, c.requires.1, c.requires.2, c.requires.3)) 0 l.i (l.i + 1) q.0.0 q.0.1 q.0.2 q.1 q.6 q.7))
-
-pub bounds-kinds-n-in-Item : goal.bounds-kinds-n-in-Item
-bounds-kinds-n-in-Item c =
-    let l = c.loop-last in let q = rw c.in-Item.is at c.allowed.ensures in omega (arith, q.2, q.3, q.4, l.invariant.0, l.invariant.1, l.invariant.2, l.invariant.3, l.invariant.4, l.invariant.5, c.requires.0, c.requires.1, c.requires.2, c.requires.3)
-
-pub narrow-requires-in-Item : goal.narrow-requires-in-Item
-narrow-requires-in-Item c =
-    let l = c.loop-last in let q = rw c.in-Item.is at c.allowed.ensures in omega (arith, q.2, q.3, q.4, l.invariant.0, l.invariant.1, l.invariant.2, l.invariant.3, l.invariant.4, l.invariant.5, c.requires.0, c.requires.1, c.requires.2, c.requires.3)
-
-pub offset_bounds-args-n-in-Item : goal.offset_bounds-args-n-in-Item
-offset_bounds-args-n-in-Item c =
-    let l = c.loop-last in let q = rw c.in-Item.is at c.allowed.ensures in omega (arith, q.2, q.3, q.4, l.invariant.0, l.invariant.1, l.invariant.2, l.invariant.3, l.invariant.4, l.invariant.5, c.requires.0, c.requires.1, c.requires.2, c.requires.3)
-
-pub bounds-args-n-in-Item : goal.bounds-args-n-in-Item
-bounds-args-n-in-Item c =
-    let l = c.loop-last in let q = rw c.in-Item.is at c.allowed.ensures in omega (arith, q.2, q.3, q.4, l.invariant.0, l.invariant.1, l.invariant.2, l.invariant.3, l.invariant.4, l.invariant.5, c.requires.0, c.requires.1, c.requires.2, c.requires.3)
-
-pub overflow_add-n-in-Item : goal.overflow_add-n-in-Item
-overflow_add-n-in-Item c =
-    let l = c.loop-last in let q = rw c.in-Item.is at c.allowed.ensures in omega (arith, q.2, q.3, q.4, l.invariant.0, l.invariant.1, l.invariant.2, l.invariant.3, l.invariant.4, l.invariant.5, c.requires.0, c.requires.1, c.requires.2, c.requires.3)
-
-pub loop-last-smaller-in-Item : goal.loop-last-smaller-in-Item
-loop-last-smaller-in-Item c =
-    let l = c.loop-last in let q = rw c.in-Item.is at c.allowed.ensures in omega (arith, q.2, q.3, q.4, l.invariant.0, l.invariant.1, l.invariant.2, l.invariant.3, l.invariant.4, l.invariant.5, c.requires.0, c.requires.1, c.requires.2, c.requires.3)
 
 pub loop-last-preserved-in-Item : goal.loop-last-preserved-in-Item
 loop-last-preserved-in-Item c =
@@ -83,101 +31,17 @@ pub overflow_sub-e : goal.overflow_sub-e
 overflow_sub-e c =
     let l = c.loop-last in let q = rw c.in-Repeat.is at c.allowed.ensures in let li = last_inside c.args.text.now l.kinds l.args c.args.from l.opens l.room l.last l.some l.n l.i l.invariant.6 (omega (arith, q.2, l.invariant.0, l.invariant.1, l.invariant.2, l.invariant.3, l.invariant.4, l.invariant.5, c.requires.0, c.requires.1, c.requires.2, c.requires.3)) (omega (arith, q.2, l.invariant.0, l.invariant.1, l.invariant.2, l.invariant.3, l.invariant.4, l.invariant.5, c.requires.0, c.requires.1, c.requires.2, c.requires.3)) q.1 in omega (arith, li, q.2, l.invariant.0, l.invariant.1, l.invariant.2, l.invariant.3, l.invariant.4, l.invariant.5, c.requires.0, c.requires.1, c.requires.2, c.requires.3)
 
-pub bounds-kinds-e : goal.bounds-kinds-e
-bounds-kinds-e c =
-    let l = c.loop-last in let q = rw c.in-Repeat.is at c.allowed.ensures in let li = last_inside c.args.text.now l.kinds l.args c.args.from l.opens l.room l.last l.some l.n l.i l.invariant.6 (omega (arith, q.2, l.invariant.0, l.invariant.1, l.invariant.2, l.invariant.3, l.invariant.4, l.invariant.5, c.requires.0, c.requires.1, c.requires.2, c.requires.3)) (omega (arith, q.2, l.invariant.0, l.invariant.1, l.invariant.2, l.invariant.3, l.invariant.4, l.invariant.5, c.requires.0, c.requires.1, c.requires.2, c.requires.3)) q.1 in simp length-set (omega (arith, li, q.2, l.invariant.0, l.invariant.1, l.invariant.2, l.invariant.3, l.invariant.4, l.invariant.5, c.requires.0, c.requires.1, c.requires.2, c.requires.3))
-
-pub bounds-kinds-e-in-Repeat : goal.bounds-kinds-e-in-Repeat
-bounds-kinds-e-in-Repeat c =
-    let l = c.loop-last in let q = rw c.in-Repeat.is at c.allowed.ensures in let li = last_inside c.args.text.now l.kinds l.args c.args.from l.opens l.room l.last l.some l.n l.i l.invariant.6 (omega (arith, q.2, l.invariant.0, l.invariant.1, l.invariant.2, l.invariant.3, l.invariant.4, l.invariant.5, c.requires.0, c.requires.1, c.requires.2, c.requires.3)) (omega (arith, q.2, l.invariant.0, l.invariant.1, l.invariant.2, l.invariant.3, l.invariant.4, l.invariant.5, c.requires.0, c.requires.1, c.requires.2, c.requires.3)) q.1 in simp length-set (omega (arith, li, q.2, l.invariant.0, l.invariant.1, l.invariant.2, l.invariant.3, l.invariant.4, l.invariant.5, c.requires.0, c.requires.1, c.requires.2, c.requires.3))
-
-pub overflow_add-i-in-Repeat : goal.overflow_add-i-in-Repeat
-overflow_add-i-in-Repeat c =
-    let l = c.loop-last in let q = rw c.in-Repeat.is at c.allowed.ensures in omega (arith, q.2, l.invariant.0, l.invariant.1, l.invariant.2, l.invariant.3, l.invariant.4, l.invariant.5, c.requires.0, c.requires.1, c.requires.2, c.requires.3)
-
-pub loop-last-smaller-in-Repeat : goal.loop-last-smaller-in-Repeat
-loop-last-smaller-in-Repeat c =
-    let l = c.loop-last in let q = rw c.in-Repeat.is at c.allowed.ensures in omega (arith, q.2, l.invariant.0, l.invariant.1, l.invariant.2, l.invariant.3, l.invariant.4, l.invariant.5, c.requires.0, c.requires.1, c.requires.2, c.requires.3)
-
 pub loop-last-preserved-in-Repeat : goal.loop-last-preserved-in-Repeat
 loop-last-preserved-in-Repeat c =
     let l = c.loop-last in let q = rw c.in-Repeat.is at c.allowed.ensures in let li = last_inside c.args.text.now l.kinds l.args c.args.from l.opens l.room l.last l.some l.n l.i l.invariant.6 (omega (arith, q.2, l.invariant.0, l.invariant.1, l.invariant.2, l.invariant.3, l.invariant.4, l.invariant.5, c.requires.0, c.requires.1, c.requires.2, c.requires.3)) (omega (arith, q.2, l.invariant.0, l.invariant.1, l.invariant.2, l.invariant.3, l.invariant.4, l.invariant.5, c.requires.0, c.requires.1, c.requires.2, c.requires.3)) q.1 in (omega (arith, q.2, l.invariant.0, l.invariant.1, l.invariant.2, l.invariant.3, l.invariant.4, l.invariant.5, c.requires.0, c.requires.1, c.requires.2, c.requires.3), omega (arith, q.2, l.invariant.0, l.invariant.1, l.invariant.2, l.invariant.3, l.invariant.4, l.invariant.5, c.requires.0, c.requires.1, c.requires.2, c.requires.3), simp length-set l.invariant.2, l.invariant.3, l.invariant.4, l.invariant.5, repeat_turn c.args.text.now l.kinds l.args c.args.from l.opens l.room l.last l.some l.n l.i l.invariant.6 (omega (arith, q.2, l.invariant.0, l.invariant.1, l.invariant.2, l.invariant.3, l.invariant.4, l.invariant.5, c.requires.0, c.requires.1, c.requires.2, c.requires.3)) (omega (arith, q.2, l.invariant.0, l.invariant.1, l.invariant.2, l.invariant.3, l.invariant.4, l.invariant.5, c.requires.0, c.requires.1, c.requires.2, c.requires.3)) q.0.0 c.repeated.result c.optional.result q.0.1 q.1 (rw (← q.0.2) at c.repeated.ensures) (rw (← q.0.3) at c.optional.ensures))
-
-pub overflow_sub-room : goal.overflow_sub-room
-overflow_sub-room c =
-    let l = c.loop-last in let q = rw c.in-Open.is at c.allowed.ensures in omega (arith, q.1, q.2, l.invariant.0, l.invariant.1, l.invariant.2, l.invariant.3, l.invariant.4, l.invariant.5, c.requires.0, c.requires.1, c.requires.2, c.requires.3)
-
-pub offset_bounds-opens-room : goal.offset_bounds-opens-room
-offset_bounds-opens-room c =
-    let l = c.loop-last in let q = rw c.in-Open.is at c.allowed.ensures in omega (arith, q.1, q.2, l.invariant.0, l.invariant.1, l.invariant.2, l.invariant.3, l.invariant.4, l.invariant.5, c.requires.0, c.requires.1, c.requires.2, c.requires.3)
-
-pub bounds-opens-room : goal.bounds-opens-room
-bounds-opens-room c =
-    let l = c.loop-last in let q = rw c.in-Open.is at c.allowed.ensures in omega (arith, q.1, q.2, l.invariant.0, l.invariant.1, l.invariant.2, l.invariant.3, l.invariant.4, l.invariant.5, c.requires.0, c.requires.1, c.requires.2, c.requires.3)
-
-pub bounds-kinds-n-in-Open : goal.bounds-kinds-n-in-Open
-bounds-kinds-n-in-Open c =
-    let l = c.loop-last in let q = rw c.in-Open.is at c.allowed.ensures in omega (arith, q.1, q.2, l.invariant.0, l.invariant.1, l.invariant.2, l.invariant.3, l.invariant.4, l.invariant.5, c.requires.0, c.requires.1, c.requires.2, c.requires.3)
-
-pub offset_bounds-args-n-in-Open : goal.offset_bounds-args-n-in-Open
-offset_bounds-args-n-in-Open c =
-    let l = c.loop-last in let q = rw c.in-Open.is at c.allowed.ensures in omega (arith, q.1, q.2, l.invariant.0, l.invariant.1, l.invariant.2, l.invariant.3, l.invariant.4, l.invariant.5, c.requires.0, c.requires.1, c.requires.2, c.requires.3)
-
-pub bounds-args-n-in-Open : goal.bounds-args-n-in-Open
-bounds-args-n-in-Open c =
-    let l = c.loop-last in let q = rw c.in-Open.is at c.allowed.ensures in omega (arith, q.1, q.2, l.invariant.0, l.invariant.1, l.invariant.2, l.invariant.3, l.invariant.4, l.invariant.5, c.requires.0, c.requires.1, c.requires.2, c.requires.3)
-
-pub overflow_add-n-in-Open : goal.overflow_add-n-in-Open
-overflow_add-n-in-Open c =
-    let l = c.loop-last in let q = rw c.in-Open.is at c.allowed.ensures in omega (arith, q.1, q.2, l.invariant.0, l.invariant.1, l.invariant.2, l.invariant.3, l.invariant.4, l.invariant.5, c.requires.0, c.requires.1, c.requires.2, c.requires.3)
-
-pub overflow_add-i-in-Open : goal.overflow_add-i-in-Open
-overflow_add-i-in-Open c =
-    let l = c.loop-last in let q = rw c.in-Open.is at c.allowed.ensures in omega (arith, q.1, q.2, l.invariant.0, l.invariant.1, l.invariant.2, l.invariant.3, l.invariant.4, l.invariant.5, c.requires.0, c.requires.1, c.requires.2, c.requires.3)
-
-pub loop-last-smaller-in-Open : goal.loop-last-smaller-in-Open
-loop-last-smaller-in-Open c =
-    let l = c.loop-last in let q = rw c.in-Open.is at c.allowed.ensures in omega (arith, q.1, q.2, l.invariant.0, l.invariant.1, l.invariant.2, l.invariant.3, l.invariant.4, l.invariant.5, c.requires.0, c.requires.1, c.requires.2, c.requires.3)
 
 pub loop-last-preserved-in-Open : goal.loop-last-preserved-in-Open
 loop-last-preserved-in-Open c =
     let l = c.loop-last in let q = rw c.in-Open.is at c.allowed.ensures in (omega (arith, q.1, q.2, l.invariant.0, l.invariant.1, l.invariant.2, l.invariant.3, l.invariant.4, l.invariant.5, c.requires.0, c.requires.1, c.requires.2, c.requires.3), omega (arith, q.1, q.2, l.invariant.0, l.invariant.1, l.invariant.2, l.invariant.3, l.invariant.4, l.invariant.5, c.requires.0, c.requires.1, c.requires.2, c.requires.3), simp length-set l.invariant.2, simp length-set l.invariant.3, simp length-set l.invariant.4, omega (arith, q.1, q.2, l.invariant.0, l.invariant.1, l.invariant.2, l.invariant.3, l.invariant.4, l.invariant.5, c.requires.0, c.requires.1, c.requires.2, c.requires.3), open_turn c.args.text.now l.kinds l.args c.args.from l.opens l.room l.last l.some l.n l.i l.invariant.6 (omega (arith, q.1, q.2, l.invariant.0, l.invariant.1, l.invariant.2, l.invariant.3, l.invariant.4, l.invariant.5, c.requires.0, c.requires.1, c.requires.2, c.requires.3)) (omega (arith, q.1, q.2, l.invariant.0, l.invariant.1, l.invariant.2, l.invariant.3, l.invariant.4, l.invariant.5, c.requires.0, c.requires.1, c.requires.2, c.requires.3)) q.0 q.1 (omega (arith, q.1, q.2, l.invariant.0, l.invariant.1, l.invariant.2, l.invariant.3, l.invariant.4, l.invariant.5, c.requires.0, c.requires.1, c.requires.2, c.requires.3)))
 
-pub bounds-kinds-n-in-Bar : goal.bounds-kinds-n-in-Bar
-bounds-kinds-n-in-Bar c =
-    let l = c.loop-last in let q = rw c.in-Bar.is at c.allowed.ensures in omega (arith, q.3, l.invariant.0, l.invariant.1, l.invariant.2, l.invariant.3, l.invariant.4, l.invariant.5, c.requires.0, c.requires.1, c.requires.2, c.requires.3)
-
-pub offset_bounds-args-n-in-Bar : goal.offset_bounds-args-n-in-Bar
-offset_bounds-args-n-in-Bar c =
-    let l = c.loop-last in let q = rw c.in-Bar.is at c.allowed.ensures in omega (arith, q.3, l.invariant.0, l.invariant.1, l.invariant.2, l.invariant.3, l.invariant.4, l.invariant.5, c.requires.0, c.requires.1, c.requires.2, c.requires.3)
-
-pub bounds-args-n-in-Bar : goal.bounds-args-n-in-Bar
-bounds-args-n-in-Bar c =
-    let l = c.loop-last in let q = rw c.in-Bar.is at c.allowed.ensures in omega (arith, q.3, l.invariant.0, l.invariant.1, l.invariant.2, l.invariant.3, l.invariant.4, l.invariant.5, c.requires.0, c.requires.1, c.requires.2, c.requires.3)
-
-pub overflow_add-n-in-Bar : goal.overflow_add-n-in-Bar
-overflow_add-n-in-Bar c =
-    let l = c.loop-last in let q = rw c.in-Bar.is at c.allowed.ensures in omega (arith, q.3, l.invariant.0, l.invariant.1, l.invariant.2, l.invariant.3, l.invariant.4, l.invariant.5, c.requires.0, c.requires.1, c.requires.2, c.requires.3)
-
-pub overflow_add-i-in-Bar : goal.overflow_add-i-in-Bar
-overflow_add-i-in-Bar c =
-    let l = c.loop-last in let q = rw c.in-Bar.is at c.allowed.ensures in omega (arith, q.3, l.invariant.0, l.invariant.1, l.invariant.2, l.invariant.3, l.invariant.4, l.invariant.5, c.requires.0, c.requires.1, c.requires.2, c.requires.3)
-
-pub loop-last-smaller-in-Bar : goal.loop-last-smaller-in-Bar
-loop-last-smaller-in-Bar c =
-    let l = c.loop-last in let q = rw c.in-Bar.is at c.allowed.ensures in omega (arith, q.3, l.invariant.0, l.invariant.1, l.invariant.2, l.invariant.3, l.invariant.4, l.invariant.5, c.requires.0, c.requires.1, c.requires.2, c.requires.3)
-
 pub loop-last-preserved-in-Bar : goal.loop-last-preserved-in-Bar
 loop-last-preserved-in-Bar c =
     let l = c.loop-last in let q = rw c.in-Bar.is at c.allowed.ensures in (omega (arith, q.3, l.invariant.0, l.invariant.1, l.invariant.2, l.invariant.3, l.invariant.4, l.invariant.5, c.requires.0, c.requires.1, c.requires.2, c.requires.3), omega (arith, q.3, l.invariant.0, l.invariant.1, l.invariant.2, l.invariant.3, l.invariant.4, l.invariant.5, c.requires.0, c.requires.1, c.requires.2, c.requires.3), simp length-set l.invariant.2, simp length-set l.invariant.3, l.invariant.4, l.invariant.5, bar_turn c.args.text.now l.kinds l.args c.args.from l.opens l.room l.last l.some l.n l.i l.invariant.6 (omega (arith, q.3, l.invariant.0, l.invariant.1, l.invariant.2, l.invariant.3, l.invariant.4, l.invariant.5, c.requires.0, c.requires.1, c.requires.2, c.requires.3)) (omega (arith, q.3, l.invariant.0, l.invariant.1, l.invariant.2, l.invariant.3, l.invariant.4, l.invariant.5, c.requires.0, c.requires.1, c.requires.2, c.requires.3)) q.0 q.1 q.2)
-
-pub offset_bounds-opens-room-in-Close : goal.offset_bounds-opens-room-in-Close
-offset_bounds-opens-room-in-Close c =
-    let l = c.loop-last in let q = rw c.in-Close.is at c.allowed.ensures in let oi = open_inside c.args.text.now l.kinds l.args c.args.from l.opens l.room l.last l.some l.n l.i l.invariant.6 (omega (arith, q.3, l.invariant.0, l.invariant.1, l.invariant.2, l.invariant.3, l.invariant.4, l.invariant.5, c.requires.0, c.requires.1, c.requires.2, c.requires.3)) (omega (arith, q.3, l.invariant.0, l.invariant.1, l.invariant.2, l.invariant.3, l.invariant.4, l.invariant.5, c.requires.0, c.requires.1, c.requires.2, c.requires.3)) q.1 in let ri = room_inside c.args.text.now c.args.from l.room l.some l.i (walked c.args.text.now l.kinds l.args c.args.from l.opens l.room l.last l.some l.n l.i l.invariant.6) q.1 in omega (arith, oi, ri, q.3, l.invariant.0, l.invariant.1, l.invariant.2, l.invariant.3, l.invariant.4, l.invariant.5, c.requires.0, c.requires.1, c.requires.2, c.requires.3)
-
-pub bounds-opens-room-in-Close : goal.bounds-opens-room-in-Close
-bounds-opens-room-in-Close c =
-    let l = c.loop-last in let q = rw c.in-Close.is at c.allowed.ensures in let oi = open_inside c.args.text.now l.kinds l.args c.args.from l.opens l.room l.last l.some l.n l.i l.invariant.6 (omega (arith, q.3, l.invariant.0, l.invariant.1, l.invariant.2, l.invariant.3, l.invariant.4, l.invariant.5, c.requires.0, c.requires.1, c.requires.2, c.requires.3)) (omega (arith, q.3, l.invariant.0, l.invariant.1, l.invariant.2, l.invariant.3, l.invariant.4, l.invariant.5, c.requires.0, c.requires.1, c.requires.2, c.requires.3)) q.1 in let ri = room_inside c.args.text.now c.args.from l.room l.some l.i (walked c.args.text.now l.kinds l.args c.args.from l.opens l.room l.last l.some l.n l.i l.invariant.6) q.1 in omega (arith, oi, ri, q.3, l.invariant.0, l.invariant.1, l.invariant.2, l.invariant.3, l.invariant.4, l.invariant.5, c.requires.0, c.requires.1, c.requires.2, c.requires.3)
 
 pub overflow_sub-n : goal.overflow_sub-n
 overflow_sub-n c =
@@ -185,10 +49,6 @@ overflow_sub-n c =
 
 pub overflow_sub-n-in-Close : goal.overflow_sub-n-in-Close
 overflow_sub-n-in-Close c =
-    let l = c.loop-last in let q = rw c.in-Close.is at c.allowed.ensures in let oi = open_inside c.args.text.now l.kinds l.args c.args.from l.opens l.room l.last l.some l.n l.i l.invariant.6 (omega (arith, q.3, l.invariant.0, l.invariant.1, l.invariant.2, l.invariant.3, l.invariant.4, l.invariant.5, c.requires.0, c.requires.1, c.requires.2, c.requires.3)) (omega (arith, q.3, l.invariant.0, l.invariant.1, l.invariant.2, l.invariant.3, l.invariant.4, l.invariant.5, c.requires.0, c.requires.1, c.requires.2, c.requires.3)) q.1 in let ri = room_inside c.args.text.now c.args.from l.room l.some l.i (walked c.args.text.now l.kinds l.args c.args.from l.opens l.room l.last l.some l.n l.i l.invariant.6) q.1 in omega (arith, oi, ri, q.3, l.invariant.0, l.invariant.1, l.invariant.2, l.invariant.3, l.invariant.4, l.invariant.5, c.requires.0, c.requires.1, c.requires.2, c.requires.3)
-
-pub narrow-requires-in-Close : goal.narrow-requires-in-Close
-narrow-requires-in-Close c =
     let l = c.loop-last in let q = rw c.in-Close.is at c.allowed.ensures in let oi = open_inside c.args.text.now l.kinds l.args c.args.from l.opens l.room l.last l.some l.n l.i l.invariant.6 (omega (arith, q.3, l.invariant.0, l.invariant.1, l.invariant.2, l.invariant.3, l.invariant.4, l.invariant.5, c.requires.0, c.requires.1, c.requires.2, c.requires.3)) (omega (arith, q.3, l.invariant.0, l.invariant.1, l.invariant.2, l.invariant.3, l.invariant.4, l.invariant.5, c.requires.0, c.requires.1, c.requires.2, c.requires.3)) q.1 in let ri = room_inside c.args.text.now c.args.from l.room l.some l.i (walked c.args.text.now l.kinds l.args c.args.from l.opens l.room l.last l.some l.n l.i l.invariant.6) q.1 in omega (arith, oi, ri, q.3, l.invariant.0, l.invariant.1, l.invariant.2, l.invariant.3, l.invariant.4, l.invariant.5, c.requires.0, c.requires.1, c.requires.2, c.requires.3)
 
 pub offset_bounds-args-last : goal.offset_bounds-args-last
@@ -199,53 +59,13 @@ pub bounds-args-last : goal.bounds-args-last
 bounds-args-last c =
     let l = c.loop-last in let q = rw c.in-Close.is at c.allowed.ensures in let oi = open_inside c.args.text.now l.kinds l.args c.args.from l.opens l.room l.last l.some l.n l.i l.invariant.6 (omega (arith, q.3, l.invariant.0, l.invariant.1, l.invariant.2, l.invariant.3, l.invariant.4, l.invariant.5, c.requires.0, c.requires.1, c.requires.2, c.requires.3)) (omega (arith, q.3, l.invariant.0, l.invariant.1, l.invariant.2, l.invariant.3, l.invariant.4, l.invariant.5, c.requires.0, c.requires.1, c.requires.2, c.requires.3)) q.1 in let ri = room_inside c.args.text.now c.args.from l.room l.some l.i (walked c.args.text.now l.kinds l.args c.args.from l.opens l.room l.last l.some l.n l.i l.invariant.6) q.1 in omega (arith, oi, ri, q.3, l.invariant.0, l.invariant.1, l.invariant.2, l.invariant.3, l.invariant.4, l.invariant.5, c.requires.0, c.requires.1, c.requires.2, c.requires.3)
 
-pub bounds-kinds-n-in-Close : goal.bounds-kinds-n-in-Close
-bounds-kinds-n-in-Close c =
-    let l = c.loop-last in let q = rw c.in-Close.is at c.allowed.ensures in omega (arith, q.3, l.invariant.0, l.invariant.1, l.invariant.2, l.invariant.3, l.invariant.4, l.invariant.5, c.requires.0, c.requires.1, c.requires.2, c.requires.3)
-
-pub offset_bounds-args-n-in-Close : goal.offset_bounds-args-n-in-Close
-offset_bounds-args-n-in-Close c =
-    let l = c.loop-last in let q = rw c.in-Close.is at c.allowed.ensures in omega (arith, q.3, l.invariant.0, l.invariant.1, l.invariant.2, l.invariant.3, l.invariant.4, l.invariant.5, c.requires.0, c.requires.1, c.requires.2, c.requires.3)
-
-pub bounds-args-n-in-Close : goal.bounds-args-n-in-Close
-bounds-args-n-in-Close c =
-    let l = c.loop-last in let q = rw c.in-Close.is at c.allowed.ensures in simp length-set (omega (arith, q.3, l.invariant.0, l.invariant.1, l.invariant.2, l.invariant.3, l.invariant.4, l.invariant.5, c.requires.0, c.requires.1, c.requires.2, c.requires.3))
-
-pub overflow_add-room : goal.overflow_add-room
-overflow_add-room c =
-    let l = c.loop-last in let q = rw c.in-Close.is at c.allowed.ensures in let oi = open_inside c.args.text.now l.kinds l.args c.args.from l.opens l.room l.last l.some l.n l.i l.invariant.6 (omega (arith, q.3, l.invariant.0, l.invariant.1, l.invariant.2, l.invariant.3, l.invariant.4, l.invariant.5, c.requires.0, c.requires.1, c.requires.2, c.requires.3)) (omega (arith, q.3, l.invariant.0, l.invariant.1, l.invariant.2, l.invariant.3, l.invariant.4, l.invariant.5, c.requires.0, c.requires.1, c.requires.2, c.requires.3)) q.1 in let ri = room_inside c.args.text.now c.args.from l.room l.some l.i (walked c.args.text.now l.kinds l.args c.args.from l.opens l.room l.last l.some l.n l.i l.invariant.6) q.1 in omega (arith, oi, ri, q.3, l.invariant.0, l.invariant.1, l.invariant.2, l.invariant.3, l.invariant.4, l.invariant.5, c.requires.0, c.requires.1, c.requires.2, c.requires.3)
-
-pub overflow_add-n-in-Close : goal.overflow_add-n-in-Close
-overflow_add-n-in-Close c =
-    let l = c.loop-last in let q = rw c.in-Close.is at c.allowed.ensures in omega (arith, q.3, l.invariant.0, l.invariant.1, l.invariant.2, l.invariant.3, l.invariant.4, l.invariant.5, c.requires.0, c.requires.1, c.requires.2, c.requires.3)
-
-pub overflow_add-i-in-Close : goal.overflow_add-i-in-Close
-overflow_add-i-in-Close c =
-    let l = c.loop-last in let q = rw c.in-Close.is at c.allowed.ensures in omega (arith, q.3, l.invariant.0, l.invariant.1, l.invariant.2, l.invariant.3, l.invariant.4, l.invariant.5, c.requires.0, c.requires.1, c.requires.2, c.requires.3)
-
-pub loop-last-smaller : goal.loop-last-smaller
-loop-last-smaller c =
-    let l = c.loop-last in let q = rw c.in-Close.is at c.allowed.ensures in omega (arith, q.3, l.invariant.0, l.invariant.1, l.invariant.2, l.invariant.3, l.invariant.4, l.invariant.5, c.requires.0, c.requires.1, c.requires.2, c.requires.3)
-
 pub loop-last-preserved : goal.loop-last-preserved
 loop-last-preserved c =
     let l = c.loop-last in let q = rw c.in-Close.is at c.allowed.ensures in let oi = open_inside c.args.text.now l.kinds l.args c.args.from l.opens l.room l.last l.some l.n l.i l.invariant.6 (omega (arith, q.3, l.invariant.0, l.invariant.1, l.invariant.2, l.invariant.3, l.invariant.4, l.invariant.5, c.requires.0, c.requires.1, c.requires.2, c.requires.3)) (omega (arith, q.3, l.invariant.0, l.invariant.1, l.invariant.2, l.invariant.3, l.invariant.4, l.invariant.5, c.requires.0, c.requires.1, c.requires.2, c.requires.3)) q.1 in let ri = room_inside c.args.text.now c.args.from l.room l.some l.i (walked c.args.text.now l.kinds l.args c.args.from l.opens l.room l.last l.some l.n l.i l.invariant.6) q.1 in (omega (arith, q.3, l.invariant.0, l.invariant.1, l.invariant.2, l.invariant.3, l.invariant.4, l.invariant.5, c.requires.0, c.requires.1, c.requires.2, c.requires.3), omega (arith, q.3, l.invariant.0, l.invariant.1, l.invariant.2, l.invariant.3, l.invariant.4, l.invariant.5, c.requires.0, c.requires.1, c.requires.2, c.requires.3), simp length-set l.invariant.2, simp length-set l.invariant.3, l.invariant.4, omega (arith, oi, ri, q.3, l.invariant.0, l.invariant.1, l.invariant.2, l.invariant.3, l.invariant.4, l.invariant.5, c.requires.0, c.requires.1, c.requires.2, c.requires.3), close_turn c.args.text.now l.kinds l.args c.args.from l.opens l.room l.last l.some l.n l.i l.invariant.6 (omega (arith, q.3, l.invariant.0, l.invariant.1, l.invariant.2, l.invariant.3, l.invariant.4, l.invariant.5, c.requires.0, c.requires.1, c.requires.2, c.requires.3)) (omega (arith, q.3, l.invariant.0, l.invariant.1, l.invariant.2, l.invariant.3, l.invariant.4, l.invariant.5, c.requires.0, c.requires.1, c.requires.2, c.requires.3)) (get_or l.opens l.room 0) c.narrow-in-Close.result refl c.narrow-in-Close.ensures q.0 q.1 q.2)
 
-pub shape_of-kinds-in-Stop : goal.shape_of-kinds-in-Stop
-shape_of-kinds-in-Stop c = let l = c.loop-last in l.invariant.2
-
-pub shape_of-args-in-Stop : goal.shape_of-args-in-Stop
-shape_of-args-in-Stop c = let l = c.loop-last in l.invariant.3
-
 pub returns-in-Stop : goal.returns-in-Stop
 returns-in-Stop c =
     let l = c.loop-last in let q = rw c.in-Stop.is at c.allowed.ensures in let f = finish c.args.text.now l.kinds l.args c.args.from l.opens l.room l.last l.some l.n l.i l.invariant.6 q.0 q.1 in (omega (arith, l.invariant.0), l.invariant.1, (f.0, f.1, f.2, (omega (arith, l.invariant.0, l.invariant.1), f.3)))
-
-pub shape_of-kinds-in-Bad : goal.shape_of-kinds-in-Bad
-shape_of-kinds-in-Bad c = let l = c.loop-last in l.invariant.2
-
-pub shape_of-args-in-Bad : goal.shape_of-args-in-Bad
-shape_of-args-in-Bad c = let l = c.loop-last in l.invariant.3
 
 pub returns-in-Bad : goal.returns-in-Bad
 returns-in-Bad c =

@@ -7,73 +7,25 @@ use Rattle.regexp.proofs.branch_end.Goals as goal
 pub loop-some-init : goal.loop-some-init
 loop-some-init c = (omega arith, c.requires, omega arith, walk_start c.args.text.now c.args.from)
 
-pub overflow_add-i : goal.overflow_add-i
-overflow_add-i c =
-    let l = c.loop-some in record { fits = omega (arith, easy_inside c.args.text.now l.i l.some (sym c.easy.ensures ∙ c.if-easy.true)) }
-
-pub loop-some-smaller-then-easy : goal.loop-some-smaller-then-easy
-loop-some-smaller-then-easy c =
-    let l = c.loop-some in omega (arith, easy_inside c.args.text.now l.i l.some (sym c.easy.ensures ∙ c.if-easy.true))
-
 pub loop-some-preserved-then-easy : goal.loop-some-preserved-then-easy
 loop-some-preserved-then-easy c =
     let l = c.loop-some in let e = sym c.easy.ensures ∙ c.if-easy.true in let h = easy_inside c.args.text.now l.i l.some e in (omega (arith, l.invariant.0), omega (arith, h), l.invariant.2, easy_walk c.args.text.now l.i l.some c.args.from l.room l.invariant.3 e)
-
-pub loop-some-smaller-in-Item : goal.loop-some-smaller-in-Item
-loop-some-smaller-in-Item c =
-    let l = c.loop-some in let q = rw c.in-Item.is at c.allowed.ensures in omega (arith, q.3, q.4, l.invariant.0, l.invariant.1, l.invariant.2)
 
 pub loop-some-preserved-in-Item : goal.loop-some-preserved-in-Item
 loop-some-preserved-in-Item c =
     let l = c.loop-some in let q = rw c.in-Item.is at c.allowed.ensures in (omega (arith, q.3, l.invariant.0, l.invariant.1, l.invariant.2), q.4, l.invariant.2, item_walk c.args.text.now c.args.from l.room l.some l.i l.invariant.3 q.0.0 c.in-Item.j q.0.1)
 
-pub overflow_add-i-in-Repeat : goal.overflow_add-i-in-Repeat
-overflow_add-i-in-Repeat c = let q = rw c.in-Repeat.is at c.allowed.ensures in record { fits = omega (arith, q.2) }
-
-pub loop-some-smaller-in-Repeat : goal.loop-some-smaller-in-Repeat
-loop-some-smaller-in-Repeat c =
-    let l = c.loop-some in let q = rw c.in-Repeat.is at c.allowed.ensures in omega (arith, q.2, l.invariant.0, l.invariant.1, l.invariant.2)
-
 pub loop-some-preserved-in-Repeat : goal.loop-some-preserved-in-Repeat
 loop-some-preserved-in-Repeat c =
     let l = c.loop-some in let q = rw c.in-Repeat.is at c.allowed.ensures in (omega (arith, l.invariant.0, l.invariant.1, l.invariant.2), omega (arith, q.2), l.invariant.2, repeat_walk c.args.text.now c.args.from l.room l.some l.i l.invariant.3 q.0.0 q.0.1 q.1)
-
-pub overflow_sub-room : goal.overflow_sub-room
-overflow_sub-room c = let q = rw c.in-Open.is at c.allowed.ensures in omega (arith, q.1)
-
-pub overflow_add-i-in-Open : goal.overflow_add-i-in-Open
-overflow_add-i-in-Open c = let q = rw c.in-Open.is at c.allowed.ensures in record { fits = omega (arith, q.2) }
-
-pub loop-some-smaller-in-Open : goal.loop-some-smaller-in-Open
-loop-some-smaller-in-Open c =
-    let l = c.loop-some in let q = rw c.in-Open.is at c.allowed.ensures in omega (arith, q.2, l.invariant.0, l.invariant.1, l.invariant.2)
 
 pub loop-some-preserved-in-Open : goal.loop-some-preserved-in-Open
 loop-some-preserved-in-Open c =
     let l = c.loop-some in let q = rw c.in-Open.is at c.allowed.ensures in (omega (arith, l.invariant.0, l.invariant.1, l.invariant.2), omega (arith, q.2), omega (arith, l.invariant.0, l.invariant.1, l.invariant.2), open_walk c.args.text.now c.args.from l.room l.some l.i l.invariant.3 q.0 q.1)
 
-pub overflow_add-i-in-Bar : goal.overflow_add-i-in-Bar
-overflow_add-i-in-Bar c = let q = rw c.in-Bar.is at c.allowed.ensures in record { fits = omega (arith, q.3) }
-
-pub loop-some-smaller-in-Bar : goal.loop-some-smaller-in-Bar
-loop-some-smaller-in-Bar c =
-    let l = c.loop-some in let q = rw c.in-Bar.is at c.allowed.ensures in omega (arith, q.3, l.invariant.0, l.invariant.1, l.invariant.2)
-
 pub loop-some-preserved-in-Bar : goal.loop-some-preserved-in-Bar
 loop-some-preserved-in-Bar c =
     let l = c.loop-some in let q = rw c.in-Bar.is at c.allowed.ensures in (omega (arith, l.invariant.0, l.invariant.1, l.invariant.2), omega (arith, q.3), l.invariant.2, bar_walk c.args.text.now c.args.from l.room l.some l.i l.invariant.3 q.0 q.1 q.2)
-
-pub overflow_add-room : goal.overflow_add-room
-overflow_add-room c =
-    let l = c.loop-some in let q = rw c.in-Close.is at c.allowed.ensures in record { fits = omega (arith, room_inside c.args.text.now c.args.from l.room l.some l.i l.invariant.3 q.1) }
-
-pub overflow_add-i-in-Close : goal.overflow_add-i-in-Close
-overflow_add-i-in-Close c =
-    let q = rw c.in-Close.is at c.allowed.ensures in record { fits = omega (arith, q.3) }
-
-pub loop-some-smaller : goal.loop-some-smaller
-loop-some-smaller c =
-    let l = c.loop-some in let q = rw c.in-Close.is at c.allowed.ensures in omega (arith, q.3, l.invariant.0, l.invariant.1, l.invariant.2)
 
 pub loop-some-preserved : goal.loop-some-preserved
 loop-some-preserved c =

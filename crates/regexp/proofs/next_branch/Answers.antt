@@ -1,12 +1,6 @@
 use mathlib.Core.List.{[]}
-use Rattle.regexp.proofs.Loops.{from_inside, past_hat, table_turn, table_bad}
+use Rattle.regexp.proofs.Loops.{past_hat, table_turn, table_bad}
 use Rattle.regexp.proofs.next_branch.Goals as goal
-
-pub branch-text-requires : goal.branch-text-requires
-branch-text-requires c =
-    let a = c.args in
-    let q = past_hat a.text.now a.i a.first c.hat-h.result c.from.result c.hat-h.ensures c.from.ensures in
-    let h = from_inside a.text.now a.i a.first c.requires.0 in (rw q h, c.requires.1, c.requires.2, c.requires.3)
 
 pub returns-in_err-made : goal.returns-in_err-made
 returns-in_err-made c =

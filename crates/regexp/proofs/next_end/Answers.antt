@@ -1,11 +1,5 @@
-use Rattle.regexp.proofs.Loops.{from_inside, past_hat, turn, turn_bad}
+use Rattle.regexp.proofs.Loops.{past_hat, turn, turn_bad}
 use Rattle.regexp.proofs.next_end.Goals as goal
-
-pub branch_end-requires : goal.branch_end-requires
-branch_end-requires c =
-    let a = c.args in
-    let q = past_hat a.text.now a.i a.first c.hat-h.result c.from.result c.hat-h.ensures c.from.ensures in
-    let h = from_inside a.text.now a.i a.first c.requires in rw q h
 
 pub returns-in_err-made : goal.returns-in_err-made
 returns-in_err-made c =

@@ -1,12 +1,7 @@
 use native.Mathlib.Omega.{arith}
-use lib.ListN.{length-replicate}
 use Rattle.octets.specs.Octets.{folded}
 use Rattle.regexp.proofs.Loops.{regex_short}
 use Rattle.regexp.proofs.search_in.Goals as goal
-
-pub search-requires : goal.search-requires
-search-requires g c =
-    (omega (arith, c.requires.0, c.requires.1), rw length-replicate c.requires.0, rw length-replicate c.requires.0, rw length-replicate c.requires.0)
 
 pub returns : goal.returns
 returns g c =
