@@ -1,13 +1,12 @@
--- Runs of stores: over two lists, before another store, what a copy of a part leaves, and the turns of a copy and of a move up. Assumes nothing.
+-- Runs of stores: over two lists, before another store, and what a copy of a part leaves. Assumes nothing.
 use mathlib.Core.Path.{◌≡◌, refl, sym, ap, ap₂, ◌∙◌}
 use mathlib.Core.List.{List, [], ◌∷◌, ◌++◌, append_assoc}
-use Prim.Native.Nat.{ℕ, suc, ◌+◌, ◌-◌, ◌≤◌, ◌<◌}
+use Prim.Native.Nat.{ℕ, suc, ◌+◌, ◌≤◌, ◌<◌}
 use native.Mathlib.Omega.{arith}
-use native.Mathlib.Numerals.{add-one}
 use lib.ListN.{length, get_or, set, take, drop, length-append}
 use borrow.Rule.Slice.PartMut.{put_mid}
 use Rattle.std.proofs.lemmas.Slice.{put_mid-paste}
-use lib.Seq.{paste, take-length, sets, sets-eq, set_comm, get_or-set_other, drop-cons, take_at, drop-append-add, length-take-le}
+use lib.Seq.{paste, take-length, sets, sets-eq, get_or-set_other, take_at, drop-append-add, length-take-le}
 
 pub sets_append : (xs ys l : List ℕ) (i : ℕ) → sets l i (xs ++ ys) ≡ sets (sets l i xs) (i + length xs) ys
 sets_append [] ys l i = let e : i ≡ i + 0 = omega arith in ap (λ (n : ℕ). sets l n ys) e
@@ -18,11 +17,6 @@ sets_append (x ∷ xs) ys l i =
 pub sets_before : (xs l : List ℕ) (i j : ℕ) → j < i → get_or (sets l i xs) j 0 ≡ get_or l j 0
 sets_before [] l i j h = refl
 sets_before (x ∷ xs) l i j h = sets_before xs (set l i x) (suc i) j (omega arith) ∙ get_or-set_other l i j x 0 (λ e. omega arith)
-
-set_sets : (xs l : List ℕ) (i j v : ℕ) → j < i → set (sets l i xs) j v ≡ sets (set l j v) i xs
-set_sets [] l i j v h = refl
-set_sets (x ∷ xs) l i j v h =
-    set_sets xs (set l i x) (suc i) j v (omega arith) ∙ ap (λ (t : List ℕ). sets t (suc i) xs) (set_comm l i j x v (λ e. omega arith))
 
 -- the bytes between some others are replaced
 pub sets_between : (p x y q : List ℕ) (i : ℕ) → length p ≡ i → length x ≡ length y → sets (p ++ (x ++ q)) i y ≡ p ++ (y ++ q)
@@ -47,27 +41,3 @@ paste_sets d s at n h r =
 pub put_mid_sets : (d s : List ℕ) (at k : ℕ) → k ≡ length s → at + length s ≤ length d → put_mid at k d s ≡ sets d at s
 put_mid_sets d s at k e h =
     put_mid-paste at k d s s (length s) refl (sym e) refl ∙ (paste_sets d s at (length s) (omega arith) h ∙ ap (sets d at) (take-length s))
-
--- a turn of a copy byte by byte
-pub copied_one : (d s : List ℕ) (at i : ℕ) → i < length s → sets (set d (at + i) (get_or s i 0)) (at + (i + 1)) (drop (i + 1) s) ≡ sets d (at + i) (drop i s)
-copied_one d s at i h =
-    let e : at + (i + 1) ≡ suc (at + i) = omega arith in
-    rw (e, add-one, drop-cons s i 0 h)
-
--- a turn of a move up: the byte before those that have moved
-module _ (d : List ℕ) (by end i : ℕ) (p : 0 < i) (q : i ≤ end) (r : end ≤ length d) where
-  abbrev moved : ℕ → List ℕ
-  moved j = sets d (j + by) (take (end - j) (drop j d))
-
-  pub moved_one : set (moved i) (i - 1 + by) (get_or (moved i) (i - 1) 0) ≡ moved (i - 1)
-  moved_one =
-      let k : i ≡ suc (i - 1) = omega arith in
-      let n : end - (i - 1) ≡ suc (end - i) = omega arith in
-      let m : i + by ≡ suc (i - 1 + by) = omega arith in
-      let c : drop (i - 1) d ≡ get_or d (i - 1) 0 ∷ drop i d = drop-cons d (i - 1) 0 (omega arith) ∙ ap (λ (j : ℕ). get_or d (i - 1) 0 ∷ drop j d) (sym k) in
-      let g : get_or (moved i) (i - 1) 0 ≡ get_or d (i - 1) 0 = sets_before (take (end - i) (drop i d)) d (i + by) (i - 1) (omega arith) in
-      let t : take (end - (i - 1)) (drop (i - 1) d) ≡ get_or d (i - 1) 0 ∷ take (end - i) (drop i d) = ap₂ (λ (a : ℕ) (l : List ℕ). take a l) n c in
-      ap (set (moved i) (i - 1 + by)) g
-      ∙ (set_sets (take (end - i) (drop i d)) d (i + by) (i - 1 + by) (get_or d (i - 1) 0) (omega arith)
-      ∙ (ap (λ (j : ℕ). sets (set d (i - 1 + by) (get_or d (i - 1) 0)) j (take (end - i) (drop i d))) m
-      ∙ ap (sets d (i - 1 + by)) (sym t)))

@@ -1,5 +1,5 @@
 // Two strings, eight bytes at a time, and shorter ones by bytes. Whether they are the same is told by the last eight bytes first: names with numbers differ there.
-ghost use Rattle.std.specs.Prelude.{◌≡◌, true, map, ◌⊎◌, ◌+◌, ◌≤◌, length, take, drop};
+ghost use Rattle.std.specs.Prelude.{◌≡◌, map, ◌+◌, ◌≤◌, length, take, drop};
 ghost use Rattle.word.specs.Word.{word_at, word_bytes};
 ghost use Rattle.octets.specs.Octets.{lower, folded, same_of, before_of, lead};
 
