@@ -169,7 +169,7 @@ equal_of a b = compared_by eq a b
 abbrev pub order_of : Order → Number → Number → Truth
 order_of op a b = compared_by (order_real op) a b
 
--- Inside the code: an int32's value, and 0 where there is none; the integer that a number is, and the real that it is in arithmetic with a real.
+-- Inside the code: the integer that a number is, and the real that it is in arithmetic with a real.
 abbrev pub integer_in : Number → Option ℤ
 integer_in (Int32 z) = Some z
 integer_in (Int64 z) = Some z
@@ -181,9 +181,3 @@ real_in (Int32 z) = Some (nearest_real z)
 real_in (Int64 z) = Some (nearest_real z)
 real_in (Real x) = Some x
 real_in None = Outside
-
-abbrev pub int32_of : Number → ℤ
-int32_of (Int32 z) = z
-int32_of (Int64 z) = pos 0
-int32_of (Real x) = pos 0
-int32_of None = pos 0

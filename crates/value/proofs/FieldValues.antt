@@ -1,5 +1,5 @@
 -- The value of a field of a well-formed notice: it has its kind's size, lies in the notice and is not bottom, and a number's word stands there. Assumes nothing.
-use Rattle.std.specs.Prelude.{Ok, Some, Option as Optional}
+use Rattle.std.specs.Prelude.{Ok, Some}
 use mathlib.Core.Path.{◌≡◌, refl, sym, ap, ap₂, ◌∙◌}
 use mathlib.Core.Logic.{⊎_elim}
 use mathlib.Core.Bool.{Bool, true, false, cond, ◌||◌}

@@ -1,6 +1,6 @@
 -- The theorems that specs/Theorems.antt states. Assumes nothing.
 use Rattle.std.specs.Prelude.{Option as Optional, Some, None}
-use mathlib.Core.Path.{◌≡◌, refl, sym, ap, ap₂, ◌∙◌}
+use mathlib.Core.Path.{◌≡◌, refl, sym, ap, ◌∙◌}
 use mathlib.Core.Logic.{◌⊎◌, inl, inr}
 use mathlib.Core.Bool.{Bool, true, false, cond, ◌&&◌, ◌||◌}
 use mathlib.Core.List.{List, [], ◌∷◌, ◌++◌, map}
@@ -20,7 +20,6 @@ use Rattle.truth.specs.declared.Truth.TheVariants.{False, Bottom, True}
 use Rattle.truth.specs.Truth.{or_of, xor_of, of_bool}
 use Rattle.truth.proofs.Theorems.{false_and as false-and-t, true_or as true-or-t}
 use Rattle.common.proofs.Choice.{true_false}
-use Rattle.octets.proofs.Theorems.{and_parts}
 use Rattle.utf8.specs.Utf8.{HasCharacters, WellFormed, Counts}
 use Rattle.utf8.specs.Scan.{count_of}
 use Rattle.utf8.proofs.Theorems.{one_answer, right, counted_is}
@@ -40,7 +39,7 @@ use Rattle.opcode.specs.declared.Binary.{Binary}
 use Rattle.opcode.specs.declared.Fit.{Fit}
 use Rattle.opcode.specs.declared.Many.{Many}
 use Rattle.number.specs.declared.Number.{Number}
-use Rattle.number.specs.Number.{int32_of, equal_of}
+use Rattle.number.specs.Number.{equal_of}
 use Rattle.number.proofs.Theorems.{left_none, right_none, real_bits}
 use Rattle.notice.specs.declared.FoundField.{FoundField}
 use Rattle.notice.specs.Field.{Field}
@@ -145,20 +144,6 @@ combine_bottom edition o v w e = go (which_bottom v w e)
     go : (v ≡ bottom) ⊎ (w ≡ bottom) → bottom ≡ combine_of edition o v w
     go (inl m) = rw m (sym (bottom_combine edition o w).0)
     go (inr m) = rw m (sym (bottom_combine edition o v).1)
-
--- two values that are told to be int32, compared as such
-is_int32_lem : (v : Value) → eqb (type_of v) 1 ≡ true → int32 (int32_of (number_of v)) ≡ v
-is_int32_lem bottom e = true_false (sym e)
-is_int32_lem (int32 z) e = refl
-is_int32_lem (int64 z) e = true_false (sym e)
-is_int32_lem (real x) e = true_false (sym e)
-is_int32_lem (text s) e = true_false (sym e)
-is_int32_lem (opaque s) e = true_false (sym e)
-
-pub int32_equal : (v w : Value) {m n : ℕ} → m ≡ type_of v → n ≡ type_of w → (eqb m 1 && eqb n 1) ≡ true → equal_of (Number.Int32 (int32_of (number_of v))) (Number.Int32 (int32_of (number_of w))) ≡ equal_values v w
-int32_equal v w d e h =
-    let g = and_parts (eqb (type_of v) 1) (eqb (type_of w) 1) (rw (d, e) at h) in
-    ap₂ equal_values (is_int32_lem v g.0) (is_int32_lem w g.1)
 
 pub bottom_xor : (t : Truth) → (xor_of Bottom t ≡ Bottom) × (xor_of t Bottom ≡ Bottom)
 bottom_xor True = (refl, refl)

@@ -1,12 +1,11 @@
 -- What the values of the code stand for, over the pool and the notice. "a string on the stack stands in the table's pool or in the notice, a folded one with a mark beside it"
-use Rattle.std.specs.Prelude.{ℕ, ◌%◌, ◌^◌, ◌≡◌, Bool, true, false, ◌||◌, List, eqb, take, drop}
+use Rattle.std.specs.Prelude.{ℕ, ◌%◌, ◌^◌, ◌≡◌, Bool, true, false, ◌||◌, List, eqb, take, drop, Option, Some, None}
 use Rattle.octets.specs.Octets.{folded}
 use Rattle.value.specs.declared.Origin.{Origin}
 use Rattle.value.specs.declared.Piece.{Piece}
 use Rattle.value.specs.declared.Typed.{Typed}
 use Rattle.value.specs.declared.Held.{Held}
 use Rattle.value.specs.declared.Slot.{Slot}
-use Rattle.value.specs.declared.Pair.{Pair}
 use Rattle.value.specs.Value.{Value, bottom, int32, int64, real, text, opaque, type_of, Item, logic, value, value_in}
 
 abbrev pub source_of : List ℕ → List ℕ → Origin → List ℕ
@@ -42,9 +41,9 @@ abbrev pub any_bottom : Item → Item → Bool
 any_bottom x y = eqb (type_of (value_in x)) 0 || eqb (type_of (value_in y)) 0
 
 -- what a pair says of two items: that one is bottom, or that none is and which values they are
-abbrev pub PairOf : List ℕ → List ℕ → Pair → Item → Item → Type 0
-PairOf pool notice Pair.Bottom x y = any_bottom x y ≡ true
-PairOf pool notice (Pair.Both v w) x y = (any_bottom x y ≡ false) × (typed_of pool notice v ≡ value_in x) × (typed_of pool notice w ≡ value_in y)
+abbrev pub PairOf : List ℕ → List ℕ → Option (Typed × Typed) → Item → Item → Type 0
+PairOf pool notice None x y = any_bottom x y ≡ true
+PairOf pool notice (Some p) x y = (any_bottom x y ≡ false) × (typed_of pool notice p.0 ≡ value_in x) × (typed_of pool notice p.1 ≡ value_in y)
 
 -- The pieces that the code makes: of a load from the pool, of a field of the notice, and of a folded string.
 abbrev pub pooled : ℕ → ℕ → Piece

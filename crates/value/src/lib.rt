@@ -103,35 +103,28 @@ fn value_in(s: Slot) -> Typed
     }
 }
 
-// Two operands that are values, or one of them is bottom.
-#[derive(Clone, Copy)]
-enum Pair {
-    Bottom,
-    Both(Typed, Typed),
-}
-
-// The operands of an operator on two values. Each slot is told before its value: of a value made from either kind of slot the compiler reads the type wider than it was stored, and the processor waits for the store.
-fn paired(s: Slot, t: Slot) -> Pair
+// The operands of an operator on two values, none of them bottom. Each slot is told before its value: of a value made from either kind of slot the compiler reads the type wider than it was stored, and the processor waits for the store.
+fn paired(s: Slot, t: Slot) -> Option<(Typed, Typed)>
     ensures { (p : List ℕ) → (q : List ℕ) → PairOf p q result (item_in p q s) (item_in p q t) }
 {
     let h = s.held;
     match h {
-        Held::Logic(_) => Pair::Bottom,
+        Held::Logic(_) => None,
         Held::Value(v) => paired_with(v, t),
     }
 }
 
-fn paired_with(v: Typed, t: Slot) -> Pair
+fn paired_with(v: Typed, t: Slot) -> Option<(Typed, Typed)>
     ensures { (p : List ℕ) → (q : List ℕ) → PairOf p q result (value (typed_of p q v)) (item_in p q t) }
 {
     let h = t.held;
     match h {
-        Held::Logic(_) => Pair::Bottom,
+        Held::Logic(_) => None,
         Held::Value(w) => {
             if values::any_bottom(v, w) {
-                Pair::Bottom
+                None
             } else {
-                Pair::Both(v, w)
+                Some((v, w))
             }
         }
     }
@@ -143,11 +136,7 @@ pub fn is_bottom(s: Slot) -> bool
 {
     let h = s.held;
     match h {
-        Held::Logic(t) => match t {
-            Truth::False => false,
-            Truth::Bottom => true,
-            Truth::True => false,
-        },
+        Held::Logic(t) => t == Truth::Bottom,
         Held::Value(v) => values::type_of(v) == 0,
     }
 }
@@ -161,7 +150,7 @@ pub fn not(s: Slot) -> Slot
 }
 
 // Ops 6..8.
-pub fn change<'a>(pool: &'a [u8], notice: &'a [u8], op: Change, s: Slot) -> Slot
+pub fn change(pool: &[u8], notice: &[u8], op: Change, s: Slot) -> Slot
     ensures { item_in pool.now notice.now result ≡ unary_of (Unary.Change op) (item_in pool.now notice.now s) }
 {
     valued(values::change(pool, notice, op, value_in(s)))
@@ -183,18 +172,18 @@ pub fn combine(edition: Edition, op: Combine, s: Slot, t: Slot) -> Slot
     ensures { (p : List ℕ) → (q : List ℕ) → item_in p q result ≡ binary_of edition (Binary.Combine op) (item_in p q s) (item_in p q t) }
 {
     match paired(s, t) {
-        Pair::Bottom => valued(Typed::Bottom),
-        Pair::Both(v, w) => valued(values::combine(edition, op, v, w)),
+        None => valued(Typed::Bottom),
+        Some((v, w)) => valued(values::combine(edition, op, v, w)),
     }
 }
 
 // Ops 32 and 33; `!=` is the negated one.
-pub fn equality<'a>(pool: &'a [u8], notice: &'a [u8], negated: bool, s: Slot, t: Slot) -> Slot
+pub fn equality(pool: &[u8], notice: &[u8], negated: bool, s: Slot, t: Slot) -> Slot
     ensures { (e : Edition) → item_in pool.now notice.now result ≡ binary_of e (Binary.Compare (equality_by negated)) (item_in pool.now notice.now s) (item_in pool.now notice.now t) }
 {
     match paired(s, t) {
-        Pair::Bottom => decided(Truth::Bottom), // a missing value is neither equal nor different
-        Pair::Both(v, w) => decided(values::equality(pool, notice, negated, v, w)),
+        None => decided(Truth::Bottom), // a missing value is neither equal nor different
+        Some((v, w)) => decided(values::equality(pool, notice, negated, v, w)),
     }
 }
 
@@ -203,8 +192,8 @@ pub fn ordered(op: Order, s: Slot, t: Slot) -> Slot
     ensures { (e : Edition) → (p : List ℕ) → (q : List ℕ) → item_in p q result ≡ binary_of e (Binary.Compare (Compare.Order op)) (item_in p q s) (item_in p q t) }
 {
     match paired(s, t) {
-        Pair::Bottom => decided(Truth::Bottom),
-        Pair::Both(v, w) => decided(values::ordered(op, v, w)),
+        None => decided(Truth::Bottom),
+        Some((v, w)) => decided(values::ordered(op, v, w)),
     }
 }
 
@@ -238,14 +227,7 @@ pub fn start(op: Many, first: Slot) -> Truth
 }
 
 // .. and with one more.
-pub fn more<'a>(
-    pool: &'a [u8],
-    notice: &'a [u8],
-    op: Many,
-    first: Slot,
-    known: Truth,
-    later: Slot,
-) -> Truth
+pub fn more(pool: &[u8], notice: &[u8], op: Many, first: Slot, known: Truth, later: Slot) -> Truth
     ensures { result ≡ more_of op (item_in pool.now notice.now first) known (item_in pool.now notice.now later) }
 {
     join(
@@ -260,21 +242,13 @@ pub fn is_open(op: Many, known: Truth) -> bool
     ensures { result ≡ open_of op known }
 {
     match op {
-        Many::Fit(_) => match known {
-            Truth::False => true,
-            Truth::Bottom => false,
-            Truth::True => true,
-        },
-        Many::Equals => match known {
-            Truth::False => true,
-            Truth::Bottom => true,
-            Truth::True => false,
-        },
+        Many::Fit(_) => known != Truth::Bottom,
+        Many::Equals => known != Truth::True,
     }
 }
 
 // The first operand beside a later one.
-fn beside<'a>(pool: &'a [u8], notice: &'a [u8], op: Many, v: Typed, w: Typed) -> Truth
+fn beside(pool: &[u8], notice: &[u8], op: Many, v: Typed, w: Typed) -> Truth
     ensures { result ≡ beside_of op (typed_of pool.now notice.now v) (typed_of pool.now notice.now w) }
 {
     match op {
@@ -319,9 +293,9 @@ pub fn load_text(a: u16, b: u64) -> Slot
 }
 
 // A name in two steps, so that a run looks for bottom only where no field has the name. Where its field's value lies: it asks for a notice found well-formed and the starts of its fields, and that the name lies in the pool, as the table check has found.
-pub fn find_name<'a>(
-    pool: &'a [u8],
-    notice: &'a [u8],
+pub fn find_name(
+    pool: &[u8],
+    notice: &[u8],
     starts: &[u16; 64],
     a: u16,
     b: u64,

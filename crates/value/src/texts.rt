@@ -8,18 +8,11 @@ use crate::{Origin, Piece};
 use opcode::Fit;
 
 // At most `len` bytes from `start` on, as far as the slice has them.
-pub fn part<'a>(s: &'a [u8], start: usize, len: usize) -> &'a [u8]
+pub fn part(s: &[u8], start: usize, len: usize) -> &[u8]
     ensures { result.now ≡ take len (drop start s.now) }
 {
-    let n = s.len();
-    if n <= start {
-        return &s[n..n];
-    }
-    if n - start <= len {
-        return &s[start..n];
-    }
-    let end = start + len;
-    &s[start..end]
+    let rest = &s[start.min(s.len())..];
+    &rest[..len.min(rest.len())]
 }
 
 // String fetch: a part of one of the two lent slices, chosen by the piece's origin (document 01 names this form).
@@ -36,14 +29,14 @@ pub fn fetch<'a>(pool: &'a [u8], notice: &'a [u8], p: Piece) -> &'a [u8]
 }
 
 // How many bytes a piece has.
-pub fn bytes_in<'a>(pool: &'a [u8], notice: &'a [u8], p: Piece) -> i32
+pub fn bytes_in(pool: &[u8], notice: &[u8], p: Piece) -> i32
     ensures { result ≡ pos (length (part_of pool.now notice.now p)) }
 {
     fetch(pool, notice, p).len() as i32
 }
 
 // "string with string by bytes"
-pub fn same_text<'a>(pool: &'a [u8], notice: &'a [u8], p: Piece, q: Piece) -> bool
+pub fn same_text(pool: &[u8], notice: &[u8], p: Piece, q: Piece) -> bool
     ensures { result ≡ same_of (text_of pool.now notice.now p) (text_of pool.now notice.now q) }
 {
     let s = fetch(pool, notice, p);
@@ -52,7 +45,7 @@ pub fn same_text<'a>(pool: &'a [u8], notice: &'a [u8], p: Piece, q: Piece) -> bo
 }
 
 // Whether a literal fits.
-pub fn fits<'a>(pool: &'a [u8], notice: &'a [u8], op: Fit, p: Piece, q: Piece) -> bool
+pub fn fits(pool: &[u8], notice: &[u8], op: Fit, p: Piece, q: Piece) -> bool
     ensures { result ≡ fit_of op (text_of pool.now notice.now p) (text_of pool.now notice.now q) }
 {
     let s = fetch(pool, notice, p);

@@ -4,9 +4,8 @@ ghost use Rattle.truth.specs.declared.Truth.TheVariants.{False, Bottom};
 ghost use Rattle.utf8.specs.Scan.{count_of};
 ghost use Rattle.opcode.specs.Groups.{equality_by};
 ghost use Rattle.opcode.specs.declared.Compare.{Compare};
-ghost use Rattle.number.specs.Number.{int32_of};
-ghost use Rattle.value.specs.Value.{number_of, value_of, type_of, is_text, text_in, fold_case_of, size_by, size_of, change_of, if_present, type_test, nan_of, test_of, combine_numbers, combine_of, equal_values, compare_of, fit_values, strict_or};
-ghost use Rattle.value.specs.Held.{pooled, folded_piece, text_of, typed_of};
+ghost use Rattle.value.specs.Value.{number_of, value_of, type_of, is_text, fold_case_of, size_by, size_of, change_of, if_present, type_test, nan_of, test_of, combine_numbers, combine_of, equal_values, compare_of, fit_values, strict_or};
+ghost use Rattle.value.specs.Held.{folded_piece, text_of, typed_of};
 
 use crate::{Origin, Piece, Typed, texts};
 use number::Number;
@@ -14,27 +13,30 @@ use opcode::{Change, Combine, Edition, Fit, Order, Test};
 use truth::Truth;
 
 // The number that a value is, and the value that a number is.
-fn number_of(v: Typed) -> Number
-    ensures { (p : List ℕ) → (q : List ℕ) → result ≡ number_of (typed_of p q v) }
-{
-    match v {
-        Typed::Bottom => Number::None,
-        Typed::Int32(x) => Number::Int32(x),
-        Typed::Int64(x) => Number::Int64(x),
-        Typed::Real(x) => Number::Real(x),
-        Typed::Text(_) => Number::None,
-        Typed::Opaque(_) => Number::None,
+impl From<Typed> for Number {
+    ghost from_gives = { λ v n. (p : List ℕ) → (q : List ℕ) → n ≡ number_of (typed_of p q v) };
+
+    fn from(v: Typed) -> Number {
+        match v {
+            Typed::Bottom => Number::None,
+            Typed::Int32(x) => Number::Int32(x),
+            Typed::Int64(x) => Number::Int64(x),
+            Typed::Real(x) => Number::Real(x),
+            Typed::Text(_) | Typed::Opaque(_) => Number::None,
+        }
     }
 }
 
-fn value_of(n: Number) -> Typed
-    ensures { (p : List ℕ) → (q : List ℕ) → typed_of p q result ≡ value_of n }
-{
-    match n {
-        Number::Int32(x) => Typed::Int32(x),
-        Number::Int64(x) => Typed::Int64(x),
-        Number::Real(x) => Typed::Real(x),
-        Number::None => Typed::Bottom,
+impl From<Number> for Typed {
+    ghost from_gives = { λ n v. (p : List ℕ) → (q : List ℕ) → typed_of p q v ≡ value_of n };
+
+    fn from(n: Number) -> Typed {
+        match n {
+            Number::Int32(x) => Typed::Int32(x),
+            Number::Int64(x) => Typed::Int64(x),
+            Number::Real(x) => Typed::Real(x),
+            Number::None => Typed::Bottom,
+        }
     }
 }
 
@@ -49,37 +51,6 @@ pub fn type_of(v: Typed) -> u8
         Typed::Real(_) => 3,
         Typed::Text(_) => 4,
         Typed::Opaque(_) => 5,
-    }
-}
-
-fn is_text(v: Typed) -> bool
-    ensures { (p : List ℕ) → (q : List ℕ) → result ≡ is_text (typed_of p q v) }
-{
-    type_of(v) == 4
-}
-
-// The piece of a text, and an empty one of what is no text.
-fn text_in(v: Typed) -> Piece
-    ensures { (p : List ℕ) → (q : List ℕ) → text_of p q result ≡ text_in (typed_of p q v) }
-{
-    match v {
-        Typed::Bottom => no_text(),
-        Typed::Int32(_) => no_text(),
-        Typed::Int64(_) => no_text(),
-        Typed::Real(_) => no_text(),
-        Typed::Text(p) => p,
-        Typed::Opaque(_) => no_text(),
-    }
-}
-
-fn no_text() -> Piece
-    ensures { result ≡ pooled 0 0 }
-{
-    Piece {
-        origin: Origin::Pool,
-        start: 0,
-        len: 0,
-        folded: false,
     }
 }
 
@@ -100,17 +71,13 @@ fn fold_case(v: Typed) -> Typed
     ensures { (p : List ℕ) → (q : List ℕ) → typed_of p q result ≡ fold_case_of (typed_of p q v) }
 {
     match v {
-        Typed::Bottom => Typed::Bottom,
-        Typed::Int32(_) => Typed::Bottom,
-        Typed::Int64(_) => Typed::Bottom,
-        Typed::Real(_) => Typed::Bottom,
         Typed::Text(p) => Typed::Text(fold_piece(p)),
-        Typed::Opaque(_) => Typed::Bottom,
+        _ => Typed::Bottom,
     }
 }
 
 // How many characters a text has: as many as the bytes that it is read from, which its mark does not change.
-fn text_size<'a>(pool: &'a [u8], notice: &'a [u8], p: Piece) -> Typed
+fn text_size(pool: &[u8], notice: &[u8], p: Piece) -> Typed
     ensures { typed_of pool.now notice.now result ≡ size_by (count_of (text_of pool.now notice.now p)) }
 {
     let s = texts::fetch(pool, notice, p);
@@ -121,27 +88,24 @@ fn text_size<'a>(pool: &'a [u8], notice: &'a [u8], p: Piece) -> Typed
 }
 
 // `size`
-fn size<'a>(pool: &'a [u8], notice: &'a [u8], v: Typed) -> Typed
+fn size(pool: &[u8], notice: &[u8], v: Typed) -> Typed
     ensures { typed_of pool.now notice.now result ≡ size_of (typed_of pool.now notice.now v) }
 {
     match v {
-        Typed::Bottom => Typed::Bottom,
-        Typed::Int32(_) => Typed::Bottom,
-        Typed::Int64(_) => Typed::Bottom,
-        Typed::Real(_) => Typed::Bottom,
         Typed::Text(p) => text_size(pool, notice, p),
         Typed::Opaque(p) => Typed::Int32(texts::bytes_in(pool, notice, p)),
+        _ => Typed::Bottom,
     }
 }
 
 // `fold-case size ~`
-pub fn change<'a>(pool: &'a [u8], notice: &'a [u8], op: Change, v: Typed) -> Typed
+pub fn change(pool: &[u8], notice: &[u8], op: Change, v: Typed) -> Typed
     ensures { typed_of pool.now notice.now result ≡ change_of op (typed_of pool.now notice.now v) }
 {
     match op {
         Change::FoldCase => fold_case(v),
         Change::Size => size(pool, notice, v),
-        Change::Complement => value_of(number::complement(number_of(v))),
+        Change::Complement => Typed::from(number::complement(Number::from(v))),
     }
 }
 
@@ -164,11 +128,8 @@ fn nan(v: Typed) -> Truth
 {
     match v {
         Typed::Bottom => Truth::Bottom,
-        Typed::Int32(_) => Truth::False,
-        Typed::Int64(_) => Truth::False,
         Typed::Real(x) => Truth::from(number::is_nan(x)),
-        Typed::Text(_) => Truth::False,
-        Typed::Opaque(_) => Truth::False,
+        _ => Truth::False,
     }
 }
 
@@ -208,48 +169,34 @@ pub fn any_bottom(v: Typed, w: Typed) -> bool
 pub fn combine(edition: Edition, op: Combine, v: Typed, w: Typed) -> Typed
     ensures { (p : List ℕ) → (q : List ℕ) → typed_of p q result ≡ combine_of edition op (typed_of p q v) (typed_of p q w) }
 {
-    value_of(combine_numbers(edition, op, number_of(v), number_of(w)))
-}
-
-// The int32 that a value is, and 0 of what is none.
-fn int32_in(v: Typed) -> i32
-    ensures { (p : List ℕ) → (q : List ℕ) → result ≡ int32_of (number_of (typed_of p q v)) }
-{
-    match v {
-        Typed::Bottom => 0,
-        Typed::Int32(x) => x,
-        Typed::Int64(_) => 0,
-        Typed::Real(_) => 0,
-        Typed::Text(_) => 0,
-        Typed::Opaque(_) => 0,
-    }
+    Typed::from(combine_numbers(edition, op, Number::from(v), Number::from(w)))
 }
 
 // `==`: "string with string by bytes, number with number; otherwise bottom". Two int32 are told first, and compared as they stand.
-fn equal<'a>(pool: &'a [u8], notice: &'a [u8], v: Typed, w: Typed) -> Truth
+fn equal(pool: &[u8], notice: &[u8], v: Typed, w: Typed) -> Truth
     ensures { result ≡ equal_values (typed_of pool.now notice.now v) (typed_of pool.now notice.now w) }
 {
-    if (type_of(v) == 1) & (type_of(w) == 1) {
-        return number::equal_int32(int32_in(v), int32_in(w));
+    if let (Typed::Int32(x), Typed::Int32(y)) = (v, w) {
+        return number::equal_int32(x, y);
     }
-    if is_text(v) & is_text(w) {
-        return Truth::from(texts::same_text(pool, notice, text_in(v), text_in(w)));
+    if let (Typed::Text(a), Typed::Text(b)) = (v, w) {
+        return Truth::from(texts::same_text(pool, notice, a, b));
     }
-    number::equal(number_of(v), number_of(w))
+    number::equal(Number::from(v), Number::from(w))
 }
 
 // The same for `equals`. `equality` calls `equal` at one place and nothing else does, so that the compiler lays it into the run's loop: operands that pass through memory take a quarter of a run.
-pub fn equals<'a>(pool: &'a [u8], notice: &'a [u8], v: Typed, w: Typed) -> Truth
+pub fn equals(pool: &[u8], notice: &[u8], v: Typed, w: Typed) -> Truth
     ensures { result ≡ equal_values (typed_of pool.now notice.now v) (typed_of pool.now notice.now w) }
 {
-    if is_text(v) & is_text(w) {
-        return Truth::from(texts::same_text(pool, notice, text_in(v), text_in(w)));
+    if let (Typed::Text(a), Typed::Text(b)) = (v, w) {
+        return Truth::from(texts::same_text(pool, notice, a, b));
     }
-    number::equal(number_of(v), number_of(w))
+    number::equal(Number::from(v), Number::from(w))
 }
 
 // `==`, and `!=` where it is negated.
-pub fn equality<'a>(pool: &'a [u8], notice: &'a [u8], negated: bool, v: Typed, w: Typed) -> Truth
+pub fn equality(pool: &[u8], notice: &[u8], negated: bool, v: Typed, w: Typed) -> Truth
     ensures { result ≡ compare_of (equality_by negated) (typed_of pool.now notice.now v) (typed_of pool.now notice.now w) }
 {
     let t = equal(pool, notice, v, w);
@@ -260,40 +207,35 @@ pub fn equality<'a>(pool: &'a [u8], notice: &'a [u8], negated: bool, v: Typed, w
 pub fn ordered(op: Order, v: Typed, w: Typed) -> Truth
     ensures { (p : List ℕ) → (q : List ℕ) → result ≡ compare_of (Compare.Order op) (typed_of p q v) (typed_of p q w) }
 {
-    number::order(op, number_of(v), number_of(w))
+    number::order(op, Number::from(v), Number::from(w))
 }
 
 // Ops 56..58, 60 and 61: what is known before any literal, and what one literal says.
 pub fn start_fit(v: Typed) -> Truth
     ensures { (p : List ℕ) → (q : List ℕ) → result ≡ cond (is_text (typed_of p q v)) False Bottom }
 {
-    if is_text(v) {
-        Truth::False
-    } else {
-        Truth::Bottom
+    match v {
+        Typed::Text(_) => Truth::False,
+        _ => Truth::Bottom,
     }
 }
 
-pub fn fit<'a>(pool: &'a [u8], notice: &'a [u8], op: Fit, v: Typed, w: Typed) -> Truth
+pub fn fit(pool: &[u8], notice: &[u8], op: Fit, v: Typed, w: Typed) -> Truth
     ensures { result ≡ fit_values op (typed_of pool.now notice.now v) (typed_of pool.now notice.now w) }
 {
-    if is_text(v) & is_text(w) {
-        return Truth::from(texts::fits(pool, notice, op, text_in(v), text_in(w)));
+    match (v, w) {
+        (Typed::Text(a), Typed::Text(b)) => Truth::from(texts::fits(pool, notice, op, a, b)),
+        _ => Truth::Bottom,
     }
-    Truth::Bottom
 }
 
 // `||` of two that are known, else bottom.
 pub fn strict_or(s: Truth, t: Truth) -> Truth
     ensures { result ≡ strict_or s t }
 {
-    match s {
-        Truth::Bottom => Truth::Bottom,
-        Truth::False => t,
-        Truth::True => match t {
-            Truth::Bottom => Truth::Bottom,
-            Truth::False => Truth::True,
-            Truth::True => Truth::True,
-        },
+    if s == Truth::Bottom || t == Truth::Bottom {
+        Truth::Bottom
+    } else {
+        truth::or(s, t)
     }
 }

@@ -177,8 +177,12 @@ fn main(rt: HostRuntime) -> io::Result<()> {
     let mut notice = [0u8; 2048];
     let m = cases::next_part(&mut from, &mut pool)?.unwrap_or(0);
     let n = cases::next_part(&mut from, &mut notice)?.unwrap_or(0);
-    cases::all(&mut from, &mut to, |from, to| {
-        next_case(from, to, &pool[..m], &notice[..n])
-    })?;
+    let pool = &pool[..m];
+    let notice = &notice[..n];
+    cases::all(
+        &mut from,
+        &mut to,
+        |from, to| next_case(from, to, pool, notice),
+    )?;
     to.flush()
 }

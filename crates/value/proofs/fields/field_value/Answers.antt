@@ -1,10 +1,9 @@
 use mathlib.Core.Path.{◌≡◌, ap, ◌∙◌}
-use native.Mathlib.Omega.{arith}
 use lib.Ieee.{binary64, of_bits}
 use mir.Syntax.{w32, w64}
 use mir.Val.{to_z}
 use mir.ValLaws.{to_z-of_z}
-use borrow.Author.Tests.{ne_eqb, eqb-true}
+use borrow.Author.Tests.{eqb-true}
 use Prim.Native.Nat.{ℕ}
 use mathlib.Core.Bool.{true}
 use Rattle.notice.specs.Field.{size_right}
@@ -23,15 +22,6 @@ eight kind len h e = eqb-true len 8 (rw e at h)
 
 eight_real : (kind len : ℕ) → size_right kind len ≡ true → kind ≡ 3 → len ≡ 8
 eight_real kind len h e = eqb-true len 8 (rw e at h)
-
-pub read_u32-requires : goal.read_u32-requires
-read_u32-requires c = let l = four c.args.kind c.args.len c.requires.0 c.in-1.is in let p = c.requires.1 in omega arith
-
-pub read_u64-requires : goal.read_u64-requires
-read_u64-requires c = let l = eight c.args.kind c.args.len c.requires.0 c.in-2.is in let p = c.requires.1 in omega arith
-
-pub read_u64-requires-in-3 : goal.read_u64-requires-in-3
-read_u64-requires-in-3 c = let l = eight_real c.args.kind c.args.len c.requires.0 c.in-3.is in let p = c.requires.1 in omega arith
 
 pub returns-in-1 : goal.returns-in-1
 returns-in-1 c =
@@ -53,11 +43,3 @@ returns-in-3 c =
 
 pub returns-in-4 : goal.returns-in-4
 returns-in-4 c = λ p. rw (c.in-4.is, c.in_notice.ensures) (ap text (not_folded _))
-
-pub returns-in-5 : goal.returns-in-5
-returns-in-5 c = λ p. rw (c.in-5.is, c.in_notice-in-5.ensures)
-
-pub returns-in_default : goal.returns-in_default
-returns-in_default c =
-    λ p. let k = c.args.kind in
-    rw (ne_eqb k 1 (search rules), ne_eqb k 2 (search rules), ne_eqb k 3 (search rules), ne_eqb k 4 (search rules), ne_eqb k 5 (search rules))

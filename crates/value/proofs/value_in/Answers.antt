@@ -1,7 +1,0 @@
-use Rattle.value.proofs.value_in.Goals as goal
-
-pub returns-in-Logic : goal.returns-in-Logic
-returns-in-Logic c = λ p q. rw c.in-Logic.is
-
-pub returns-in-Value : goal.returns-in-Value
-returns-in-Value c = λ p q. rw c.in-Value.is
