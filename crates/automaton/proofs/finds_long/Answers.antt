@@ -1,7 +1,6 @@
 use Prim.Native.Nat.{ℕ}
 use mathlib.Core.Path.{sym, ap, ◌∙◌}
 use mathlib.Core.Bool.{false}
-use native.Mathlib.Omega.{arith}
 use lib.ListN.{length, replicate}
 use Rattle.octets.specs.Octets.{fold}
 use Rattle.automaton.specs.Table.{tokens_of}
@@ -15,17 +14,6 @@ returns-then-ef-l c =
     let n = length a.kinds.now in
     let e = (c.fill.ensures.after (λ y h. h)) ∙ ap (λ (m : ℕ). replicate m false) c.requires.2 in
     long_seen (tokens_of a.text.now a.kinds.now a.args.now) n a.sf a.ef (fold a.mark) a.value.now a.from _ _ c.shift-l.result e c.shift-l.ensures c.requires.3 c.if-ef-l.true
-
-pub lead-x-requires : goal.lead-x-requires
-lead-x-requires c =
-    (c.requires.0, c.requires.1, c.marks-2-1.given ∙ c.marks-1.given ∙ c.requires.2)
-
-pub overflow_add-from : goal.overflow_add-from
-overflow_add-from c = record { fits = omega (arith, c.well_formed, c.requires.3) }
-
-pub walk_told-requires : goal.walk_told-requires
-walk_told-requires c =
-    (c.requires.0, c.requires.1, c.marks-3-1.given ∙ c.marks-2-1.given ∙ c.marks-1.given ∙ c.requires.2, c.plain-single.ensures, omega (arith, c.requires.3))
 
 pub returns : goal.returns
 returns c =

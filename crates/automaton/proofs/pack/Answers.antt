@@ -4,15 +4,10 @@ use Prim.Native.Nat.{◌+◌}
 use mathlib.Core.Path.{◌≡◌, refl, ◌∙◌}
 use lib.ListN.{get_or}
 use Rattle.automaton.specs.Word.{bit_if}
-use Rattle.automaton.proofs.Word.{room, grown, added, none_added, bit_least, bit_small, bit_byte}
+use Rattle.automaton.proofs.Word.{grown, added, none_added, bit_least, bit_byte}
 use Rattle.automaton.proofs.Told.{pack_one, pack_all}
 use Rattle.automaton.proofs.pack.Goals as goal
 use Rattle.automaton.proofs.pack.Goals.{then-m, else-m}
-
-pub overflow_add-out : goal.overflow_add-out
-overflow_add-out c =
-    let l = c.loop-m in
-    let g = grown l.m-index l.out l.bit l.bit (omega (arith, c.requires)) l.invariant.1 l.invariant.2 (omega arith) in record { fits = omega (arith, g.0) }
 
 pub overflow_mul-bit : goal.overflow_mul-bit
 overflow_mul-bit c =
@@ -26,16 +21,6 @@ loop-m-preserved c =
     let e : c.if-m.out ≡ l.out + bit_if h l.bit = elim c.if-m.branch [ then-m w ↦ added h c.if-m.out l.out l.bit w.if-m.true w.out-is | else-m w ↦ none_added h c.if-m.out l.out l.bit w.if-m.false w.out-is ] in
     let g = grown l.m-index l.out l.bit (bit_if h l.bit) (omega (arith, c.requires)) l.invariant.1 l.invariant.2 (bit_least h l.bit) in
     (omega arith, g.2, rw e g.3, rw e (pack_one c.args.marks.now l.m-index l.out l.bit (bit_if h l.bit) (omega arith) l.invariant.1 l.invariant.2 l.invariant.3 refl))
-
-pub overflow_mul-result : goal.overflow_mul-result
-overflow_mul-result c =
-    let l = c.loop-m in
-    let r = room l.m-index l.out (omega (arith, c.requires)) l.invariant.2 in record { fits = omega (arith, r) }
-
-pub overflow_add-result : goal.overflow_add-result
-overflow_add-result c =
-    let l = c.loop-m in
-    let r = room l.m-index l.out (omega (arith, c.requires)) l.invariant.2 in record { fits = omega (arith, r, c.from.ensures, bit_small c.args.fin) }
 
 pub returns : goal.returns
 returns c =

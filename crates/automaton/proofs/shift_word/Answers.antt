@@ -1,48 +1,17 @@
 use native.Mathlib.Omega.{arith}
 use Prim.Native.Nat.{◌+◌}
-use mathlib.Core.Path.{◌≡◌, refl, ap, ◌∙◌}
-use mathlib.Core.Bool.{true, ◌&&◌}
+use mathlib.Core.Path.{◌≡◌, ap, ◌∙◌}
+use mathlib.Core.Bool.{◌&&◌}
 use Rattle.automaton.specs.Word.{bit_if}
-use Rattle.automaton.proofs.Word.{on_start, on_turn, leads_quiet, leads_end, room, grown, small_parts, added, none_added, bit_least, bit_small, bit_byte}
+use Rattle.automaton.proofs.Word.{on_turn, leads_quiet, leads_end, grown, small_parts, added, none_added, bit_least, bit_byte}
 use Rattle.automaton.proofs.shift_word.Goals as goal
 use Rattle.automaton.proofs.shift_word.Goals.{then-hit, else-hit}
 
-pub loop-i-init : goal.loop-i-init
-loop-i-init c =
-    let z = c.args in
-    (omega arith, refl, omega arith, (true, on_start z.text.now z.kinds.now z.args.now z.c _ z.k))
-
-pub overflow_mul-result : goal.overflow_mul-result
-overflow_mul-result c =
-    let z = c in
-    let l = c.loop-i in
-    let q = small_parts z.args.kinds.now z.requires.0 in
-    let r = room l.i l.out (omega (arith, q.0, l.invariant.0)) l.invariant.2 in record { fits = omega (arith, r) }
-
 pub returns-then-cur-fin : goal.returns-then-cur-fin
 returns-then-cur-fin c =
-    let z = c in
-    let a = z.args in
+    let a = c.args in
     let l = c.loop-i in
-    leads_quiet a.text.now a.kinds.now a.args.now a.c z.requires.0 z.requires.1 a.w l.rest l.out l.i a.k l.cur l.invariant.3.0 l.fin l.invariant.0 l.invariant.2 l.invariant.3.1 c.if-cur-fin.true
-
-pub offset_bounds-args-i : goal.offset_bounds-args-i
-offset_bounds-args-i c =
-    let z = c in
-    let l = c.loop-i in
-    let q = small_parts z.args.kinds.now z.requires.0 in
-    record { fits = omega (arith, q.0, l.invariant.0) }
-
-pub bounds-args-i : goal.bounds-args-i
-bounds-args-i c =
-    let z = c in
-    omega (arith, z.requires.1, c.loop-i-test)
-
-pub overflow_add-out : goal.overflow_add-out
-overflow_add-out c =
-    let l = c.loop-i in
-    let q = small_parts c.args.kinds.now c.requires.0 in
-    let g = grown l.i l.out l.bit l.bit (omega (arith, q.0, c.loop-i-test)) l.invariant.1 l.invariant.2 (omega arith) in record { fits = omega (arith, g.0) }
+    leads_quiet a.text.now a.kinds.now a.args.now a.c c.requires.0 c.requires.1 a.w l.rest l.out l.i a.k l.cur l.invariant.3.0 l.fin l.invariant.0 l.invariant.2 l.invariant.3.1 c.if-cur-fin.true
 
 pub overflow_mul-bit : goal.overflow_mul-bit
 overflow_mul-bit c =
@@ -63,19 +32,6 @@ loop-i-preserved c =
       rw e g.3,
       (l.invariant.3.0 && c.absent-o.result, rw e (on_turn a.text.now a.kinds.now a.args.now a.c q.1 c.requires.1 l.rest l.out l.i a.k l.cur l.invariant.3.0 l.fin (omega (arith, c.loop-i-test)) l.invariant.2 c.from-arg.result (bit_if h l.bit) c.repeats-rep.result c.absent-o.result h c.from-arg.ensures c.repeats-rep.ensures c.absent-o.ensures c.hit_if-hit.ensures (ap (bit_if h) l.invariant.1) ∙ l.invariant.3.1)),
     )
-
-pub overflow_mul-result-2 : goal.overflow_mul-result-2
-overflow_mul-result-2 c =
-    let z = c in
-    let l = c.loop-i in
-    let q = small_parts z.args.kinds.now z.requires.0 in
-    let r = room l.i l.out (omega (arith, q.0, l.invariant.0)) l.invariant.2 in record { fits = omega (arith, r) }
-
-pub overflow_add-result : goal.overflow_add-result
-overflow_add-result c =
-    let l = c.loop-i in
-    let q = small_parts c.args.kinds.now c.requires.0 in
-    let r = room l.i l.out (omega (arith, q.0, l.invariant.0)) l.invariant.2 in record { fits = omega (arith, r, c.from.ensures, bit_small l.fin) }
 
 pub returns : goal.returns
 returns c =

@@ -1,10 +1,5 @@
-use mathlib.Core.Path.{sym, ◌∙◌}
 use Rattle.octets.proofs.Theorems.{and_parts}
 use Rattle.automaton.proofs.start_if.Goals as goal
-
-pub start-requires : goal.start-requires
-start-requires c =
-    let z = c in (sym z.requires.0 ∙ (and_parts z.args.single z.args.sf c.if-single-sf.true).0, z.requires.1)
 
 pub returns-then-single-sf : goal.returns-then-single-sf
 returns-then-single-sf c =

@@ -1,15 +1,9 @@
-use mathlib.Core.Path.{refl, sym, ◌∙◌}
+use mathlib.Core.Path.{◌∙◌}
 use native.Mathlib.Omega.{arith}
 use Rattle.octets.specs.Octets.{fold}
 use Rattle.automaton.specs.Table.{tokens_of}
 use Rattle.automaton.proofs.Value.{seen, onward, over}
 use Rattle.automaton.proofs.walk.Goals as goal
-
-pub loop-i-init : goal.loop-i-init
-loop-i-init c = (c.requires.3, c.requires.2, refl)
-
-pub shape_of-marks-then-ef-fin : goal.shape_of-marks-then-ef-fin
-shape_of-marks-then-ef-fin c = c.loop-i.invariant.1 ∙ sym c.requires.2
 
 pub returns-then-ef-fin : goal.returns-then-ef-fin
 returns-then-ef-fin c =
@@ -17,17 +11,11 @@ returns-then-ef-fin c =
     let l = c.loop-i in
     seen (tokens_of a.text.now a.kinds.now a.args.now) a.sf a.ef a.empty (fold a.mark) a.value.now l.marks l.fin l.k l.i (omega arith) c.if-ef-fin.true ∙ l.invariant.2
 
-pub shift-l-requires : goal.shift-l-requires
-shift-l-requires c = (c.requires.0, c.requires.1, c.loop-i.invariant.1)
-
 pub loop-i-preserved : goal.loop-i-preserved
 loop-i-preserved c =
     let a = c.args in
     let l = c.loop-i in
     (omega arith, c.marks-1.given ∙ l.invariant.1, onward (tokens_of a.text.now a.kinds.now a.args.now) a.sf a.ef a.empty (fold a.mark) a.value.now l.marks l.fin l.k l.i (omega arith) c.if-ef-fin.false c.fold.result c.fold.ensures _ c.shift-l.result c.shift-l.ensures ∙ l.invariant.2)
-
-pub shape_of-marks : goal.shape_of-marks
-shape_of-marks c = c.loop-i.invariant.1 ∙ sym c.requires.2
 
 pub returns : goal.returns
 returns c =

@@ -1,4 +1,4 @@
-use mathlib.Core.Path.{refl, ◌∙◌}
+use mathlib.Core.Path.{◌∙◌}
 use native.Mathlib.Omega.{arith}
 use lib.ListN.{length}
 use Rattle.octets.specs.Octets.{fold}
@@ -8,17 +8,11 @@ use Rattle.automaton.proofs.Value.{seen, over}
 use Rattle.automaton.proofs.Word.{word_on}
 use Rattle.automaton.proofs.walk_word.Goals as goal
 
-pub loop-i-init : goal.loop-i-init
-loop-i-init c = (c.requires.2, refl)
-
 pub returns-then-ef-w : goal.returns-then-ef-w
 returns-then-ef-w c =
     let a = c.args in
     let l = c.loop-i in
     seen (tokens_of a.text.now a.kinds.now a.args.now) a.sf a.ef a.empty (fold a.mark) a.value.now (cells_in (length a.kinds.now) l.w) (ended_in l.w) l.k l.i (omega arith) c.if-ef-w.true ∙ l.invariant.1
-
-pub shift_word-w-requires : goal.shift_word-w-requires
-shift_word-w-requires c = (c.requires.0, c.requires.1)
 
 pub loop-i-preserved : goal.loop-i-preserved
 loop-i-preserved c =
