@@ -2,7 +2,7 @@
 use mathlib.Core.Path.{◌≡◌, refl, sym, ap, ◌∙◌}
 use mathlib.Core.Bool.{Bool, true, false, not, cond, ◌&&◌, ◌||◌}
 use mathlib.Core.List.{List, [], ◌∷◌, ◌++◌, map}
-use Prim.Native.Nat.{ℕ, zero, suc, ◌+◌, ◌-◌, ◌≤◌, ◌<◌}
+use Prim.Native.Nat.{ℕ, suc, ◌+◌, ◌-◌, ◌≤◌, ◌<◌}
 use native.Mathlib.Omega.{arith}
 use lib.ListN.{get_or-eq_default, length, get_or, set, take, drop, replicate, length-drop, take-append-drop}
 use lib.Seq.{get_or-drop, get_or-set_same, get_or-set_other}
@@ -12,7 +12,7 @@ use Rattle.octets.proofs.Theorems.{and_parts}
 use Rattle.automaton.specs.Pass.{Token, started, left, Left, onto, pass}
 use Rattle.automaton.specs.Table.{repeats, absent, sort, hits, tokens_of}
 use Rattle.automaton.specs.Decide.{walk_on, decide}
-use Rattle.automaton.specs.Word.{plain, optional, Low, Reaches}
+use Rattle.automaton.specs.Word.{plain, optional, Reaches}
 use Rattle.automaton.specs.declared.Level.{Level}
 use Rattle.automaton.specs.declared.Reach.{Reach}
 use Rattle.automaton.proofs.Pass.{onto_nil}
@@ -27,14 +27,6 @@ unmarked [] h = refl
 unmarked (m ∷ ms) h =
     let e : m ≡ false = h 0 in
     rw e (ap (λ (l : List Bool). false ∷ l) (unmarked ms (λ j. h (suc j))))
-
-none_marked : (n j : ℕ) → get_or (replicate n false) j false ≡ false
-none_marked zero j = refl
-none_marked (suc n) zero = refl
-none_marked (suc n) (suc j) = none_marked n j
-
-pub low_clear : (ms : List Bool) (n : ℕ) → ms ≡ replicate n false → Low ms 0
-low_clear ms n e j h = ap (λ (l : List Bool). get_or l j false) e ∙ none_marked n j
 
 -- from place i on no mark that stood before, up to place i none above the highest
 abbrev pub Above : List Bool → ℕ → ℕ → Type 0

@@ -8,9 +8,8 @@ use native.Mathlib.Numerals.{add-one}
 use native.Mathlib.Omega.{arith}
 use lib.ListN.{length, get_or, set, take, drop, replicate}
 use lib.Seq.{take-suc, take-suc-set, take_all, get_or-set_same, get_or-set_other}
-use lib.Dec.{eqb, leb}
-use borrow.Author.Tests.{leb-true, eqb-true, eqb-false}
-use Rattle.octets.proofs.Theorems.{and_parts}
+use lib.Dec.{eqb}
+use borrow.Author.Tests.{eqb-true, eqb-false}
 use Rattle.automaton.specs.Pass.{Token, started, left, pass}
 use Rattle.automaton.specs.Word.{bits_of, bit_if, cells_in, ended_in, Leads}
 use Rattle.automaton.specs.declared.Level.{Level}
@@ -109,12 +108,6 @@ module _ (ts : List Token) (n : ℕ) (k : Bool) where
         go false e = rw (get_or-set_other next j i m 0 (eqb-false i j e)) (old (h i))
 
 -- ---- the first byte
-
-pub long : (n i m : ℕ) → (leb n 62 && leb (i + 48) m) ≡ true → (n ≤ 62) × (i < m)
-long n i m t =
-    let p = and_parts (leb n 62) (leb (i + 48) m) t in
-    let h = leb-true (i + 48) m p.1 in
-    (leb-true n 62 p.0, omega arith)
 
 module _ (ts : List Token) (n : ℕ) (sf ef : Bool) (f : ℕ → ℕ) (v : List ℕ) (i : ℕ) (zs ms : List Bool) (l : Level) (ez : zs ≡ replicate n false) (p : pass ts zs 0 (started false) [] ≡ left ms l) (hv : i < length v) where
   from_run : (r : Bool) → r ≡ walk_on ts sf ef l.emp ms false true (map f (drop i v)) → r ≡ decide ts n sf ef (map f (drop i v))

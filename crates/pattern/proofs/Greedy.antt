@@ -5,7 +5,6 @@ use mathlib.Core.Bool.{Bool, true, false, ◌&&◌, ◌||◌, or-true, or_self, 
 use mathlib.Core.List.{List, [], ◌∷◌}
 use mathlib.Core.Option.{Option, none, some}
 use Prim.Native.Nat.{ℕ, zero, suc, ◌+◌, ◌-◌, ◌*◌, ◌≤◌, ◌<◌}
-use native.Mathlib.Nat.{suc-mul, mul-le-mul_right}
 use native.Mathlib.Decide.{dec_lt}
 use native.Mathlib.Omega.{arith}
 use lib.Dec.{eqb}
@@ -294,10 +293,6 @@ abbrev pub base_of : Maybe Star → ℕ
 base_of None = 0
 base_of (Some s) = s.base
 
-pub base_first : (x t : List ℕ) (i v : ℕ) (star : Maybe Star) → Matching x t i v star → base_of star ≤ v
-base_first x t i v None m = omega arith
-base_first x t i v (Some s) m = m.0
-
 -- ---- the match ends: a rest of the value for each `*`, and in it the pattern
 abbrev pub weight : ℕ → ℕ → ℕ → ℕ → ℕ
 weight n k base i = (n - base) * (k + 2) + (k - i)
@@ -308,21 +303,3 @@ module _ (n k base i : ℕ) where
     where
       plus : (a : ℕ) {b c : ℕ} → b < c → a + b < a + c
       plus a h = omega (arith, h)
-
-  pub lighter_run : (v : ℕ) → base ≤ v → i < k → weight n k v (i + 1) < weight n k base i
-  lighter_run v h g =
-      let q : (n - v) * (k + 2) ≤ (n - base) * (k + 2) = mul-le-mul_right (k + 2) (omega (arith, h)) in
-      let r : k - (i + 1) < k - i = omega (arith, g) in
-      plus ((n - v) * (k + 2)) ((n - base) * (k + 2)) (k - (i + 1)) (k - i) q r
-    where
-      plus : (a b c d : ℕ) → a ≤ b → c < d → a + c < b + d
-      plus a b c d h g = omega (arith, h, g)
-
-  pub lighter_back : (behind : ℕ) → base < n → weight n k (base + 1) behind < weight n k base i
-  lighter_back behind h =
-      let q : n - base ≡ suc (n - (base + 1)) = omega (arith, h) in
-      let r : (n - base) * (k + 2) ≡ (n - (base + 1)) * (k + 2) + (k + 2) = ap (λ (z : ℕ). z * (k + 2)) q ∙ suc-mul (n - (base + 1)) (k + 2) in
-      plus ((n - base) * (k + 2)) ((n - (base + 1)) * (k + 2)) (k - behind) (k - i) r (omega arith)
-    where
-      plus : (a b c d : ℕ) → a ≡ b + (k + 2) → c ≤ k → b + c < a + d
-      plus a b c d h g = omega (arith, h, g)

@@ -1,14 +1,7 @@
 use Rattle.pattern.proofs.Ranges.{piece_joined, piece_alone, piece_close, piece_end}
-use Rattle.pattern.proofs.Texts.{begins_inside}
 use Rattle.pattern.specs.Steps.{joined_at}
-use native.Mathlib.Omega.{arith}
 use mathlib.Core.Path.{sym, ap, ◌∙◌}
 use Rattle.pattern.proofs.sets.piece_at.Goals as goal
-
-pub overflow_add-next : goal.overflow_add-next
-overflow_add-next c =
-    let a = c.args in
-    let h = begins_inside a.p.now c.in-Range.next 45 (sym c.begins.ensures ∙ c.if-begins.true) in record { fits = omega (arith, h) }
 
 pub returns-then-begins : goal.returns-then-begins
 returns-then-begins c =

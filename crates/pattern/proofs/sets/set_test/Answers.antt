@@ -1,12 +1,9 @@
-use Rattle.pattern.proofs.Ranges.{read_start, read_next, read_more, read_falls, read_empty, read_close, read_end, read_past}
+use Rattle.pattern.proofs.Ranges.{read_more, read_falls, read_empty, read_close, read_end, read_past}
 use Rattle.octets.specs.Octets.{fold, folded}
 use lib.ListN.{length-map}
 use native.Mathlib.Omega.{arith}
 use mathlib.Core.Path.{sym, ◌∙◌}
 use Rattle.pattern.proofs.sets.set_test.Goals as goal
-
-pub loop-i-init : goal.loop-i-init
-loop-i-init c = let a = c.args in read_start (folded a.mark a.p.now) a.at a.c
 
 pub returns-then-high-low : goal.returns-then-high-low
 returns-then-high-low c =
@@ -16,16 +13,6 @@ returns-then-high-low c =
     let g = c.in-Range in
     let e = sym g.is ∙ c.piece_at.ensures in
     read_falls t a.at a.c l.hit l.i l.invariant g.low g.high g.next e (omega arith)
-
-pub loop-i-smaller : goal.loop-i-smaller
-loop-i-smaller c =
-    let a = c.args in
-    let l = c.loop-i in
-    let t = folded a.mark a.p.now in
-    let g = c.in-Range in
-    let e = sym g.is ∙ c.piece_at.ensures in
-    let n = read_next t a.at a.c l.hit l.i l.invariant g.low g.high g.next e in
-    omega (arith, n.0)
 
 pub loop-i-preserved : goal.loop-i-preserved
 loop-i-preserved c =

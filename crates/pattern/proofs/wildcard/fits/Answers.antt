@@ -1,6 +1,6 @@
-use Rattle.pattern.proofs.Greedy.{match-on, match-taken, match-failed, match_back, match_run, match_end, base_first, base_of, lighter_on, lighter_run, lighter_back}
+use Rattle.pattern.proofs.Greedy.{match-on, match-taken, match-failed, match_back, match_run, match_end, base_of, lighter_on}
 use Rattle.pattern.proofs.Items.{runs_folded}
-use Rattle.pattern.proofs.Texts.{run_sign, here, sign_same, begins_inside}
+use Rattle.pattern.proofs.Texts.{run_sign, here, sign_same}
 use Rattle.octets.specs.Octets.{fold, folded}
 use lib.ListN.{length, length-map}
 use native.Mathlib.Omega.{arith}
@@ -24,22 +24,6 @@ loop-v-preserved-in-Some c =
     let t = folded a.p_mark a.p.now in
     match-taken x t l.i l.v c.fold.result (rw c.fold.ensures (here a.s_mark a.s.now l.v (omega arith))) c.in-Some.next (sym c.in-Some.is ∙ c.item_takes.ensures) l.star l.invariant
 
-pub overflow_add-i : goal.overflow_add-i
-overflow_add-i c =
-    let a = c.args in
-    let l = c.loop-v in
-    let h = begins_inside a.p.now l.i 42 (sym c.begins.ensures ∙ c.if-begins.true) in
-    record { fits = omega (arith, h) }
-
-pub loop-v-smaller-then-begins : goal.loop-v-smaller-then-begins
-loop-v-smaller-then-begins c =
-    let a = c.args in
-    let l = c.loop-v in
-    let x = folded a.s_mark a.s.now in
-    let t = folded a.p_mark a.p.now in
-    let h = begins_inside a.p.now l.i 42 (sym c.begins.ensures ∙ c.if-begins.true) in
-    lighter_run (length a.s.now) (length a.p.now) (base_of l.star) l.i l.v (base_first x t l.i l.v l.star l.invariant) h
-
 pub loop-v-preserved-then-begins : goal.loop-v-preserved-then-begins
 loop-v-preserved-then-begins c =
     let a = c.args in
@@ -56,13 +40,6 @@ returns-in_default-star c =
     let t = folded a.p_mark a.p.now in
     match-failed x t l.i l.v c.fold.result (rw c.fold.ensures (here a.s_mark a.s.now l.v (omega arith))) (sym c.in_default.is ∙ c.item_takes.ensures) (sign_same a.p_mark a.p.now l.i 42 run_sign ∙ sym c.begins.ensures ∙ c.if-begins.false)
     (rw c.in_default-star.is at l.invariant)
-
-pub loop-v-smaller : goal.loop-v-smaller
-loop-v-smaller c =
-    let a = c.args in
-    let l = c.loop-v in
-    let m = rw c.in-Some-star.is at l.invariant in
-    rw c.in-Some-star.is (lighter_back (length a.s.now) (length a.p.now) c.in-Some-star.last.base l.i c.in-Some-star.last.behind (omega (arith, m.0)))
 
 pub loop-v-preserved : goal.loop-v-preserved
 loop-v-preserved c =

@@ -9,13 +9,6 @@ returns-in_default c =
     let l = c.loop-i in
     item_bad a.p.now l.i (omega arith) (sym c.in_default.is ∙ c.item_end.ensures) ∙ l.invariant
 
-pub loop-i-smaller : goal.loop-i-smaller
-loop-i-smaller c =
-    let a = c.args in
-    let l = c.loop-i in
-    let w = item_ends a.p.now l.i (omega arith) c.in-Some.next (sym c.in-Some.is ∙ c.item_end.ensures) in
-    omega (arith, w.1)
-
 pub loop-i-preserved : goal.loop-i-preserved
 loop-i-preserved c =
     let a = c.args in
