@@ -89,10 +89,6 @@ scaled a k c e h K = scaled_by false (of_int binary64 (pos a)) a k c (held a h) 
 pub joined : (x y : Float) (a b n : ℕ) → HasValue x false a 1 → HasValue y false b 1 → a + b ≡ n → add binary64 x y ≡ of_int binary64 (pos n)
 joined x y a b n h k e = add_at binary64 x y a b h k ∙ ap (λ (z : ℕ). round binary64 false z 1) e ∙ sym (of_int_is binary64 n)
 
-pub cast_in : (a : ℕ) → a < 2 ^ 53 → T (in_float binary64 (pos a))
-unfolding in_float
-cast_in a h = lib.Dec.le→leb a (2 ^ 53) (le_of_lt h)
-
 -- ---- what `compare` says
 abbrev pub Cmp : Ordering → ℕ → ℕ → Type 0
 Cmp Ordering.lt a b = a < b
@@ -121,14 +117,6 @@ is_lt a b h = go (compare a b) (cmp a b)
     go : (o : Ordering) → Cmp o a b → o ≡ Ordering.lt
     go Ordering.lt k = refl
     go Ordering.eq k = absurd (omega arith)
-    go Ordering.gt k = absurd (omega arith)
-
-is_eq : (a b : ℕ) → a ≡ b → compare a b ≡ Ordering.eq
-is_eq a b h = go (compare a b) (cmp a b)
-  where
-    go : (o : Ordering) → Cmp o a b → o ≡ Ordering.eq
-    go Ordering.lt k = absurd (omega arith)
-    go Ordering.eq k = refl
     go Ordering.gt k = absurd (omega arith)
 
 is_gt : (a b : ℕ) → b < a → compare a b ≡ Ordering.gt

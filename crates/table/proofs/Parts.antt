@@ -12,7 +12,7 @@ use borrow.Author.Tests.{leb-true, eqb-true, lt-ltb, le-ltb}
 use Rattle.common.proofs.Choice.{pick_yes, pick_no}
 use Rattle.table.specs.Table.{Entry, most_bytes, count_of, entry_at, pool_of, layout_of}
 use Rattle.table.specs.Check.{part_of, part_right, entry_right, check_of}
-use Rattle.table.specs.Parts.{pooled, pool_start, EntryAnswer, parts_at, no_parts, parts_of}
+use Rattle.table.specs.Parts.{pooled, pool_start, parts_at, no_parts, parts_of}
 use Rattle.table.proofs.Tests.{both_true}
 use Rattle.table.proofs.Laid.{laid, pool_length}
 use Rattle.table.proofs.Patterns.{string_lies}
@@ -58,13 +58,6 @@ module _ (s : List ℕ) (k op a b : ℕ) (eo : op ≡ (entry_at s k).op) (ea : a
         let l = laid s t in
         let p = bytes_lie s k t r (pooled_is (entry_at s k).op (rw eo at e)) in
         omega arith
-
-    pub parts_pooled : ◌≡◌ {A = EntryAnswer} (record { number = 0; op = op; a = a; b = b; start = 10 + 12 * n + b; end = 10 + 12 * n + b + a }) (parts_at s k)
-    parts_pooled = let f : pooled (entry_at s k).op ≡ true = rw eo at e in rw (f, eo, ea, eb, en)
-
-  -- another
-  pub parts_plain : pooled op ≡ false → ◌≡◌ {A = EntryAnswer} (record { number = 0; op = op; a = a; b = b; start = 0; end = 0 }) (parts_at s k)
-  parts_plain e = let f : pooled (entry_at s k).op ≡ false = rw eo at e in rw (f, eo, ea, eb)
 
 -- ---- the answer, by its tests
 
