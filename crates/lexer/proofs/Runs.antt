@@ -6,19 +6,15 @@ use Prim.Native.Nat.{ℕ, zero, suc, ◌+◌, ◌-◌, ◌≤◌, ◌<◌}
 use native.Mathlib.Nat.{add-zero}
 use native.Mathlib.Numerals.{add-one}
 use native.Mathlib.Omega.{arith}
-use lib.Dec.{eqb, ltb}
+use lib.Dec.{eqb}
 use lib.ListN.{length, get_or, take, drop, set, drop_of_length-le, length-drop, length-append}
 use lib.Seq.{length-take-le, take-suc, drop-cons, append_snoc, drop-drop, get_or-drop, sets, set-set, set_comm, take-append_seam}
-use borrow.Author.Tests.{ne_eqb, ltb-true, eqb-true, eqb-false}
-use Rattle.common.proofs.Choice.{false_true}
+use borrow.Author.Tests.{ne_eqb, eqb-true, eqb-false}
 use Rattle.octets.specs.Octets.{folded, same_of, begins_of}
 use Rattle.octets.proofs.Theorems.{and_parts, not_folded}
-use Rattle.lexer.specs.Byte.{is, is_delimiter, is_common}
+use Rattle.lexer.specs.Byte.{is, is_common}
 use Rattle.lexer.specs.Run.{takes, ends, run_from, unescaped, Free, has_escape, legal_byte, legal_name, Passes, GoesOn, all_common, is_empty}
 use Rattle.lexer.proofs.Bytes.{common_ends_none, common_takes_none, common_plain}
-
-pub ends_delimiter : (q b : ℕ) → q ≡ 0 → ends 0 b ≡ ends q b
-ends_delimiter q b e = rw e
 
 pub ends_quote : (q b : ℕ) → (q ≡ 0 → ⊥) → eqb b q ≡ ends q b
 ends_quote zero b f = absurd (f refl)
@@ -141,18 +137,6 @@ passes_all q s n p e =
     let u = rw z at (passes_length q s n p) in
     (omega (arith, e, p.1), sym (append-nil (take n s)) ∙ h, omega (arith, u))
 
-pub ends_here : (s : List ℕ) (i : ℕ) → i < length s → is_delimiter (get_or s i 0) ≡ is_empty (run_from 0 false (drop i s))
-ends_here s i h = rw (drop-cons s i 0 h) (go (is_delimiter (get_or s i 0)) refl)
-  where
-    go : (e : Bool) → is_delimiter (get_or s i 0) ≡ e → is_delimiter (get_or s i 0) ≡ is_empty (run_from 0 false (get_or s i 0 ∷ drop (suc i) s))
-    go true e = rw e
-    go false e =
-        let b = get_or s i 0 in
-        rw e (sym (ne_eqb (length (b ∷ run_from 0 (takes false b) (drop (suc i) s))) 0 (λ z. omega arith)))
-
-pub ends_past : (s : List ℕ) (i : ℕ) → length s ≤ i → true ≡ is_empty (run_from 0 false (drop i s))
-ends_past s i h = rw (drop_of_length-le s h)
-
 pub ended_name : (s : List ℕ) (n : ℕ) → GoesOn s n → is_empty (run_from 0 false (drop n s)) ≡ true
     → (n ≡ length (run_from 0 false s)) × (n ≡ length (unescaped false (run_from 0 false s))) × (legal_name false (run_from 0 false s) ≡ true)
 ended_name s n g e =
@@ -232,21 +216,6 @@ module _ (s word : List ℕ) (e : all_common word ≡ true) where
   pub word_goes_on : is_empty (run_from 0 false (drop (length word) s)) ≡ false
       → false ≡ (not (has_escape (run_from 0 false s)) && same_of (unescaped false (run_from 0 false s)) word)
   word_goes_on f = rw f at (word_there s word e)
-
--- the test for it, as the code makes it
-told : (n a b : ℕ) → (ltb 0 n && not (eqb a b)) ≡ true → (0 < n) × (a ≡ b → ⊥)
-told n a b t = go (ltb 0 n) (eqb a b) refl refl t
-  where
-    go : (p q : Bool) → ltb 0 n ≡ p → eqb a b ≡ q → (p && not q) ≡ true → (0 < n) × (a ≡ b → ⊥)
-    go true true e f g = false_true g
-    go true false e f g = (ltb-true 0 n e, eqb-false a b f)
-    go false q e f g = false_true g
-
-pub word_other : (s word : List ℕ) (at a b : ℕ) → (ltb 0 (length word) && not (eqb a b)) ≡ true → a ≡ get_or s at 0 → b ≡ get_or word 0 0
-    → false ≡ (not (has_escape (run_from 0 false (drop at s))) && same_of (unescaped false (run_from 0 false (drop at s))) word)
-word_other s word at a b t e f =
-    let n = told (length word) a b t in
-    first_other (drop at s) word n.0 (λ g. n.1 (e ∙ sym (get_or-drop at s 0 0 ∙ ap (λ (k : ℕ). get_or s k 0) (add-zero at)) ∙ g ∙ sym f))
 
 -- ---- what stands first, stored in a part
 

@@ -14,8 +14,7 @@ use borrow.Author.Tests.{le-leb, lt-ltb, le-ltb, eqb-true}
 use Rattle.common.proofs.Choice.{false_true}
 use Rattle.lexer.specs.Byte.{within, is_common, digit_of, is_digit_in}
 use Rattle.lexer.specs.Run.{ends, run_from}
-use Rattle.lexer.specs.Digits.{sign_length, digits_of, whole_from, capped}
-use Rattle.lexer.specs.Integer.{is_hex, base_of, prefix_length}
+use Rattle.lexer.specs.Digits.{digits_of, whole_from, capped}
 use Rattle.lexer.proofs.Bytes.{range, common_ends_none, common_takes_none, decimal, digit_common}
 use Rattle.lexer.proofs.Runs.{none_left, First, first_fits}
 
@@ -87,14 +86,6 @@ module _ (s : List ℕ) (at base high i v : ℕ) where
       let l = same.0 in
       let c = rw e at same.1 in
       (omega (arith, ap length e, l), omega (arith, c))
-
--- an integer without a leading zero has decimal digits, after its sign
-pub decimal_prefix : (run : List ℕ) → base_of run ≡ 10 → prefix_length run ≡ sign_length run
-decimal_prefix run e = go (is_hex run) refl
-  where
-    go : (b : Bool) → is_hex run ≡ b → prefix_length run ≡ sign_length run
-    go true f = let z = rw f at e in absurd (omega (arith, z))
-    go false f = rw f (omega arith)
 
 -- A run that starts with digits is these and what is left of it after them.
 pub digits_part : (s : List ℕ) → run_from 0 false s ≡ digits_of 10 s ++ run_from 0 false (drop (length (digits_of 10 s)) s)
