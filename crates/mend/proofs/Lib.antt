@@ -4,7 +4,6 @@ pub mod Walks
 pub mod Admitted
 pub mod Placed
 pub mod Turns
-pub mod Answers
 pub mod Kept
 pub mod Headers
 pub mod Theorems

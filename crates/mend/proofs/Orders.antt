@@ -108,12 +108,6 @@ module _ (s order : List ℕ) (n : ℕ) (o : InOrder s order n) where
     is_zero : 0 ≡ code → true ≡ eqb code 0
     is_zero e = ap (λ (x : ℕ). eqb x 0) e
 
-    pub none_before : n ≡ 0 → true ≡ eqb code 0
-    none_before z =
-        let w = place_within name in
-        let p : n ≡ place_among name fs = omega arith in
-        is_zero (is_kept name n p (first_new name n p (omega arith)) (omega arith))
-
     abbrev last : List ℕ
     last = name_at s (get_or order (n - 1) 0)
 

@@ -1,9 +1,9 @@
 -- The notice's fields, stored as they are in the bytes, those that lie side by side at once. Assumes nothing.
-use mathlib.Core.Path.{◌≡◌, refl, sym, ap, ap₂, ◌∙◌}
-use mathlib.Core.List.{List, [], ◌∷◌, ◌++◌, append_assoc, append-nil}
+use mathlib.Core.Path.{◌≡◌, sym, ap, ap₂, ◌∙◌}
+use mathlib.Core.List.{List, [], ◌∷◌, ◌++◌, append_assoc}
 use Prim.Native.Nat.{ℕ, suc, ◌+◌, ◌-◌, ◌≤◌, ◌<◌}
 use native.Mathlib.Omega.{arith}
-use lib.ListN.{length, get_or, take, drop, length-append, length-drop, drop_of_length-le}
+use lib.ListN.{length, get_or, take, drop, length-append, length-drop}
 use lib.Seq.{sets, length-sets, drop-cons, drop-drop, get_or-take, length-take-le, take-add}
 use Rattle.common.proofs.Stores.{sets_append}
 use Rattle.word.specs.Word.{Bytes}
@@ -45,24 +45,12 @@ pub record Placing (s order : List ℕ) (n : ℕ) (notice₀ notice : List ℕ) 
 none_taken : (k : ℕ) (l : List ℕ) → k ≡ 0 → take k l ≡ []
 none_taken k l e = ap (λ (j : ℕ). take j l) e
 
-pub place_starts : (s order : List ℕ) (n : ℕ) (notice : List ℕ) → Placing s order n notice notice 8 0 0 0
-place_starts s order n notice = record {
-  within = omega arith;
-  inside = omega arith;
-  same_long = refl;
-  sizes = omega arith;
-  stored = ap (λ (x : List ℕ). sets notice 8 (x ++ fields_bytes (fields_in s order n))) (none_taken (0 - 0) s (omega arith));
-}
-
 module _ (s order : List ℕ) (n : ℕ) (notice₀ notice : List ℕ) (to from end i : ℕ) (r : Placing s order n notice₀ notice to from end i) where
   abbrev part : List ℕ
   part = take (end - from) (drop from s)
 
   pub part_size : length part ≡ end - from
   part_size = length-take-le (end - from) (drop from s) (omega (arith, length-drop from s, r.within, r.inside))
-
-  pub part_fits : 8 + length (fields_bytes (fields_in s order n)) ≤ length notice₀ → to + length part ≤ length notice
-  part_fits h = omega (arith, part_size, r.sizes, r.same_long, h)
 
   -- stored at once, so that what is still to store starts at the next field
   pub flushed : (after : List ℕ) (at : ℕ) → after ≡ sets notice to part → at ≤ length s → Placing s order n notice₀ after (to + (end - from)) at at i
@@ -102,9 +90,3 @@ module _ (s order : List ℕ) (n : ℕ) (notice₀ notice : List ℕ) (to from e
         sizes = omega (arith, k, r.sizes, rest_size s order n o i h);
         stored = ap (sets notice to) q ∙ r.stored;
       }
-
-  pub placed : InOrder s order n → n ≤ i → (after : List ℕ) → after ≡ sets notice to part → after ≡ sets notice₀ 8 (fields_bytes (fields_in s order n))
-  placed o h after e =
-      let fs = fields_in s order n in
-      let z : drop i fs ≡ [] = drop_of_length-le fs {i = i} (omega (arith, order_length s order n o)) in
-      e ∙ (ap (sets notice to) (sym (ap (λ (gs : List Field). part ++ fields_bytes gs) z ∙ append-nil part)) ∙ r.stored)

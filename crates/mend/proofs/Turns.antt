@@ -127,19 +127,6 @@ pub record Listing (s lists list codes : List ℕ) (at count : ℕ) : Type 0 whe
   pub below : at < 81922
   pub same_long : length list ≡ length lists
 
-pub list_starts : (s list codes : List ℕ) → take (length (list_of s)) codes ≡ codes_of (list_of s) → Listing s list list codes 8 0
-list_starts s list codes e =
-    let z : length s - 0 ≡ length s = omega arith in
-    record {
-      kept = [];
-      list_is = ap (λ (k : ℕ). sets list 0 (list_bytes (list_from k s [] 8))) z;
-      codes_are = ap (λ (k : ℕ). take (length (list_from k s [] 8)) codes) z ∙ (e ∙ ap (λ (k : ℕ). codes_of (list_from k s [] 8)) (sym z));
-      listed = omega (arith, ap (λ (k : ℕ). length (list_from k s [] 8)) z);
-      from = omega arith;
-      below = omega arith;
-      same_long = refl;
-    }
-
 module _ (s lists list codes : List ℕ) (at count : ℕ) (r : Listing s lists list codes at count) where
   pub listed : length s ≤ at → 3 * length (list_of s) ≤ length lists → list ≡ onto (list_bytes (list_of s)) lists
   listed h m =

@@ -17,7 +17,6 @@ use Rattle.notice.specs.Layout.{size_at, next_at, name_at, field_at, right_at}
 use Rattle.notice.specs.Write.{has_name, insert_field, sorted}
 use Rattle.notice.proofs.Inserts.{fields_append}
 use Rattle.notice.proofs.Orders.{or_no, insert_swap}
-use Rattle.notice.proofs.Places.{right_lies, right_name}
 use Rattle.notice.proofs.Sorted.{sorted_named, sorted_length}
 use Rattle.mend.specs.Mend.{Entry, cut_at, has_greater, code_among, code_at, stays, kept_with, list_from, list_of, kept_in, kept_of}
 use Rattle.mend.specs.Order.{fields_in, InOrder, Admits}
@@ -32,24 +31,10 @@ single_byte s at h =
 
 -- ---- what a field is
 
--- a right field has a length word, a kind, a name's length and a name
-pub too_short : (s : List ℕ) (at : ℕ) → size_at s at < 4 → false ≡ right_at s at
-too_short s at h = go (right_at s at) refl
-  where
-    go : (b : Bool) → right_at s at ≡ b → false ≡ b
-    go true e = let l = right_lies s at e in let n = right_name s at e in absurd (omega (arith, l.room, n.0))
-    go false e = refl
-
 -- a cut, a bad and a right field
 module _ (s : List ℕ) (kept : List Field) (at : ℕ) where
-  pub is_cut : length s < next_at s at → 4 ≡ code_at s kept at
-  is_cut h = rw (lt-ltb (length s) (next_at s at) h)
-
   not_cut : next_at s at ≤ length s → cut_at s at ≡ false
   not_cut h = le-ltb (length s) (next_at s at) h
-
-  pub is_bad : next_at s at ≤ length s → right_at s at ≡ false → 3 ≡ code_at s kept at
-  is_bad h e = ap₂ (λ (a b : Bool). cond a 4 (cond b (code_among kept (name_at s at)) 3)) (sym (not_cut h)) (sym e)
 
   pub is_among : next_at s at ≤ length s → right_at s at ≡ true → code_among kept (name_at s at) ≡ code_at s kept at
   is_among h e = ap₂ (λ (a b : Bool). cond a 4 (cond b (code_among kept (name_at s at)) 3)) (sym (not_cut h)) (sym e)

@@ -3,7 +3,6 @@ use Rattle.std.specs.Prelude.{◌≡◌, Bool, true, not, ◌&&◌, ℕ, zero, s
 use mathlib.Core.List.{List, [], ◌∷◌, map, Permᴰ}
 use Rattle.common.specs.Each.{Each}
 use Rattle.word.specs.Word.{word_at, Bytes}
-use Rattle.notice.specs.Layout.{Layout}
 use Rattle.notice.specs.Render.{field_bytes, fields_bytes}
 use Rattle.notice.specs.Layout.{size_at, field_at, count_of, check_of, starts_of, fields_of}
 use Rattle.mend.specs.Mend.{Entry, MendAnswer, cut_at, stays, list_of, kept_in, notice_of, list_bytes, onto, MendIs}

@@ -8,7 +8,7 @@ use Rattle.octets.specs.Octets.{before_of}
 use Rattle.octets.proofs.Theorems.{and_parts}
 use Rattle.refusal.specs.declared.Refusal.{Refusal}
 use Rattle.refusal.specs.declared.Refusal.TheVariants.{Notice}
-use Rattle.refusal.specs.Refusal.{number_of as refusal_number, place_of as refusal_place}
+use Rattle.refusal.specs.Refusal.{number_of as refusal_number}
 use Rattle.notice.specs.Field.{Field, field_right, all_right, before_first, rising}
 use Rattle.notice.specs.Render.{field_bytes, fields_bytes}
 use Rattle.notice.specs.Layout.{Layout, next_at, name_at, field_at, lies_at, right_at, stands_at, count_of, header_right, check_from, check_of, place_of}

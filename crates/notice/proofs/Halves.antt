@@ -1,6 +1,6 @@
 -- The search by halving and the walk by the starts, for a caller who has the fields' starts. Assumes nothing.
 use Rattle.std.specs.Prelude.{Ok, Some, None}
-use Rattle.std.proofs.Common.{◌≡◌, ℕ, zero, suc, ◌+◌, ◌-◌, ◌<◌, ◌≤◌, Bool, true, false, ◌&&◌, List, [], ◌∷◌, map, length, get_or, take, drop, sym, refl, ap, ◌∙◌, ap₂, add-one, arith, take-append-drop, drop_of_length-le, length-take-le, drop-cons, get_or-take, take-suc}
+use Rattle.std.proofs.Common.{◌≡◌, ℕ, zero, suc, ◌+◌, ◌<◌, ◌≤◌, Bool, true, ◌&&◌, List, [], ◌∷◌, map, length, get_or, take, drop, sym, refl, ap, ◌∙◌, ap₂, add-one, arith, take-append-drop, length-take-le, drop-cons, get_or-take, take-suc}
 use Rattle.std.proofs.lemmas.List.{take-take}
 use lib.ListN.{length-map}
 use Rattle.word.specs.Word.{Bytes}
@@ -72,13 +72,6 @@ module _ (s name : List ℕ) (bytes : Bytes s) (well : check_of s ≡ Ok tt) whe
       let c = start_count in
       let l = length-take-le k (starts_of s) (omega arith) in
       record { starts = take k (starts_of s); all = sym (take-append-drop k (starts_of s)); below = b; count = l; within = h }
-
-  pub between_all : Between s name 0 (count_of s)
-  between_all =
-      let c = start_count in
-      let h : length (starts_of s) ≤ count_of s = omega arith in
-      let d : drop (count_of s) (starts_of s) ≡ [] = drop_of_length-le (starts_of s) h in
-      record { order = omega arith; within = omega arith; below = refl; above = rw d }
 
   module _ (low high : ℕ) (b : Between s name low high) where
     -- none is left between

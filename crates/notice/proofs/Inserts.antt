@@ -1,5 +1,5 @@
 -- A field at its name's place: in the list of fields, and in the bytes. Assumes nothing.
-use Rattle.std.specs.Prelude.{Some, None, is_some}
+use Rattle.std.specs.Prelude.{Some, is_some}
 use Rattle.std.proofs.Common.{◌≡◌, ℕ, suc, ◌+◌, ◌-◌, ◌<◌, ◌≤◌, Bool, true, false, not, ◌&&◌, ◌||◌, ltb, leb, List, [], ◌∷◌, ◌++◌, map, length, take, drop, sym, refl, ap, ◌∙◌, ap₂, append_assoc, append-nil, arith, length-append, length-drop, take-append-drop, length-take-le, drop-drop, take_at, drop_at, ltb-true, leb-true}
 use lib.Seq.{sets}
 use borrow.Author.Tests.{not-true}
@@ -35,13 +35,7 @@ passes true n next e = (refl, e)
 passes false n next e = absurd (omega arith)
 
 module _ (s : List ℕ) (room : ℕ) (f : Field) where
-  pub wrong_name : name_right f.name ≡ false → 13 ≡ refusal_in s room f
-  wrong_name e = rw e
-
   module _ (p : name_right f.name ≡ true) where
-    pub wrong_size : size_right f.kind (length f.value) ≡ false → 16 ≡ refusal_in s room f
-    wrong_size e = rw (p, e)
-
     module _ (q : size_right f.kind (length f.value) ≡ true) where
       pub small_parts : Small f
       small_parts = right_small f (ap₂ (λ (a b : Bool). a && b) p q)

@@ -1,6 +1,6 @@
 -- Names: by their lengths, by words and byte by byte, with the turns and ends of the loops. Assumes nothing.
 use Rattle.std.specs.Prelude.{All, IsTrue, ◌↔◌}
-use Rattle.std.proofs.Common.{◌≡◌, ℕ, zero, suc, ◌+◌, ◌-◌, ◌*◌, ◌/◌, ◌%◌, ◌^◌, ◌<◌, ◌≤◌, Bool, true, false, ◌&&◌, leb, List, [], ◌∷◌, ◌++◌, length, get_or, take, drop, sym, refl, ap, ◌∙◌, ap₂, mul_assoc, mul_comm, pow-suc, add-one, arith, length-drop, take-append-drop, drop_of_length-le, take_all, drop-cons, take-add, le-leb, leb-true}
+use Rattle.std.proofs.Common.{◌≡◌, ℕ, zero, suc, ◌+◌, ◌-◌, ◌*◌, ◌/◌, ◌%◌, ◌^◌, ◌<◌, ◌≤◌, Bool, true, false, ◌&&◌, leb, List, [], ◌∷◌, ◌++◌, length, take, drop, sym, refl, ap, ◌∙◌, ap₂, mul_assoc, mul_comm, pow-suc, arith, length-drop, take-append-drop, take_all, take-add, le-leb, leb-true}
 use mathlib.Core.Bool.{and_assoc}
 use native.Mathlib.Nat.{pow-zero}
 use borrow.Author.Tests.{lt-leb}

@@ -1,9 +1,7 @@
 -- Where field k of a notice lies, and its parts. Assumes nothing.
 use Rattle.std.specs.Prelude.{Ok, Err}
 use Rattle.std.proofs.Common.{◌≡◌, ℕ, zero, suc, ◌+◌, ◌-◌, ◌<◌, ◌≤◌, Bool, true, false, ltb, List, [], ◌∷◌, map, length, get_or, take, drop, sym, refl, ap, ◌∙◌, add-one, arith, length-drop, drop-cons, ltb-false, ltb-true, le-ltb, lt-ltb, le-leb}
-use mathlib.Core.Bool.{and-false}
 use lib.ListN.{length-map}
-use borrow.Author.Tests.{lt-leb}
 use Rattle.common.specs.Choice.{pick}
 use Rattle.word.specs.Word.{Bytes}
 use Rattle.refusal.specs.declared.Refusal.{Refusal}
@@ -22,12 +20,6 @@ use Rattle.notice.proofs.Renders.{well_count}
 module _ (s : List ℕ) (a e : ℕ) where
   pub is_part_lem : a ≤ e → e ≤ length s → take (e - a) (drop a s) ≡ part_of s a e
   is_part_lem p q = rw (le-leb a e p, le-leb e (length s) q)
-
-  pub backwards : e < a → [] ≡ part_of s a e
-  backwards h = rw (lt-leb a e h)
-
-  pub past_end : length s < e → [] ≡ part_of s a e
-  past_end h = rw (lt-leb e (length s) h, and-false)
 
 -- where there is a start, the field there lies within the notice
 first_lies : (n : ℕ) (s : List ℕ) (at : ℕ) → 0 < length (starts_from n s at) → (0 < n) × (lies_at s at ≡ true)
@@ -67,11 +59,6 @@ start_lies s k h =
 module _ (s : List ℕ) (k : ℕ) (h : k < length (starts_of s)) where
   abbrev pub After : ℕ → ℕ → Type 0
   After i at = drop i (starts_of s) ≡ starts_from (count_of s - i) s at
-
-  pub after_none : After 0 8
-  after_none =
-      let z : count_of s - 0 ≡ count_of s = omega arith in
-      some_start s (omega arith) ∙ ap (λ (n : ℕ). starts_from n s 8) (sym z)
 
   after_lies : (i at : ℕ) → i ≤ k → After i at → (0 < count_of s - i) × (lies_at s at ≡ true)
   after_lies i at p e =

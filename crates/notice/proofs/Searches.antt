@@ -1,15 +1,14 @@
 -- The search for a name: how two names stand to each other, and the fields that the search has passed, where names rise. Assumes nothing.
 use Rattle.std.specs.Prelude.{Option as Optional, Ok, Some, None, option_map, unwrap_or, min}
 use Rattle.std.specs.Option.{option_and}
-use Rattle.std.proofs.Common.{◌≡◌, ℕ, ◌+◌, ◌-◌, ◌<◌, ◌≤◌, Bool, true, false, cond, ◌&&◌, eqb, ltb, List, [], ◌∷◌, ◌++◌, map, length, get_or, drop, sym, refl, ap, ◌∙◌, ap₂, inr, ⊎_elim, arith, length-append, get_or-drop, drop-cons, get_or-take, le-ltb, lt-ltb, ltb-true, ltb-false, eqb-true}
+use Rattle.std.proofs.Common.{◌≡◌, ℕ, ◌+◌, ◌-◌, ◌<◌, ◌≤◌, Bool, true, false, cond, ◌&&◌, eqb, ltb, List, [], ◌∷◌, ◌++◌, map, length, get_or, drop, sym, refl, ap, ◌∙◌, ap₂, inr, ⊎_elim, arith, length-append, get_or-drop, drop-cons, get_or-take, ltb-true, ltb-false, eqb-true}
 use mathlib.Core.Option.{some, none}
 use lib.Seq.{append_snoc}
 use borrow.Author.Tests.{eqb-false}
-use Rattle.common.proofs.Choice.{true_false, false_true}
+use Rattle.common.proofs.Choice.{true_false}
 use Rattle.word.specs.Word.{Bytes}
 use Rattle.octets.specs.Octets.{same_of, before_of}
 use Rattle.octets.proofs.Theorems.{and_parts, same, before, before_irreflexive, before_transitive, before_total}
-use Rattle.notice.specs.declared.FoundField.{FoundField}
 use Rattle.notice.specs.declared.search.Stop.{Stop}
 use Rattle.notice.specs.Field.{Field, field_right, before_first, rising}
 use Rattle.notice.specs.Layout.{name_size_at, next_at, name_at, field_at, lies_at, right_at, stands_at, count_of, check_from, check_of, starts_from, starts_of, fields_of}
@@ -34,9 +33,6 @@ module _ (s : List ℕ) (at : ℕ) (right : right_at s at ≡ true) (name : List
 
   pub head_below : get_or s (at + 5) 0 < first → before_of (name_at s at) name ≡ true
   head_below h = (before (name_at s at) name).1 (inr ([], get_or s (at + 5) 0, first, drop 1 (name_at s at), drop 1 name, name_head, e, h))
-
-  pub head_above : first < get_or s (at + 5) 0 → before_of name (name_at s at) ≡ true
-  head_above h = (before name (name_at s at)).1 (inr ([], first, get_or s (at + 5) 0, drop 1 name, drop 1 (name_at s at), e, name_head, h))
 
 -- ---- fields from the first name that is not below
 

@@ -111,9 +111,6 @@ module _ (s was now : List ℕ) (i at last key : ℕ) (g : Goes s was now i at l
 pub stood_whole : (s : List ℕ) → header_right s ≡ true → stood_from (count_of s) [] s 8 ≡ stood_of s
 stood_whole s e = rw e
 
-pub none_stood : (s : List ℕ) → header_right s ≡ false → [] ≡ stood_of s
-none_stood s e = rw e
-
 -- ---- of a notice, an index
 
 -- where the check finds no fault, every field stands

@@ -5,7 +5,6 @@ use Rattle.std.proofs.Math.Option.{some, none}
 use Rattle.word.specs.Word.{Bytes}
 use Rattle.refusal.specs.declared.Refusal.{Refusal}
 use Rattle.refusal.specs.declared.Refusal.TheVariants.{Notice}
-use Rattle.notice.specs.Layout.{Layout}
 use Rattle.notice.specs.Field.{Field, all_right, rising}
 use Rattle.notice.specs.Render.{fields_bytes, render, NoticeFields}
 use Rattle.notice.specs.Layout.{count_of, header_right, stands_at, check_of, fields_of}

@@ -3,9 +3,6 @@ use native.Mathlib.Omega.{arith}
 use Rattle.mend.proofs.Walks.{single_byte}
 use Rattle.mend.proofs.fields.size_word.Goals as goal
 
-pub overflow_cast-result : goal.overflow_cast-result
-overflow_cast-result c = omega (arith, c.shared_slice_known-then-bytes-at-lt2-1.given c.args.at)
-
 pub returns-then-bytes-at-lt2 : goal.returns-then-bytes-at-lt2
 returns-then-bytes-at-lt2 c =
     (single_byte c.args.bytes.now c.args.at (omega arith), omega (arith, c.shared_slice_known-then-bytes-at-lt2-1.given c.args.at))

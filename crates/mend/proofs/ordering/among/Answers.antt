@@ -1,6 +1,5 @@
 -- `among` meets its contract: the place tells what the field is. Assumes nothing.
 use mathlib.Core.Path.{refl, sym, ◌∙◌}
-use native.Mathlib.Omega.{arith}
 use Rattle.notice.specs.Layout.{name_at}
 use Rattle.mend.proofs.Orders.{is_moved, is_kept}
 use Rattle.mend.proofs.Admitted.{moved_to, kept_at}

@@ -3,19 +3,8 @@ use mathlib.Core.Path.{◌∙◌}
 use Prim.Native.Nat.{◌-◌}
 use native.Mathlib.Omega.{arith}
 use Rattle.notice.specs.Layout.{name_at}
-use Rattle.notice.proofs.Places.{right_lies}
-use Rattle.mend.proofs.Orders.{right_at_lem, none_before, by_last}
+use Rattle.mend.proofs.Orders.{right_at_lem, by_last}
 use Rattle.mend.proofs.ordering.comes_last.Goals as goal
-
-pub returns-then-n-eq0 : goal.returns-then-n-eq0
-returns-then-n-eq0 c =
-    let a = c.args in none_before a.bytes.now a.order.now a.n c.requires.1 (name_at a.bytes.now a.at) c.if-n-eq0.true
-
-pub overflow_cast-order : goal.overflow_cast-order
-overflow_cast-order c =
-    let a = c.args in
-    let l = right_lies a.bytes.now _ (right_at_lem a.bytes.now a.order.now a.n c.requires.1 (a.n - 1) (omega (arith, c.if-n-eq0.false))) in
-    omega (arith, l.within)
 
 pub name_before-requires : goal.name_before-requires
 name_before-requires c =

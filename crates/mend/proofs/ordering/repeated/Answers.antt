@@ -3,7 +3,6 @@ use mathlib.Core.Path.{sym, ◌∙◌}
 use Prim.Native.Nat.{◌-◌}
 use native.Mathlib.Omega.{arith}
 use Rattle.notice.specs.Layout.{name_at}
-use Rattle.notice.proofs.Places.{right_lies}
 use Rattle.mend.proofs.Orders.{right_at_lem, place_within, first_new, by_before}
 use Rattle.mend.proofs.ordering.repeated.Goals as goal
 
@@ -18,9 +17,6 @@ offset_bounds-order-place c = omega (arith, place_within c.args.bytes.now c.args
 pub bounds-order-place : goal.bounds-order-place
 bounds-order-place c =
     omega (arith, place_within c.args.bytes.now c.args.order.now c.args.n c.requires.1 (name_at c.args.bytes.now c.args.at), c.requires.2, c.if-place-eq0.false, c.requires.1.few, c.requires.1.long)
-
-pub overflow_cast-order : goal.overflow_cast-order
-overflow_cast-order c = let l = right_lies c.args.bytes.now _ (right_at_lem c.args.bytes.now c.args.order.now c.args.n c.requires.1 (c.args.place - 1) (omega (arith, place_within c.args.bytes.now c.args.order.now c.args.n c.requires.1 (name_at c.args.bytes.now c.args.at), c.requires.2, c.if-place-eq0.false))) in omega (arith, l.within)
 
 pub same_name-requires : goal.same_name-requires
 same_name-requires c = ((right_at_lem c.args.bytes.now c.args.order.now c.args.n c.requires.1 (c.args.place - 1) (omega (arith, place_within c.args.bytes.now c.args.order.now c.args.n c.requires.1 (name_at c.args.bytes.now c.args.at), c.requires.2, c.if-place-eq0.false))), c.requires.0)

@@ -9,33 +9,12 @@ use lib.Seq.{get_or-take}
 use Rattle.notice.specs.Layout.{next_at}
 use Rattle.notice.proofs.Places.{right_lies}
 use Rattle.mend.proofs.Orders.{right_at_lem}
-use Rattle.mend.proofs.Placed.{Placing, place_starts, part_size, part_fits, flushed, grown, placed}
+use Rattle.mend.proofs.Placed.{Placing, flushed, grown}
 use Rattle.mend.proofs.placing.put_fields.Goals as goal
 use Rattle.mend.proofs.placing.put_fields.Goals.{then-at-end, else-at-end}
 
 along : {s order notice₀ x x' : List ℕ} {n y y' z z' e e' i : ℕ} → x ≡ x' → y ≡ y' → z ≡ z' → e ≡ e' → Placing s order n notice₀ x' y' z' e' i → Placing s order n notice₀ x y z e i
 along p q r t v = rw (p, q, r, t) v
-
-pub loop-start-init : goal.loop-start-init
-loop-start-init c = let a = c.args in place_starts a.bytes.now a.order.now a.n a.notice.now
-
-pub copy_to-requires : goal.copy_to-requires
-copy_to-requires c =
-    let a = c.args in
-    let i = c.loop-start in
-    part_fits a.bytes.now a.order.now a.n a.notice.now i.notice i.to i.from i.end i.start-index i.invariant c.requires.1
-
-pub overflow_add-to : goal.overflow_add-to
-overflow_add-to c =
-    let a = c.args in
-    let i = c.loop-start in
-    omega (arith, part_fits a.bytes.now a.order.now a.n a.notice.now i.notice i.to i.from i.end i.start-index i.invariant c.requires.1, part_size a.bytes.now a.order.now a.n a.notice.now i.notice i.to i.from i.end i.start-index i.invariant, i.invariant.same_long)
-
-pub copy_to-requires-2 : goal.copy_to-requires-2
-copy_to-requires-2 c =
-    let a = c.args in
-    let i = c.loop-start in
-    part_fits a.bytes.now a.order.now a.n a.notice.now i.notice i.to i.from i.end i.start-index i.invariant c.requires.1
 
 pub loop-start-preserved : goal.loop-start-preserved
 loop-start-preserved c =

@@ -1,4 +1,4 @@
-use Rattle.std.proofs.Common.{◌≡◌, ℕ, ◌+◌, ◌-◌, length, take, sym, refl, ap, ◌∙◌, arith}
+use Rattle.std.proofs.Common.{◌≡◌, ℕ, ◌+◌, ◌-◌, length, take, sym, ap, ◌∙◌, arith}
 use Rattle.word.specs.Word.{word_bytes, Bytes}
 use Rattle.notice.specs.Field.{printable}
 use Rattle.notice.proofs.Names.{overlap, start_wrong, next_right, whole_word, word_bytes_lem, end_word}
@@ -17,15 +17,6 @@ word_is c =
     let i = c.loop-i in
     whole_word c.read_u64.result c.word_right.result c.read_u64.type_inv c.word_right.ensures ∙ (ap (λ (x : ℕ). printable (word_bytes 8 x)) c.read_u64.ensures
     ∙ (word_bytes_lem 8 i.i s (bytes c.before.before.before.before) (omega arith) ∙ next_right i.i 8 s i.invariant.1))
-
-pub loop-i-init : goal.loop-i-init
-loop-i-init c = (omega arith, refl)
-
-pub read_u64-requires : goal.read_u64-requires
-read_u64-requires c = omega arith
-
-pub loop-i-smaller : goal.loop-i-smaller
-loop-i-smaller c = omega arith
 
 pub loop-i-preserved : goal.loop-i-preserved
 loop-i-preserved c = (omega arith, sym (word_is c.before.before) ∙ c.if-word_right.true)

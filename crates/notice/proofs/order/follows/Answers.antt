@@ -3,7 +3,7 @@ use Rattle.octets.specs.Octets.{before_of}
 use Rattle.octets.proofs.Theorems.{not_folded}
 use Rattle.notice.specs.Layout.{name_at, right_at}
 use Rattle.notice.specs.Key.{key_of, last_name_at}
-use Rattle.notice.proofs.Places.{Lies, lies_true, right_lies, right_name}
+use Rattle.notice.proofs.Places.{lies_true, right_name}
 use Rattle.notice.proofs.Keys.{less_before, not_after, last_name, some_last, some_key, key_here, no_key}
 use Rattle.notice.proofs.order.follows.Lts as lts
 use Rattle.notice.proofs.order.follows.Tie as tie

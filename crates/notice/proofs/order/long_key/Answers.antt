@@ -1,7 +1,6 @@
 use Rattle.std.proofs.Common.{◌≡◌, ℕ, ◌+◌, ◌-◌, List, length, take, drop, sym, ap, ◌∙◌, arith, length-drop, length-take-le}
 use Rattle.notice.specs.Field.{printable}
-use Rattle.notice.proofs.Names.{by_bytes}
-use Rattle.notice.proofs.Keys.{key_start, right_key_lem, wrong_key}
+use Rattle.notice.proofs.Keys.{key_start, right_key_lem}
 use Rattle.notice.proofs.order.long_key.Lts as lts
 use Rattle.notice.proofs.order.long_key.Tie as tie
 use Rattle.notice.proofs.order.long_key.Reads as reads
@@ -27,9 +26,3 @@ returns-then-words_right c =
     let a = d.args in
     let p = d.requires in
     right_key_lem (name d) _ (λ z. omega (arith, p, name_length d)) (omega (arith, p, name_length d)) (sym (judged d) ∙ c.if-words_right.true) (c.eight.ensures ∙ key_start a.n a.at a.notice.now p.0)
-
-pub returns : goal.returns
-returns c =
-    let d = c.before.before in
-    let p = d.requires in
-    wrong_key (name d) (sym c.if-words_right.false ∙ (judged d ∙ by_bytes (name d) (λ z. omega (arith, p, name_length d)) (omega (arith, p, name_length d))))

@@ -1,9 +1,6 @@
 use Rattle.std.proofs.Common.{◌≡◌, ◌∙◌, arith}
-use Rattle.notice.proofs.Readings.{after_none, after_within, after_is, after_more}
+use Rattle.notice.proofs.Readings.{after_within, after_is, after_more}
 use Rattle.notice.proofs.reading.field_start.Goals as goal
-
-pub loop-init : goal.loop-init
-loop-init c = λ h. after_none c.args.notice.now c.args.k h
 
 pub next_at-at-requires : goal.next_at-at-requires
 next_at-at-requires c =

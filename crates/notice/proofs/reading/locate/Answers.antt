@@ -1,6 +1,6 @@
 use Rattle.std.proofs.Common.{sym, ap, ◌∙◌, arith, rules}
 use Rattle.notice.specs.Read.{locate_at}
-use Rattle.notice.proofs.Readings.{past_count, has-start, lies_by, located, same_place, is_located}
+use Rattle.notice.proofs.Readings.{has-start, lies_by, located, same_place, is_located}
 use Rattle.notice.proofs.reading.locate.Goals as goal
 
 pub field_start-at-requires : goal.field_start-at-requires

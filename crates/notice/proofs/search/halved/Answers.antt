@@ -1,15 +1,10 @@
-use Rattle.std.proofs.Common.{◌≡◌, ◌+◌, ◌/◌, sym, ◌∙◌, arith, rules}
-use Rattle.notice.proofs.Places.{right_lies}
-use Rattle.notice.proofs.Renders.{well_header}
+use Rattle.std.proofs.Common.{◌+◌, ◌/◌, sym, ◌∙◌, arith, rules}
 use Rattle.notice.proofs.Searches.{first_is, stops_empty}
-use Rattle.notice.proofs.Halves.{between_all, mid-right, from-mid, to-mid, stops-mid, stops_between}
+use Rattle.notice.proofs.Halves.{mid-right, from-mid, to-mid, stops-mid, stops_between}
 use Rattle.notice.proofs.search.halved.Goals as goal
 
 pub returns-then-is_empty : goal.returns-then-is_empty
 returns-then-is_empty c = stops_empty c.args.notice.now c.args.name.now (λ j. search rules) c.requires.0 (sym c.is_empty.ensures ∙ c.if-is_empty.true)
-
-pub loop-low-init : goal.loop-low-init
-loop-low-init c = rw c.read_u16-high.ensures (between_all c.args.notice.now c.args.name.now (λ j. search rules) c.requires.0)
 
 pub stands_to-requires : goal.stands_to-requires
 stands_to-requires c =

@@ -1,4 +1,4 @@
-use Rattle.notice.proofs.Searches.{head_below, head_above}
+use Rattle.notice.proofs.Searches.{head_below}
 use Rattle.notice.proofs.search.stands_to.Goals as goal
 
 pub returns-then-head-first : goal.returns-then-head-first

@@ -4,23 +4,8 @@ use Rattle.word.specs.Word.{word_bytes}
 use Rattle.notice.specs.Layout.{count_of}
 use Rattle.notice.specs.Render.{field_bytes}
 use Rattle.notice.specs.Write.{field, field_size, place_for}
-use Rattle.notice.proofs.Inserts.{known, long, inserted}
+use Rattle.notice.proofs.Inserts.{known, inserted}
 use Rattle.notice.proofs.writing.insert.Goals as goal
-
-pub overflow_add-size-2 : goal.overflow_add-size-2
-overflow_add-size-2 c = let k = known c.args.buffer.now (λ i. (c.slice_known-1.given i).fits) c.args.len (field c.args.kind c.args.name.now c.args.value.now) c.requires in omega (arith, k.name_fits, k.value_fits)
-
-pub place_for-at-requires : goal.place_for-at-requires
-place_for-at-requires c =
-    let k = known c.args.buffer.now (λ i. (c.slice_known-1.given i).fits) c.args.len (field c.args.kind c.args.name.now c.args.value.now) c.requires in
-    let z : c.args.len - 0 ≡ c.args.len = omega arith in
-    rw z (omega (arith, k.header, k.short, long c.args.buffer.now (λ i. (c.slice_known-1.given i).fits) c.args.len (field c.args.kind c.args.name.now c.args.value.now) c.requires))
-
-pub read_u16-count-requires : goal.read_u16-count-requires
-read_u16-count-requires c =
-    let k = known c.args.buffer.now (λ i. (c.slice_known-1.given i).fits) c.args.len (field c.args.kind c.args.name.now c.args.value.now) c.requires in
-    let z : c.args.len - 0 ≡ c.args.len = omega arith in
-    rw z (omega (arith, k.header, long c.args.buffer.now (λ i. (c.slice_known-1.given i).fits) c.args.len (field c.args.kind c.args.name.now c.args.value.now) c.requires))
 
 pub move_up-requires : goal.move_up-requires
 move_up-requires c =
@@ -31,27 +16,6 @@ pub put_field-requires : goal.put_field-requires
 put_field-requires c =
     let z : c.args.len - 0 ≡ c.args.len = omega arith in
     let k = known c.args.buffer.now (λ i. (c.slice_known-1.given i).fits) c.args.len (field c.args.kind c.args.name.now c.args.value.now) c.requires in omega (arith, k.before_end, k.fits, k.name_fits, k.value_fits, c.place_for-at.ensures ∙ ap (λ (n : ℕ). place_for (take n c.args.buffer.now) c.args.name.now) z, c.move_up.auto.buffer)
-
-pub overflow_add-len : goal.overflow_add-len
-overflow_add-len c =
-    let k = known c.args.buffer.now (λ i. (c.slice_known-1.given i).fits) c.args.len (field c.args.kind c.args.name.now c.args.value.now) c.requires in omega (arith, k.short)
-
-pub overflow_cast-len : goal.overflow_cast-len
-overflow_cast-len c =
-    let k = known c.args.buffer.now (λ i. (c.slice_known-1.given i).fits) c.args.len (field c.args.kind c.args.name.now c.args.value.now) c.requires in omega (arith, k.short)
-
-pub write_u32-requires : goal.write_u32-requires
-write_u32-requires c =
-    let k = known c.args.buffer.now (λ i. (c.slice_known-1.given i).fits) c.args.len (field c.args.kind c.args.name.now c.args.value.now) c.requires in omega (arith, k.header, k.fits, c.move_up.auto.buffer, c.put_field.auto.buffer)
-
-pub overflow_add-count : goal.overflow_add-count
-overflow_add-count c =
-    let z : c.args.len - 0 ≡ c.args.len = omega arith in
-    let k = known c.args.buffer.now (λ i. (c.slice_known-1.given i).fits) c.args.len (field c.args.kind c.args.name.now c.args.value.now) c.requires in omega (arith, k.few, c.read_u16-count.ensures ∙ ap (λ (n : ℕ). count_of (take n c.args.buffer.now)) z)
-
-pub write_u16-requires : goal.write_u16-requires
-write_u16-requires c =
-    let k = known c.args.buffer.now (λ i. (c.slice_known-1.given i).fits) c.args.len (field c.args.kind c.args.name.now c.args.value.now) c.requires in omega (arith, k.header, k.fits, c.move_up.auto.buffer, c.put_field.auto.buffer, c.write_u32.auto.d)
 
 pub returns : goal.returns
 returns c =

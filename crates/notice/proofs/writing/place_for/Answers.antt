@@ -1,7 +1,7 @@
-use Rattle.std.proofs.Common.{◌≡◌, ℕ, ◌+◌, ◌-◌, Bool, sym, ap, ◌∙◌, ap₂, arith}
+use Rattle.std.proofs.Common.{◌≡◌, ◌+◌, ◌-◌, sym, ap, ◌∙◌, ap₂, arith}
 use Rattle.octets.specs.Octets.{before_of}
 use Rattle.octets.proofs.Theorems.{not_folded}
-use Rattle.notice.specs.Layout.{name_at, starts_from}
+use Rattle.notice.specs.Layout.{name_at}
 use Rattle.notice.specs.Write.{place_in}
 use Rattle.notice.proofs.Places.{lies_true}
 use Rattle.notice.proofs.Walks.{starts_end, here, further, no_further}

@@ -1,24 +1,9 @@
-use Rattle.std.proofs.Common.{ℕ, ◌+◌, List, length, set, ap, ◌∙◌, arith, length-set}
+use Rattle.std.proofs.Common.{ℕ, ◌+◌, List, length, set, ap, ◌∙◌}
 use lib.Seq.{sets}
 use Rattle.word.specs.Word.{word_bytes}
 use Rattle.notice.specs.Write.{field}
 use Rattle.notice.proofs.Stores.{field_stored}
 use Rattle.notice.proofs.writing.put_field.Goals as goal
-
-pub copy_to-requires : goal.copy_to-requires
-copy_to-requires c =
-    let l = length-set c.write_u16-2.new.d (c.args.at + 4) (length c.args.name.now) in
-    omega (arith, l, c.write_u16.auto.d, c.write_u16-2.auto.d, c.requires)
-
-pub copy_to-requires-2 : goal.copy_to-requires-2
-copy_to-requires-2 c =
-    let l = length-set c.write_u16-2.new.d (c.args.at + 4) (length c.args.name.now) in
-    omega (arith, l, c.write_u16.auto.d, c.write_u16-2.auto.d, c.copy_to.auto.buffer, c.requires)
-
-pub shape_of-buffer : goal.shape_of-buffer
-shape_of-buffer c =
-    let l = length-set c.write_u16-2.new.d (c.args.at + 4) (length c.args.name.now) in
-    omega (arith, l, c.write_u16.auto.d, c.write_u16-2.auto.d, c.copy_to.auto.buffer, c.copy_to-2.auto.buffer)
 
 pub returns : goal.returns
 returns c =

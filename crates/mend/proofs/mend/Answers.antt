@@ -1,1 +1,0 @@
-use Rattle.mend.proofs.mend.Goals as goal

@@ -1,1 +1,0 @@
-use Rattle.notice.proofs.find.Goals as goal

@@ -1,1 +1,0 @@
-use Rattle.notice.proofs.writing.write.Goals as goal
