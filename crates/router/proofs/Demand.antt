@@ -17,8 +17,8 @@ use Rattle.common.proofs.Choice.{false_true}
 use Rattle.word.specs.Word.{Bytes}
 use Rattle.refusal.specs.declared.Refusal.{Refusal}
 use Rattle.refusal.specs.Refusal.{number_of as refusal_number, place_of as refusal_place}
-use Rattle.refusal.proofs.Numbers.{refuses}
-use Rattle.notice.specs.Layout.{check_of as noticeCheck, number_of}
+use Rattle.refusal.proofs.Numbers.{refuses, not_zero}
+use Rattle.notice.specs.Layout.{check_of as noticeCheck}
 use Rattle.notice.specs.Layout.{Layout}
 use Rattle.notice.specs.Field.{Field}
 use Rattle.notice.specs.Write.{written_of, written_bytes, refusal_of as refusal_in}
@@ -46,7 +46,7 @@ use Rattle.translator.proofs.Lexed.{lexed_text}
 use Rattle.translator.proofs.Fits.{fits_room, refused_empty}
 use Rattle.translator.proofs.Theorems.{writes_table, accepts_exactly, decodes, passes_check, other_edition, pool_small}
 use Rattle.router.specs.Agree.{Made}
-use Rattle.router.specs.Demand.{Met, DemandThree, AcceptedText, RefusalKeeps, outcome_of, refused as refusedWith, ran_of, checked_of, RunsChecked, RunsTable, Matches}
+use Rattle.router.specs.Demand.{Met, DemandThree, AcceptedText, RefusalKeeps, outcome_by, outcome_of, refused as refusedWith, ran_of, checked_of, match_by, RunsChecked, RunsTable, Matches}
 use Rattle.router.specs.declared.matching.Matched.{Matched}
 use Rattle.router.proofs.Agree.{Whole, runs_whole}
 use Rattle.router.proofs.Made.{accepted_made}
@@ -216,13 +216,16 @@ module _ (number : ℕ) (text buffer notice written : List ℕ) (visits : ℕ) (
       let g : noticeCheck notice ≡ Err f = sym e ∙ w in
       record {
         determined = record {
-          answer = rw g q;
+          answer = q ∙ sym (ap (λ (l : Layout). match_by (outcome_by l (translation_of number text (length buffer))) notice r.machine) g ∙ chosen (eqb (refusal_number f) 0) (not_zero f));
           bytes = rw g b;
           runner = λ z. let n : (outcome_of number text (length buffer) notice).number ≡ refusal_number f = rw g in refuses f (sym n ∙ z);
         };
         demand = λ edition tree is acc room w. no_way (sym w ∙ g);
       }
     where
+      chosen : (t : Bool) → t ≡ false → pick t (λ _. ran_of [] notice r.machine) (λ _. refusedWith (refusal_number f) (refusal_place f)) ≡ refusedWith (refusal_number f) (refusal_place f)
+      chosen t e = rw e refl
+
       isFault : Layout → Bool
       isFault (Ok u) = false
       isFault (Err r) = true

@@ -4,6 +4,7 @@
 #![tactic(auto)]
 
 ghost use Rattle.std.specs.Prelude.{◌≡◌, cond, length};
+ghost use Rattle.refusal.specs.Refusal.{number_of as refusal_number, place_of as refusal_place};
 ghost use Rattle.truth.specs.Truth.{number_of as verdictNumber};
 ghost use Rattle.translator.specs.Translation.{translation_of, Answers};
 ghost use Rattle.table.specs.Check.{check_of as tableCheck, refusal_of};
@@ -25,6 +26,29 @@ use truth::Truth;
 
 pub mod matching;
 
+// Stores a refusal's place and answers its number.
+fn refuse(r: Refusal, place: &mut usize) -> u8
+    ensures number { result ≡ refusal_number r }
+    ensures place_after { place.new ≡ refusal_place r }
+{
+    *place = r.place();
+    r.number()
+}
+
+// The same of a refusal that may be none: number and place are 0 then.
+fn tell(refusal: Option<Refusal>, place: &mut usize) -> u8
+    ensures number { result ≡ refused_number refusal }
+    ensures place_after { place.new ≡ refused_place refusal }
+{
+    match refusal {
+        Some(r) => refuse(r, place),
+        None => {
+            *place = 0;
+            0
+        }
+    }
+}
+
 // "Translation answers number, place and table length, 0 if refused.", in the edition that the caller names. A table stands at the buffer's start; a refusal changes no byte.
 pub fn virentolex_translate(
     edition: usize,
@@ -42,9 +66,8 @@ pub fn virentolex_translate(
             0
         }
         Err(r) => {
-            *place = r.place();
             *len = 0;
-            r.number()
+            refuse(r, place)
         }
     }
 }
@@ -61,16 +84,12 @@ pub fn virentolex_check_notice(notice: &[u8], place: &mut usize) -> u8
     ensures value { result ≡ number_of (noticeCheck notice.now) }
     ensures place_after { place.new ≡ place_of (noticeCheck notice.now) }
 {
-    let layout = notice::check(notice);
-    match layout {
+    match notice::check(notice) {
         Ok(()) => {
             *place = 0;
             0
         }
-        Err(r) => {
-            *place = r.place();
-            r.number()
-        }
+        Err(r) => refuse(r, place),
     }
 }
 
@@ -98,11 +117,10 @@ pub fn virentolex_run<'a>(
             0
         }
         Err(r) => {
-            *place = r.place();
             *verdict = u8::from(Truth::Bottom);
             *steps = 0;
             *undecided = 65535;
-            r.number()
+            refuse(r, place)
         }
     }
 }
@@ -161,12 +179,11 @@ pub fn virentolex_read(
             0
         }
         Err(r) => {
-            *place = r.place();
             *kind = 0;
             *name = 0;
             *value = 0;
             *end = 0;
-            r.number()
+            refuse(r, place)
         }
     }
 }
@@ -189,10 +206,9 @@ pub fn virentolex_find(
             0
         }
         Err(r) => {
-            *place = r.place();
             *index = 64;
             *looked = 0;
-            r.number()
+            refuse(r, place)
         }
     }
 }
@@ -217,20 +233,9 @@ pub fn virentolex_write(
             0
         }
         Err(r) => {
-            *place = r.place();
             *total = len;
-            r.number()
+            refuse(r, place)
         }
-    }
-}
-
-// The number and the place of a refusal, 0 if there is none.
-fn refused(refusal: Option<Refusal>) -> (u8, usize)
-    ensures { (result.0 ≡ refused_number refusal) × (result.1 ≡ refused_place refusal) }
-{
-    match refusal {
-        Some(r) => (r.number(), r.place()),
-        None => (0, 0),
     }
 }
 
@@ -255,12 +260,10 @@ pub fn virentolex_quorum_open(
     ensures decision_after { decision.new ≡ opened_bytes decision.old table.now needed }
 {
     let a = quorum::open(decision, table, needed);
-    let (number, at) = refused(a.refusal);
-    *place = at;
     *count = a.count;
     *reached = flag(a.reached);
     *undecided = a.undecided;
-    number
+    tell(a.refusal, place)
 }
 
 // "The answer is the count and whether it has reached the needed number.", and the run's first undecided entry, which the counter "passes .. on". A refusal changes no byte.
@@ -276,12 +279,10 @@ pub fn virentolex_quorum_show(
     ensures decision_after { decision.new ≡ shown_bytes decision.old notice.now }
 {
     let a = quorum::show(decision, notice);
-    let (number, at) = refused(a.refusal);
-    *place = at;
     *count = a.count;
     *reached = flag(a.reached);
     *undecided = a.undecided;
-    number
+    tell(a.refusal, place)
 }
 
 // "reading into our notice, with fields put in name order": the notice that a UBF(A) text says, at the buffer's start. A refusal changes no byte.
@@ -329,9 +330,8 @@ pub fn virentolex_run_many<'a>(
             0
         }
         Err(r) => {
-            *place = r.place();
             *count = 0;
-            r.number()
+            refuse(r, place)
         }
     }
 }
@@ -408,10 +408,7 @@ pub fn virentolex_store_match<'a>(
             *place = 0;
             0
         }
-        Err(r) => {
-            *place = r.place();
-            r.number()
-        }
+        Err(r) => refuse(r, place),
     }
 }
 
@@ -437,10 +434,9 @@ pub fn virentolex_mend(
             0
         }
         Err(r) => {
-            *place = r.place();
             *len = 0;
             *fields = 0;
-            r.number()
+            refuse(r, place)
         }
     }
 }

@@ -7,9 +7,9 @@ use Rattle.router.proofs.virentolex_quorum_show.Goals as goal
 pub returns : goal.returns
 returns c =
     let a = c.show-a in
-    let t = c.refused.ensures in
+    let t = c.tell.ensures in
     let g = gives (shown a.result) _ _ a.ensures.answer c.flag.ensures in
     record {
-      gives = record { number_is = t.0 ∙ g.number_is; place_is = t.1 ∙ g.place_is; count_is = g.count_is; reached_is = g.reached_is; undecided_is = g.undecided_is };
+      gives = record { number_is = t.number ∙ g.number_is; place_is = t.place_after ∙ g.place_is; count_is = g.count_is; reached_is = g.reached_is; undecided_is = g.undecided_is };
       decision_after = a.ensures.bytes;
     }

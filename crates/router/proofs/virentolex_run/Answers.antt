@@ -18,8 +18,8 @@ pub returns-in-Err : goal.returns-in-Err
 returns-in-Err c =
     let e = c.in-Err.ensures in
     record {
-      value = c.number.ensures ∙ ap (λ a. a.number) e;
-      place_after = c.place.ensures ∙ ap (λ a. a.place) e;
+      value = c.refuse.ensures.number ∙ ap (λ a. a.number) e;
+      place_after = c.refuse.ensures.place_after ∙ ap (λ a. a.place) e;
       verdict_after = c.from-in-Err.ensures ∙ ap (λ a. number_of a.verdict) e;
       steps_after = ap (λ a. a.steps) e;
       undecided_after = ap (λ a. a.undecided) e;

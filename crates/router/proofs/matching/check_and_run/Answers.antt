@@ -1,6 +1,5 @@
 -- `router::matching::check_and_run` meets its contract: the check's refusal, or the answers of the run and of the runner. Assumes nothing.
-use mathlib.Core.Path.{◌≡◌, sym, ap, ap₂, ◌∙◌}
-use Prim.Native.Nat.{ℕ}
+use mathlib.Core.Path.{sym, ap, ap₂, ◌∙◌}
 use Rattle.interpreter.specs.Running.{RunAnswer}
 use Rattle.interpreter.proofs.Answers.{ran_checked}
 use Rattle.router.specs.Demand.{refused as refusedWith}
