@@ -290,10 +290,18 @@ pub fn virentolex_ubf_read(text: &[u8], notice: &mut [u8], place: &mut usize, le
     ensures len_after { record { number = result; place = place.new; len = len.new } ≡ read_answer text.now notice.old }
     ensures notice_after { notice.new ≡ read_bytes text.now notice.old }
 {
-    let a = ubf::read(text, notice);
-    *place = a.place;
-    *len = a.len;
-    a.number
+    match ubf::read(text, notice) {
+        Ok(n) => {
+            *place = 0;
+            *len = n;
+            0
+        }
+        Err(r) => {
+            *place = r.place();
+            *len = 0;
+            r.number()
+        }
+    }
 }
 
 // "writing back in one fixed form": the UBF(A) text of a notice, at the buffer's start. A refusal changes no byte.
@@ -306,10 +314,18 @@ pub fn virentolex_ubf_write(
     ensures len_after { record { number = result; place = place.new; len = len.new } ≡ write_answer notice.now text.old }
     ensures text_after { text.new ≡ write_bytes notice.now text.old }
 {
-    let a = ubf::write(notice, text);
-    *place = a.place;
-    *len = a.len;
-    a.number
+    match ubf::write(notice, text) {
+        Ok(n) => {
+            *place = 0;
+            *len = n;
+            0
+        }
+        Err(r) => {
+            *place = r.place();
+            *len = 0;
+            r.number()
+        }
+    }
 }
 
 // "A single call shall take up to 64 tables laid end to end and one notice, and write per table one byte: 0 false, 1 true, 2 bottom, 3 table refused." A refusal changes no byte.

@@ -20,8 +20,11 @@ use Rattle.notice.proofs.Fields.{right_small}
 use Rattle.notice.proofs.Renders.{length_render}
 use Rattle.notice.proofs.Sorted.{sorted_size}
 use Rattle.ubf.specs.Fields.{Said, no_text, no_tuple, says, said, in_syntax, is_tuple}
-use Rattle.ubf.specs.Answer.{names_right, sizes_right, repeated, notice_size, fits_in, read_by, read_number, said_fields, read_answer, read_bytes, leaves}
-use Rattle.ubf.specs.declared.Answer.{Answer}
+use Rattle.std.specs.Prelude.{Err}
+use Rattle.refusal.specs.declared.Refusal.{Refusal}
+use Rattle.refusal.specs.Refusal.{number_of, place_of}
+use Rattle.refusal.proofs.Numbers.{refuses as no_zero}
+use Rattle.ubf.specs.Answer.{Answer, answer_of, names_right, sizes_right, repeated, notice_size, fits_in, read_by, read_number, said_fields, read_answer, read_bytes, leaves}
 use Rattle.ubf.specs.Span.{field_in, SpanIn, SizeIs, spans_in, TupleFound, row_in, ordered, ArrangedIs, RefusalIs}
 use Rattle.ubf.specs.declared.spans.Tuple.{Tuple}
 use Rattle.ubf.proofs.Names.{or_neither}
@@ -155,6 +158,9 @@ pub record ReadIs (text buffer : List ℕ) (r : Answer) (after : List ℕ) : Typ
 module _ (text buffer : List ℕ) where
   pub read_refused : (n : ℕ) → (n ≡ 0 → ⊥) → read_number text (length buffer) ≡ n → ReadIs text buffer (record { number = n; place = 0; len = 0 }) buffer
   read_refused n z e = record { answer = rw (e, ne_eqb n 0 z); bytes = rw (e, ne_eqb n 0 z) }
+
+  pub read_err : (e : Refusal) → number_of e ≡ read_number text (length buffer) → place_of e ≡ 0 → (answer_of (Err e) ≡ read_answer text buffer) × (buffer ≡ read_bytes text buffer)
+  read_err e n p = let r = read_refused (number_of e) (λ z. no_zero e z) (sym n) in (rw p r.answer, r.bytes)
 
   pub read_accepted : (size : ℕ) (fs : List Field) (after : List ℕ) → read_number text (length buffer) ≡ 0 → fs ≡ sorted (said_fields (said text)) → size ≡ notice_size fs → after ≡ leaves 0 (render fs) buffer
       → ReadIs text buffer (record { number = 0; place = 0; len = size }) after

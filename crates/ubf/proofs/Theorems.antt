@@ -21,10 +21,9 @@ use Rattle.notice.specs.Layout.{unless, field_at, check_of, starts_of, fields_of
 use Rattle.notice.specs.Write.{has_name, sorted}
 use Rattle.notice.proofs.Orders.{same_symmetric, before_not_same, perm_right}
 use Rattle.notice.proofs.Renders.{well_render, well_fields, length_render, render_passes, render_fields}
-use Rattle.ubf.specs.declared.Answer.{Answer}
 use Rattle.ubf.specs.Fields.{Phase, outside, names, value, number, whole, wrong, phase_of, Said, no_text, no_tuple, says, said_by, said_in, said, in_syntax}
 use Rattle.ubf.specs.Text.{text_of}
-use Rattle.ubf.specs.Answer.{names_right, sizes_right, repeated, notice_size, fits_in, WriteIs, read_by, said_fields, has_real, write_by, write_number, read_answer, read_bytes, answered, leaves}
+use Rattle.ubf.specs.Answer.{Answer, names_right, sizes_right, repeated, notice_size, fits_in, WriteIs, read_by, said_fields, has_real, write_by, write_number, read_answer, read_bytes, answered, leaves}
 use Rattle.ubf.specs.Grammar.{items_after}
 use Rattle.ubf.specs.Theorems.{WrittenSays, WrittenInput, WriteRead, WriteAccepts, ReadHolds, SortedSame, SyntaxExactly, SaysItems, OutsideSyntax}
 use Rattle.ubf.proofs.Trips.{AllGood, text_says}

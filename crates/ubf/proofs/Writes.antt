@@ -15,9 +15,8 @@ use Rattle.notice.specs.Layout.{count_of, field_at, check_of, fields_of}
 use Rattle.notice.specs.Field.{Field}
 use Rattle.notice.proofs.Renders.{well_header, well_starts}
 use Rattle.word.specs.Word.{Bytes}
-use Rattle.ubf.specs.declared.Answer.{Answer}
 use Rattle.ubf.specs.Text.{fields_text, text_of}
-use Rattle.ubf.specs.Answer.{has_real, leaves, write_answer, write_bytes}
+use Rattle.ubf.specs.Answer.{Answer, has_real, leaves, write_answer, write_bytes}
 use Rattle.ubf.proofs.Values.{rest_start, rest_room}
 
 abbrev pub answer : ℕ → ℕ → ℕ → Answer

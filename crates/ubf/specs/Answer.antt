@@ -1,14 +1,15 @@
 -- What reading and writing answer, and what they leave in the lent buffer. Document 02, request 5.
-use Rattle.std.specs.Prelude.{ℕ, ◌+◌, ◌≡◌, Bool, true, false, cond, not, ◌&&◌, ◌||◌, List, [], ◌∷◌, ◌++◌, eqb, leb, length, drop, Ok, Err}
+use Rattle.std.specs.Prelude.{ℕ, ◌+◌, ◌≡◌, Bool, true, false, cond, not, ◌&&◌, ◌||◌, List, [], ◌∷◌, ◌++◌, eqb, leb, length, drop, Result, Ok, Err}
 use Rattle.notice.specs.Layout.{Layout}
 use Rattle.notice.specs.Field.{Field, name_right, size_right}
 use Rattle.notice.specs.Render.{fields_bytes, render}
 use Rattle.common.specs.Choice.{pick}
+use Rattle.refusal.specs.declared.Refusal.{Refusal}
+use Rattle.refusal.specs.Refusal.{number_of as refusal_number, place_of as refusal_place}
 use Rattle.notice.specs.Layout.{unless, check_of, number_of, place_of, fields_of}
 use Rattle.notice.specs.Write.{has_name, sorted}
 use Rattle.ubf.specs.Fields.{Said, no_text, no_tuple, says, said}
 use Rattle.ubf.specs.Text.{text_of}
-use Rattle.ubf.specs.declared.Answer.{Answer}
 
 abbrev pub names_right : List Field → Bool
 names_right [] = true
@@ -46,6 +47,25 @@ said_fields (says fs) = fs
 -- "reading into our notice, with fields put in name order"
 abbrev pub read_notice : List ℕ → List ℕ
 read_notice text = render (sorted (said_fields (said text)))
+
+-- the number of the refusal, 0 for none, its place, and the length of the result
+pub record Answer : Type 0 where
+  pub number : ℕ
+  pub place : ℕ
+  pub len : ℕ
+
+abbrev pub answer_of : Result ℕ Refusal → Answer
+answer_of (Ok len) = record { number = 0; place = 0; len = len }
+answer_of (Err r) = record { number = refusal_number r; place = refusal_place r; len = 0 }
+
+-- the number and the place of a refusal; 0 for none
+abbrev pub ended : Result (Unit {0}) Refusal → ℕ
+ended (Ok done) = 0
+ended (Err r) = refusal_number r
+
+abbrev pub placed : Result (Unit {0}) Refusal → ℕ
+placed (Ok done) = 0
+placed (Err r) = refusal_place r
 
 -- "both answer number, place and the result's length, 0 if refused"; "Bytes past either result stay"; a refusal changes nothing
 abbrev pub answered : ℕ → ℕ → List ℕ → Answer

@@ -2,14 +2,12 @@
 use Rattle.std.specs.Prelude.{◌≡◌, true, false, ◌↔◌, ℕ, ◌≤◌, length, take, drop, Ok}
 use mathlib.Core.List.{List, [], ◌++◌, Permᴰ}
 use Rattle.word.specs.Word.{Bytes}
-use Rattle.notice.specs.Layout.{Layout}
 use Rattle.notice.specs.Field.{Field}
 use Rattle.notice.specs.Layout.{check_of, fields_of}
 use Rattle.notice.specs.Write.{sorted}
-use Rattle.ubf.specs.declared.Answer.{Answer}
 use Rattle.ubf.specs.Grammar.{Items, Input, items_after}
 use Rattle.ubf.specs.Fields.{says, said_by, phase_of, said, in_syntax}
-use Rattle.ubf.specs.Answer.{has_real, written_text, ReadIs, WriteIs}
+use Rattle.ubf.specs.Answer.{Answer, has_real, written_text, ReadIs, WriteIs}
 
 -- The fixed form of a notice's fields says these fields, in their order.
 abbrev pub WrittenSays : Type 0

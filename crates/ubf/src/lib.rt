@@ -14,11 +14,3 @@ mod writing;
 
 pub use reading::read;
 pub use writing::write;
-
-// What reading and writing answer: document 02's number, the place, and the length of the result.
-#[derive(Drop)]
-pub struct Answer {
-    pub number: u8,
-    pub place: usize,
-    pub len: usize,
-}

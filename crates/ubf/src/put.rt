@@ -77,10 +77,8 @@ pub fn escaped_length(s: &[u8]) -> usize
     ensures { (result ≡ length (escapes 34 s.now)) × (result ≤ 2 * length s.now) }
 {
     let mut n = 0;
-    let mut i = 0;
-    while i < s.len() {
-        n += width(s[i]);
-        i += 1;
+    for b in s {
+        n += width(*b);
     }
     n
 }
@@ -104,10 +102,8 @@ fn put_escaped(out: &mut [u8], at: usize, s: &[u8]) -> usize
     ensures { Put out.old at (escapes 34 s.now) out.new result }
 {
     let mut p = at;
-    let mut i = 0;
-    while i < s.len() {
-        p = put_escape(out, p, s[i]);
-        i += 1;
+    for b in s {
+        p = put_escape(out, p, *b);
     }
     p
 }

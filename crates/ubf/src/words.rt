@@ -47,14 +47,12 @@ fn plain_bytes(s: &[u8], at: usize, q: u8) -> usize
     requires { at ≤ length s.now }
     ensures { PlainTo s.now q at result }
 {
-    let mut i = at;
-    while i < s.len() {
+    for i in at..s.len() {
         if needs_escape(s[i], q) {
             return i;
         }
-        i += 1;
     }
-    i
+    s.len()
 }
 
 // The same of what may be long. The first byte is told by itself, since one escape may follow another.

@@ -4,13 +4,13 @@ ghost use Rattle.decimal.specs.Decimal.{Put};
 ghost use Rattle.notice.specs.Field.{size_right};
 ghost use Rattle.notice.specs.Layout.{right_at, field_at, size_at, name_size_at, check_of, fields_of};
 ghost use Rattle.ubf.specs.Text.{value_text, binary_text, field_text, fields_text, text_of};
-ghost use Rattle.ubf.specs.Answer.{has_real, leaves, WriteIs};
+ghost use Rattle.ubf.specs.Answer.{has_real, leaves, answer_of, WriteIs};
 
-use crate::Answer;
 use crate::put::{
     escaped_length, put_signed, put_string, put_tag, signed_length, signed4, signed8,
 };
 use decimal::{places, put_byte, put_bytes, put_decimal};
+use refusal::Refusal;
 
 fn binary_length(value: &[u8]) -> usize
     requires { length value.now ≤ 1024 }
@@ -172,38 +172,16 @@ fn put_text(out: &mut [u8], notice: &[u8]) -> usize
     put_byte(out, c, b'$')
 }
 
-// The notice as a text at the start of the buffer.
-pub fn write(notice: &[u8], buffer: &mut [u8]) -> Answer
-    ensures { WriteIs notice.now buffer.old result buffer.new }
+// The notice as a text at the start of the buffer, and its length. Refusals: 11 with its place, 23 for a real64 field, 15 for room. A refusal changes no byte.
+pub fn write(notice: &[u8], buffer: &mut [u8]) -> Result<usize, Refusal>
+    ensures { WriteIs notice.now buffer.old (answer_of result) buffer.new }
 {
-    let layout = notice::check(notice);
-    match layout {
-        Err(r) => Answer {
-            number: r.number(),
-            place: r.place(),
-            len: 0,
-        },
-        Ok(()) => {
-            if has_real(notice) {
-                return Answer {
-                    number: 23,
-                    place: 0,
-                    len: 0,
-                };
-            }
-            if !has_room(notice, buffer.len()) {
-                return Answer {
-                    number: 15,
-                    place: 0,
-                    len: 0,
-                };
-            }
-            let len = put_text(buffer, notice);
-            Answer {
-                number: 0,
-                place: 0,
-                len,
-            }
-        }
+    notice::check(notice)?;
+    if has_real(notice) {
+        return Err(Refusal::Content);
     }
+    if !has_room(notice, buffer.len()) {
+        return Err(Refusal::Room);
+    }
+    Ok(put_text(buffer, notice))
 }

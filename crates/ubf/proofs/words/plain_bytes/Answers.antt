@@ -1,5 +1,8 @@
-use mathlib.Core.Path.{sym, ◌∙◌}
+use mathlib.Core.Path.{◌≡◌, sym, subst, ◌∙◌}
+use Prim.Native.Nat.{ℕ}
 use native.Mathlib.Omega.{arith}
+use lib.ListN.{length}
+use Rattle.ubf.specs.Escape.{Plain}
 use Rattle.ubf.proofs.Plains.{plain_none, plain_one}
 use Rattle.ubf.proofs.words.plain_bytes.Goals as goal
 
@@ -19,4 +22,7 @@ loop-i-preserved c =
 
 pub returns : goal.returns
 returns c =
-    let l = c.loop-i in record { after = l.invariant.0; near = l.invariant.1; plain = l.invariant.2; stops = λ h. absurd (omega arith) }
+    let a = c.args in
+    let l = c.loop-i in
+    let e : l.i ≡ length a.s.now = omega (arith, l.invariant.1) in
+    record { after = c.requires; near = omega arith; plain = subst (λ (k : ℕ). Plain a.s.now a.q a.at k) e l.invariant.2; stops = λ h. absurd (omega arith) }
