@@ -1,7 +1,7 @@
 -- A field that was judged, put among those kept if it stays. Assumes nothing.
-use Rattle.std.specs.Prelude.{Option, Some, is_some, unwrap_or}
+use Rattle.std.specs.Prelude.{Option, Some, None, is_some, unwrap_or}
 use mathlib.Core.Path.{◌≡◌, refl, sym, ap, ◌∙◌}
-use mathlib.Core.Bool.{Bool, true, cond}
+use mathlib.Core.Bool.{Bool, true, false, cond}
 use mathlib.Core.List.{List, ◌∷◌, ◌++◌}
 use Prim.Native.Nat.{ℕ, ◌+◌, ◌≤◌, ◌<◌}
 use native.Mathlib.Omega.{arith}
@@ -41,6 +41,11 @@ module _ (s order : List ℕ) (n at : ℕ) (o : InOrder s order n) (f : Fate) (i
 
   along : (after : List ℕ) (b : Bool) → stays (code_of f) ≡ b → InOrder s after (n + cond b 1 0) → fields_in s after (n + cond b 1 0) ≡ cond b (insert_field (field_at s at) fs) fs → Admits s order n at after (code_of f)
   along after b e p q = record { code_is = is.code_is; in_order = rw e p; fields_are = rw e q }
+
+  pub not_admitted : place_of f ≡ None → Admits s order n at order (code_of f)
+  not_admitted h =
+      let z : n + 0 ≡ n = omega arith in
+      along order false (stays_place f ∙ ap is_some h) (rw z o) (ap (fields_in s order) z)
 
   module _ (place : ℕ) (h : place_of f ≡ Some place) (few : n < 65) where
     kept : stays (code_of f) ≡ true

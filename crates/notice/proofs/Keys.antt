@@ -159,6 +159,9 @@ module _ (s : List ℕ) (at : ℕ) where
   pub no_key_here : false ≡ right_at s at → 0 ≡ key_at s at
   no_key_here e = ap (λ (t : Bool). cond t (key_of (name_at s at)) 0) e
 
+  pub key_named : name_right (name_at s at) ≡ right_at s at → right_key (name_at s at) ≡ key_at s at
+  key_named e = ap (λ (t : Bool). cond t (key_of (name_at s at)) 0) e
+
   pub some_key : (key : ℕ) → key ≡ key_at s at → 0 < key → right_at s at ≡ true
   some_key key e h = go (right_at s at) refl
     where

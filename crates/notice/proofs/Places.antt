@@ -1,5 +1,6 @@
 -- Where a field's parts lie. Assumes nothing.
-use Rattle.std.proofs.Common.{◌≡◌, ℕ, ◌+◌, ◌≤◌, true, ◌&&◌, leb, List, length, drop, arith, length-drop, length-take-le, le-leb, leb-true}
+use Rattle.std.proofs.Common.{◌≡◌, ℕ, ◌+◌, ◌≤◌, true, false, ◌&&◌, leb, List, length, drop, arith, length-drop, length-take-le, le-leb, leb-true}
+use mathlib.Core.Bool.{and-false, and-true}
 use Rattle.octets.proofs.Theorems.{and_parts}
 use Rattle.notice.specs.Field.{printable, name_right, size_right, field_right}
 use Rattle.notice.specs.Layout.{size_at, kind_at, name_size_at, value_size_at, value_start, next_at, name_at, value_at, field_at, lies_at, right_at}
@@ -24,6 +25,14 @@ module _ (s : List ℕ) (at : ℕ) where
 
     pub length_value : length (value_at s at) ≡ value_size_at s at
     length_value = length-take-le (value_size_at s at) (drop (value_start s at) s) (simp length-drop (omega (arith, l.room, l.within)))
+
+  -- the tests of `key_at`: the size first, then the name
+  module _ (e : lies_at s at ≡ true) where
+    pub wrong_size : size_right (kind_at s at) (value_size_at s at) ≡ false → false ≡ right_at s at
+    wrong_size q = rw (e, length_value (lies_true e), q, and-false)
+
+    pub by_name : size_right (kind_at s at) (value_size_at s at) ≡ true → name_right (name_at s at) ≡ right_at s at
+    by_name q = rw (e, length_value (lies_true e), q, and-true)
 
   pub right_lies : right_at s at ≡ true → Lies
   right_lies e = lies_true (and_parts _ _ e).0
