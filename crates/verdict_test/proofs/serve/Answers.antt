@@ -6,5 +6,5 @@ use Rattle.table.specs.Table.{most_bytes}
 use Rattle.verdict_test.proofs.Laws.{start_ready}
 use Rattle.verdict_test.proofs.serve.Goals as goal
 
-pub loop-left-init : goal.loop-left-init
-loop-left-init g c = (start_ready _ _ _ (length-replicate {A = ℕ} 20000 0) (length-replicate {A = ℕ} most_bytes 0) c.start.ensures, omega arith)
+pub loop-init : goal.loop-init
+loop-init g c = (start_ready _ _ _ (length-replicate {A = ℕ} 20000 0) (length-replicate {A = ℕ} most_bytes 0) c.start.ensures, omega arith)

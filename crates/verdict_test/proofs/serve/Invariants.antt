@@ -4,8 +4,5 @@ use lib.ListN.{length}
 use Rattle.session.specs.State.{Ready}
 use Rattle.verdict_test.proofs.serve.Given as goal
 
-abbrev pub invariant-loop-left : goal.invariant-loop-left
-invariant-loop-left g l = Ready l.input l.table l.s.state × (l.s.at ≤ length l.bytes)
-
-abbrev pub decreases-loop-left : goal.decreases-loop-left
-decreases-loop-left g l = l.left
+abbrev pub invariant-loop : goal.invariant-loop
+invariant-loop g l = Ready l.input l.table l.stage.state × (l.stage.at ≤ length l.bytes)
