@@ -31,30 +31,30 @@
  *
  *    cc -shared -Wl,--whole-archive target/staticlib/librouter.a -Wl,--no-whole-archive -o libvirentolex.so
  *
- * makes a shared library of 96 KB, with these functions alone, for Python's ctypes (examples/match.py) and others.
+ * makes a shared library of 97 KB, with these functions alone, for Python's ctypes (examples/match.py) and others.
  *
  * The stack is not part of the proofs. Measured, in bytes, on the inputs that take most, none over 64 KiB
  * (tests/stack prints the figures, with the frame of a C function that makes the call):
  *
- *    virentolex_translate      44,336   the deepest texts: 24 parentheses or calls, every operator level
- *                                       and 24 prefix operators between each two; a flat one 24,592
- *    virentolex_run            24,888   with `regex`; 13,976 if `contains` goes on by borders; else 5,680
- *    virentolex_run_many       24,904   likewise: 13,992; else 5,696
- *    virentolex_store_match    25,016   likewise: 14,104; else 5,808
- *    virentolex_quorum_show    24,968   likewise: 14,056; else 5,760
- *    virentolex_mend            8,673
- *    virentolex_store_add       5,272
- *    virentolex_quorum_open     5,144
- *    virentolex_entry           5,112
- *    virentolex_check           5,048
- *    virentolex_ubf_read        4,112
- *    virentolex_write             400
- *    virentolex_ubf_write         368
- *    virentolex_read              320
- *    virentolex_find              320
- *    virentolex_check_notice      256
- *    virentolex_store_fetch       208
- *    virentolex_store_remove      224
+ *    virentolex_translate      44,416   the deepest texts: 24 parentheses or calls, every operator level
+ *                                       and 24 prefix operators between each two; a flat one 23,272
+ *    virentolex_run            24,936   with `regex`; 13,976 if `contains` goes on by borders; else 5,624
+ *    virentolex_run_many       24,968   likewise: 14,008; else 5,656
+ *    virentolex_store_match    25,176   likewise: 14,216; else 5,864
+ *    virentolex_quorum_show    25,032   likewise: 14,072; else 5,720
+ *    virentolex_mend            8,648
+ *    virentolex_store_add       4,912
+ *    virentolex_quorum_open     4,640
+ *    virentolex_entry           4,608
+ *    virentolex_check           4,544
+ *    virentolex_ubf_read        4,120
+ *    virentolex_write             456
+ *    virentolex_ubf_write         440
+ *    virentolex_read              360
+ *    virentolex_find              360
+ *    virentolex_check_notice      296
+ *    virentolex_store_fetch       336
+ *    virentolex_store_remove      368
  *    virentolex_store_make         40
  */
 #ifndef VIRENTOLEX_H
