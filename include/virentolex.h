@@ -37,18 +37,18 @@
  * (tests/stack prints the figures, with the frame of a C function that makes the call):
  *
  *    virentolex_translate      44,416   the deepest texts: 24 parentheses or calls, every operator level
- *                                       and 24 prefix operators between each two; a flat one 23,272
- *    virentolex_run            24,936   with `regex`; 13,976 if `contains` goes on by borders; else 5,624
- *    virentolex_run_many       24,968   likewise: 14,008; else 5,656
- *    virentolex_store_match    25,176   likewise: 14,216; else 5,864
- *    virentolex_quorum_show    25,032   likewise: 14,072; else 5,720
- *    virentolex_mend            8,648
- *    virentolex_store_add       4,912
- *    virentolex_quorum_open     4,640
- *    virentolex_entry           4,608
- *    virentolex_check           4,544
- *    virentolex_ubf_read        4,120
- *    virentolex_write             456
+ *                                       and 24 prefix operators between each two; a flat one 20,272
+ *    virentolex_run            24,800   with `regex`; 13,896 if `contains` goes on by borders; else 5,616
+ *    virentolex_run_many       24,832   likewise: 13,928; else 5,648
+ *    virentolex_store_match    25,040   likewise: 14,136; else 5,856
+ *    virentolex_quorum_show    24,896   likewise: 13,992; else 5,712
+ *    virentolex_mend            8,633
+ *    virentolex_store_add       4,760
+ *    virentolex_quorum_open     4,504
+ *    virentolex_entry           4,472
+ *    virentolex_check           4,408
+ *    virentolex_ubf_read        4,096
+ *    virentolex_write             440
  *    virentolex_ubf_write         440
  *    virentolex_read              360
  *    virentolex_find              360

@@ -1,12 +1,13 @@
--- Runs of stores: over two lists, before another store, and what a copy of a part leaves. Assumes nothing.
+-- Runs of stores: over two lists, before another store, a turn of a copy, and what the slices' own copies leave. Assumes nothing.
 use mathlib.Core.Path.{◌≡◌, refl, sym, ap, ap₂, ◌∙◌}
 use mathlib.Core.List.{List, [], ◌∷◌, ◌++◌, append_assoc}
 use Prim.Native.Nat.{ℕ, suc, ◌+◌, ◌≤◌, ◌<◌}
 use native.Mathlib.Omega.{arith}
+use native.Mathlib.Numerals.{add-one}
 use lib.ListN.{length, get_or, set, take, drop, length-append}
 use borrow.Rule.Slice.PartMut.{put_mid}
 use Rattle.std.proofs.lemmas.Slice.{put_mid-paste}
-use lib.Seq.{paste, take-length, sets, sets-eq, get_or-set_other, take_at, drop-append-add, length-take-le}
+use lib.Seq.{paste, take-length, sets, sets-eq, get_or-set_other, drop-cons, take_at, drop-append-add, length-take-le}
 
 pub sets_append : (xs ys l : List ℕ) (i : ℕ) → sets l i (xs ++ ys) ≡ sets (sets l i xs) (i + length xs) ys
 sets_append [] ys l i = let e : i ≡ i + 0 = omega arith in ap (λ (n : ℕ). sets l n ys) e
@@ -31,6 +32,12 @@ sets_between p x y q i e l =
     drop_seam : (a b : List ℕ) → drop (length a) (a ++ b) ≡ b
     drop_seam [] b = refl
     drop_seam (z ∷ zs) b = drop_seam zs b
+
+-- a turn of `copy_to`
+pub copied_one : (d s : List ℕ) (at i : ℕ) → i < length s → sets (set d (at + i) (get_or s i 0)) (at + (i + 1)) (drop (i + 1) s) ≡ sets d (at + i) (drop i s)
+copied_one d s at i h =
+    let e : at + (i + 1) ≡ suc (at + i) = omega arith in
+    rw (e, add-one, drop-cons s i 0 h)
 
 -- a part of a list is copied into another, as `copy_within` and `copy_from_slice` leave it
 pub paste_sets : (d s : List ℕ) (at n : ℕ) → n ≤ length s → at + n ≤ length d → paste d at s n ≡ sets d at (take n s)

@@ -4,12 +4,14 @@
 ghost use Rattle.std.specs.Prelude.{◌≡◌, ◌+◌, ◌-◌, ◌≤◌, length, take, drop};
 ghost use Rattle.std.proofs.lemmas.List.Edits.{sets};
 
-// Copies a slice to `at`.
+// Copies a slice to `at`. By a loop, of which the compiler makes wide moves: `copy_from_slice` becomes a call of memcpy or memmove, and the library calls nothing but memset.
 pub fn copy_to(buffer: &mut [u8], at: usize, s: &[u8])
     requires { at + length s.now ≤ length buffer.old }
     ensures { buffer.new ≡ sets buffer.old at s.now }
 {
-    buffer[at..at + s.len()].copy_from_slice(s);
+    for i in 0..s.len() {
+        buffer[at + i] = s[i];
+    }
 }
 
 // Moves the bytes from `at` to `end` up by `by`.

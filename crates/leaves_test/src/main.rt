@@ -2,7 +2,7 @@
 #![tactic(auto)]
 
 use std::io;
-use std::io::{Read, Write};
+use std::io::{BufReader, BufWriter, Read, Write};
 use truth::Truth;
 
 const TRUTHS: [Truth; 3] = [Truth::True, Truth::Bottom, Truth::False];
@@ -90,8 +90,10 @@ fn next_case(from: &mut impl Read, to: &mut impl Write) -> io::Result<bool> {
 }
 
 fn main(rt: HostRuntime) -> io::Result<()> {
-    let mut to = io::writer(&rt);
+    let mut from = BufReader::new(rt.alloc(), rt.reader())?;
+    let mut to = BufWriter::new(rt.alloc(), io::writer(&rt))?;
     put_table(&mut to)?;
     put_words(&mut to)?;
-    cases::run(rt, |from, to| next_case(from, to))
+    cases::all(&mut from, &mut to, |from, to| next_case(from, to))?;
+    to.flush()
 }

@@ -387,7 +387,7 @@ judged_fit m false limits t n f = tt
 judged_fit m true false t n f = tt
 judged_fit m true true t n f = f refl refl
 
-unescaped_fits : (t : Bool) (s : List ℕ) → length (unescaped t s) ≤ length s
+pub unescaped_fits : (t : Bool) (s : List ℕ) → length (unescaped t s) ≤ length s
 unescaped_fits t [] = omega arith
 unescaped_fits t (b ∷ s) = go (unescaped_fits true s) (unescaped_fits false s) (takes t b) refl
   where
@@ -399,8 +399,8 @@ not_empty : (s : List ℕ) → not (is_empty s) ≡ true → 0 < length s
 not_empty [] e = false_true e
 not_empty (b ∷ s) e = omega arith
 
-run_fit : (s : List ℕ) → length (run_of 0 s) ≤ length s
-run_fit s = first_fits (run_of 0 s) s (run_first 0 false s)
+pub run_fit : (q : ℕ) (s : List ℕ) → length (run_of q s) ≤ length s
+run_fit q s = first_fits (run_of q s) s (run_first q false s)
 
 name_fit : (s : List ℕ) → Fit (length s) (scan_name s)
 name_fit s =
@@ -408,7 +408,7 @@ name_fit s =
     (λ e f.
     let n = length (unescaped false (run_of 0 s)) in
     let l = leb-true 1 n (and_parts (leb 1 n) (leb n 64) f).0 in
-    (omega (arith, l, unescaped_fits false (run_of 0 s)), run_fit s))
+    (omega (arith, l, unescaped_fits false (run_of 0 s)), run_fit 0 s))
 
 real_digit : (run : List ℕ) → is_real run ≡ true → 0 < length run
 real_digit run e =
@@ -432,10 +432,10 @@ number_fit s = go (is_real (run_of 0 s)) refl
     go : (b : Bool) → is_real (run_of 0 s) ≡ b → Fit (length s) (scan_number s)
     go true e =
         rw (scan_real (run_of 0 s) e)
-        (judged_fit (length s) true (real_fits (run_of 0 s)) _ (length (run_of 0 s)) (λ _ f. (real_digit (run_of 0 s) e, run_fit s)))
+        (judged_fit (length s) true (real_fits (run_of 0 s)) _ (length (run_of 0 s)) (λ _ f. (real_digit (run_of 0 s) e, run_fit 0 s)))
     go false e =
         rw (scan_integer_lem (run_of 0 s) e)
-        (judged_fit (length s) (is_integer (run_of 0 s)) (integer_fits (run_of 0 s)) _ (length (run_of 0 s)) (λ i f. (integer_digit (run_of 0 s) i, run_fit s)))
+        (judged_fit (length s) (is_integer (run_of 0 s)) (integer_fits (run_of 0 s)) _ (length (run_of 0 s)) (λ i f. (integer_digit (run_of 0 s) i, run_fit 0 s)))
 
 string_fit : (s : List ℕ) → Fit (length s) (scan_string s)
 string_fit s =

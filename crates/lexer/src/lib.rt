@@ -356,7 +356,7 @@ pub fn copy_string(text: &[u8], at: usize, part: &mut [u8]) -> usize
     if let Some(n) = plain_string(text, at) {
         if n <= part.len() {
             let start = at + 1;
-            part[..n].copy_from_slice(&text[start..start + n]);
+            common::copy_to(part, 0, &text[start..start + n]);
             return n;
         }
     }

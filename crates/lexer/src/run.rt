@@ -101,13 +101,13 @@ fn free_length(s: &[u8], quote: u8) -> usize
     s.len()
 }
 
-// How many bytes stand from the start up to the first one that ends them and is not taken, without escapes.
+// How many bytes stand from the start up to the first one that ends them and is not taken, without escapes. Those before the first backslash are read once.
 pub fn plain_length(s: &[u8], quote: u8) -> usize
     ensures { result ≡ length (unescaped false (run_of quote s.now)) }
 {
     let n = free_length(s, quote);
     if byte_at(s, n) == b'\\' {
-        return copy_plain(s, quote, &mut []);
+        return n + copy_plain(&s[n..], quote, &mut []);
     }
     n
 }

@@ -1,5 +1,6 @@
 pub mod Orders
 pub mod Stores
+pub mod Copies
 pub mod Walks
 pub mod Admitted
 pub mod Placed

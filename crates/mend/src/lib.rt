@@ -5,6 +5,7 @@ ghost use Rattle.std.specs.Prelude.{◌≡◌, ◌+◌, ◌*◌, ◌≤◌, leng
 ghost use Rattle.mend.specs.Mend.{mend_answer, MendIs};
 ghost use Rattle.mend.specs.Order.{Sized, Roomy};
 
+mod copying;
 mod fate;
 mod fields;
 mod ordering;

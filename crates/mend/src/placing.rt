@@ -5,6 +5,8 @@ ghost use Rattle.notice.specs.Render.{fields_bytes, render};
 ghost use Rattle.mend.specs.Mend.{onto};
 ghost use Rattle.mend.specs.Order.{fields_in, InOrder};
 
+use crate::copying::copy;
+
 // The fields at the first n places, from offset 8 on. Fields that lie side by side in the bytes as well are stored at once: those from `from` to `end` are still to store.
 fn put_fields(notice: &mut [u8], bytes: &[u8], order: &[u16; 65], n: usize)
     requires { InOrder bytes.now order.now n × (8 + length (fields_bytes (fields_in bytes.now order.now n)) ≤ length notice.old) }
@@ -16,13 +18,13 @@ fn put_fields(notice: &mut [u8], bytes: &[u8], order: &[u16; 65], n: usize)
     for start in &order[..n] {
         let at = *start as usize;
         if at != end {
-            common::copy_to(notice, to, &bytes[from..end]);
+            copy(notice, to, &bytes[from..end]);
             to += end - from;
             from = at;
         }
         end = notice::next_at(bytes, at);
     }
-    common::copy_to(notice, to, &bytes[from..end]);
+    copy(notice, to, &bytes[from..end]);
 }
 
 pub(crate) fn put_notice(notice: &mut [u8], bytes: &[u8], order: &[u16; 65], n: usize, size: usize)

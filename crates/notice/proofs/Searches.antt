@@ -13,7 +13,7 @@ use Rattle.notice.specs.declared.search.Stop.{Stop}
 use Rattle.notice.specs.Field.{Field, field_right, before_first, rising}
 use Rattle.notice.specs.Layout.{name_size_at, next_at, name_at, field_at, lies_at, right_at, stands_at, count_of, check_from, check_of, starts_from, starts_of, fields_of}
 use Rattle.notice.specs.Lookup.{found_at, lookup_in}
-use Rattle.notice.specs.Search.{further, index_of, below_of, looked_of, index_at, Stops, find_answer, index_number, sought_of}
+use Rattle.notice.specs.Search.{further, index_of, below_of, looked_of, index_at, Stops, find_answer, found_index, index_number, sought_of}
 use Rattle.notice.proofs.Places.{right_lies, right_name, length_name}
 use Rattle.notice.proofs.Walks.{starts_end, starts_more}
 use Rattle.notice.proofs.Renders.{fields_from, check_sound, header_well, well_starts, well_checked, well_count, first_stands}
@@ -264,3 +264,10 @@ module _ (s name : List ℕ) (bytes : Bytes s) (well : check_of s ≡ Ok tt) (r 
   pub sought_is : {index : Optional ℕ} {n looked : ℕ} → index ≡ option_and r.found (Some r.below) → n ≡ count_of s → looked ≡ min n (r.below + 1)
       → find_answer (Ok (record { index = index; looked = looked })) ≡ sought_of s name
   sought_is i n l = rw (i, l, n, index_found, looked_at)
+
+  pub sought_index : {index : Optional ℕ} → index ≡ option_and r.found (Some r.below) → found_index index ≡ index_of name (fields_of s)
+  sought_index i = ap found_index i ∙ go r.found ∙ sym stops.index
+    where
+      go : (o : Optional ℕ) → found_index (option_and o (Some r.below)) ≡ index_at o r.below
+      go None = refl
+      go (Some at) = refl

@@ -82,6 +82,11 @@ abbrev pub find_answer : Result Sought Refusal → FindAnswer
 find_answer (Ok f) = record { number = 0; place = 0; index = unwrap_or f.index 64; looked = f.looked }
 find_answer (Err r) = record { number = refusal_number r; place = refusal_place r; index = 64; looked = 0 }
 
+-- the index that finding a name answers, if it answers one
+abbrev pub found_index : Optional ℕ → Option ℕ
+found_index None = none
+found_index (Some k) = some k
+
 -- the index; 64, which no field has, for none
 abbrev pub index_number : Option ℕ → ℕ
 index_number none = 64

@@ -1,11 +1,11 @@
 // Notices: layout, lookup by name, reading and writing. Document 01, "Notice".
 #![tactic(auto)]
 
-ghost use Rattle.std.specs.Prelude.{◌≡◌, ◌≤◌, true, [], length};
+ghost use Rattle.std.specs.Prelude.{◌≡◌, ◌≤◌, true, [], length, IfOk};
 ghost use Rattle.std.proofs.lemmas.List.Edits.{sets};
-ghost use Rattle.notice.specs.Layout.{header_right, count_of, check_from, check_of, right_at, stood_from, stood_of, Indexed};
+ghost use Rattle.notice.specs.Layout.{header_right, count_of, check_from, check_of, fields_of, right_at, stood_from, stood_of, Indexed};
 ghost use Rattle.notice.specs.Lookup.{found_at, lookup_of};
-ghost use Rattle.notice.specs.Search.{find_answer, find_of};
+ghost use Rattle.notice.specs.Search.{find_answer, find_of, found_index, index_of};
 
 mod field;
 mod name;
@@ -158,9 +158,10 @@ pub fn lookup_along(notice: &[u8], starts: &[u16; 64], name: &[u8]) -> Option<Fo
     }
 }
 
-// The index of a name's field and the names looked at, for any bytes: 11 with its place if they are no notice.
+// The index of a name's field and the names looked at, for any bytes: 11 with its place if they are no notice. The index is that which a walk over all fields finds, and none if it finds none.
 pub fn find(notice: &[u8], name: &[u8]) -> Result<Sought, Refusal>
-    ensures { find_answer result ≡ find_of notice.now name.now }
+    ensures answer { find_answer result ≡ find_of notice.now name.now }
+    ensures index { IfOk result (λ f. found_index f.index ≡ index_of name.now (fields_of notice.now)) }
 {
     check(notice)?;
     Ok(sought(notice, name))

@@ -1,7 +1,7 @@
 // The search for a name. Document 02, request 11: "Names rise, so in a notice found well-formed the search for a field should stop at the first name not below the one sought".
 ghost use Rattle.std.specs.Prelude.{◌≡◌, true, ◌∷◌, drop, Ok};
-ghost use Rattle.notice.specs.Layout.{name_at, right_at, check_of, Indexed};
-ghost use Rattle.notice.specs.Search.{StandsTo, Stops, find_answer, sought_of};
+ghost use Rattle.notice.specs.Layout.{name_at, right_at, check_of, fields_of, Indexed};
+ghost use Rattle.notice.specs.Search.{StandsTo, Stops, find_answer, found_index, index_of, sought_of};
 
 use crate::Sought;
 use crate::field::{name_at, next_at};
@@ -145,7 +145,8 @@ pub(crate) fn walked(notice: &[u8], starts: &[u16; 64], name: &[u8]) -> Stop
 // What finding a name in a notice answers: the names looked at are "those below the one sought, and one more if any is left".
 pub(crate) fn sought(notice: &[u8], name: &[u8]) -> Sought
     requires { check_of notice.now ≡ Ok tt }
-    ensures { find_answer (Ok result) ≡ sought_of notice.now name.now }
+    ensures answer { find_answer (Ok result) ≡ sought_of notice.now name.now }
+    ensures index { found_index result.index ≡ index_of name.now (fields_of notice.now) }
 {
     let stop = search(notice, name);
     let n = word::read_u16(notice, 6) as usize;

@@ -105,6 +105,8 @@ fn case_bit(mark: bool, b: u8) -> u8
 // Place by place, on a credit of bytes that agree in vain. Once it is spent, the rest of s is searched by borders.
 // A literal of more than 4,096 bytes, the most of a pool, is searched place by place to the end. The last call has parts made anew, so that p stays out of memory.
 // Without MARKED no mark counts, and the compiler leaves the folding out. With two instances `by_borders` stays a function of its own, and its arrays out of the caller's frame.
+// A function of its own too: laid into the run its loops would want for registers.
+#[inline(never)]
 pub fn search<const MARKED: bool>(s: &[u8], s_mark: bool, p: &[u8], p_mark: bool) -> bool
     requires { (0 < length p.now) × (length p.now ≤ length s.now) }
     ensures { result ≡ contains_of (folded (MARKED && s_mark) s.now) (folded (MARKED && p_mark) p.now) }

@@ -85,6 +85,8 @@ fn piece_at(p: &[u8], mark: bool, i: usize) -> Piece
 }
 
 // The set whose members begin at an index, tested for a byte; none if it is unclosed or empty, or a range falls.
+// Laid into each caller, so that no answer goes through memory, and no member is folded where the mark is known.
+#[inline(always)]
 pub fn set_test(p: &[u8], mark: bool, at: usize, c: u8) -> Option<SetTest>
     ensures { result ≡ test_at at (drop at (folded «mark» p.now)) c }
 {

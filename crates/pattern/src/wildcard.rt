@@ -46,6 +46,8 @@ pub fn well_formed(p: &[u8]) -> bool
 }
 
 // "one byte of a set with ranges and a leading `!` for the complement": the index behind the set that follows a `[` if it takes the byte.
+// A function of its own, so that the loop over the value keeps its registers.
+#[inline(never)]
 fn set_takes(p: &[u8], mark: bool, i: usize, c: u8) -> Option<usize>
     ensures { result ≡ taken_of (set_part (drop i (folded «mark» p.now))) i c }
 {
@@ -96,6 +98,8 @@ struct Star {
 
 // "the whole value must fit a pattern", each read under its folding mark. Items take bytes from the left; where one does not, the last `*` takes one byte more.
 // An ill-formed pattern fits nothing: an answer of true has read every item.
+// A function of its own: laid into the run it would have its last `*` in memory, for want of registers.
+#[inline(never)]
 pub fn fits(s: &[u8], s_mark: bool, p: &[u8], p_mark: bool) -> bool
     ensures { result ≡ wildcard_of (folded s_mark s.now) (folded p_mark p.now) }
 {

@@ -1,14 +1,14 @@
 -- A branch with its anchors, and the loops over the branches. Assumes nothing.
 use mathlib.Core.Path.{◌≡◌, refl, sym, ap, ◌∙◌}
 use mathlib.Core.Bool.{Bool, true, false, ◌&&◌, ◌||◌, or-false}
-use mathlib.Core.List.{List, [], ◌∷◌, map}
+use mathlib.Core.List.{List, [], ◌∷◌}
 use mathlib.Core.Option.{Option, none, some}
 use Prim.Native.Nat.{ℕ, ◌+◌, ◌-◌, ◌≤◌, ◌<◌}
 use native.Mathlib.Omega.{arith}
-use lib.ListN.{length, take, drop, length-map}
-use lib.Seq.{drop-drop, length-take-le}
-use native.Mathlib.Decide.{dec_lt}
-use borrow.Author.Tests.{le-leb, lt-leb, le-ltb, lt-ltb}
+use native.Mathlib.Numerals.{add-one}
+use lib.ListN.{length, get_or, set, take, drop, length-map, get_or-map}
+use lib.Seq.{drop-drop, length-take-le, take-suc, take-suc-set, take_all}
+use borrow.Author.Tests.{le-leb, lt-leb}
 use Rattle.octets.specs.Octets.{fold, folded}
 use Rattle.octets.proofs.Theorems.{and_parts}
 use Rattle.pattern.specs.Steps.{begins}
@@ -24,7 +24,6 @@ use Rattle.regexp.specs.Regex.{end_of, ended, hat_of, one_if, part_of, with_firs
 use Rattle.regexp.specs.Promise.{EndAt, TableOf, BranchAt, BehindAt, TurnAt, TableAt}
 use Rattle.std.specs.Prelude.{Some, None}
 use Rattle.std.specs.Prelude.{Option as Maybe}
-use Rattle.std.specs.Char.{to_ascii_lowercase}
 use mir.Val.{bool_byte}
 use Rattle.regexp.specs.declared.Made.{Made}
 use Rattle.regexp.specs.declared.Turn.{Turn}
@@ -182,17 +181,17 @@ module _ (x p : List ℕ) where
   pub regex_long : 4096 < length p → false ≡ regex_of x p
   regex_long l = ap (λ (b : Bool). b && held_in (branches_of p) x) (sym (lt-leb (length p) 4096 l))
 
-lower_case : (b : ℕ) → to_ascii_lowercase b ≡ fold true b
-lower_case b = go (dec_lt b 65) (dec_lt b 91)
-  where
-    go : Dec (b < 65) → Dec (b < 91) → to_ascii_lowercase b ≡ fold true b
-    go (yes h) d = rw (lt-ltb b 65 h, lt-leb 65 b h)
-    go (no h) (yes l) = rw (le-ltb b 65 (omega arith), le-leb 65 b (omega arith), lt-ltb b 91 l, le-leb b 90 (omega arith))
-    go (no h) (no l) = rw (le-ltb b 65 (omega arith), le-leb 65 b (omega arith), le-ltb b 91 (omega arith), lt-leb b 90 (omega arith))
+pub fold_one : (p room : List ℕ) (i v : ℕ) → i < length p → i < length room → v ≡ fold true (get_or p i 0) → take i room ≡ take i (folded true p) → take (i + 1) (set room i v) ≡ take (i + 1) (folded true p)
+fold_one p room i v h l ev e =
+    let k : i < length (folded true p) = rw (length-map p (fold true)) h in
+    let b : get_or (folded true p) i 0 ≡ v = get_or-map (fold true) p i 0 ∙ sym ev in
+    rw (add-one i, take-suc-set room i v l, take-suc (folded true p) i 0 k, b, e)
 
-pub lowered : (p : List ℕ) → map to_ascii_lowercase p ≡ folded true p
-lowered [] = refl
-lowered (b ∷ p) = rw (lower_case b, lowered p)
+pub fold_all : (p room : List ℕ) (i : ℕ) → i ≤ length p → length p ≤ i → take i room ≡ take i (folded true p) → take (length p) room ≡ folded true p
+fold_all p room i h l e =
+    let q : i ≡ length p = omega arith in
+    let k : length (folded true p) ≤ length p = rw (length-map p (fold true)) (omega arith) in
+    (rw q at e) ∙ take_all (length p) (folded true p) k
 
 pub folded_length : (p : List ℕ) → length (folded true p) ≡ length p
 folded_length p = length-map p (fold true)

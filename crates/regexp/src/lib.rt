@@ -9,6 +9,7 @@ ghost use Rattle.regexp.specs.Regex.{well_formed, regex_of, held_in, branches, b
 ghost use Rattle.regexp.specs.Words.{plain_byte, repeat_byte, easy_at};
 ghost use Rattle.regexp.specs.Promise.{SetAt, WordAt, AllowedAt, EndAt, BranchAt, BehindAt, TurnAt, TableAt};
 
+use octets::fold;
 use pattern::sets::{begins, set_test};
 
 // ---- words
@@ -454,6 +455,16 @@ fn fits_plain(s: &[u8], s_mark: bool, p: &[u8]) -> bool
     false
 }
 
+// The bytes of a pattern with A..Z as a..z, in room that is lent.
+fn copy_folded(p: &[u8], room: &mut [u8])
+    requires { length p.now ≤ length room.old }
+    ensures { take (length p.now) room.new ≡ folded true p.now }
+{
+    for i in 0..p.len() {
+        room[i] = fold(true, p[i]);
+    }
+}
+
 // By a folded copy: no pattern of a checked table is under a folding mark.
 fn fits_folded(s: &[u8], s_mark: bool, p: &[u8]) -> bool
     ensures { result ≡ regex_of (folded s_mark s.now) (folded true p.now) }
@@ -462,10 +473,8 @@ fn fits_folded(s: &[u8], s_mark: bool, p: &[u8]) -> bool
         return false;
     }
     let mut room = [0u8; 4096];
-    let copy = &mut room[..p.len()];
-    copy.copy_from_slice(p);
-    copy.make_ascii_lowercase();
-    fits_plain(s, s_mark, copy)
+    copy_folded(p, &mut room);
+    fits_plain(s, s_mark, &room[..p.len()])
 }
 
 // Whether some stretch of the value fits the pattern, each read under its folding mark. An ill-formed pattern, or one of more than 4,096 bytes, fits nothing.

@@ -50,6 +50,9 @@ fn check_and_run<'a>(table: &'a [u8], notice: &'a [u8], visits: usize) -> Matche
     requires { noticeCheck notice.now ≡ Ok tt }
     ensures { RunsChecked table.now notice.now visits result }
 {
+    if !table::check(table) {
+        return refused(12, 0);
+    }
     match interpreter::run(table, notice) {
         Ok(ran) => Matched {
             number: 0,

@@ -6,7 +6,7 @@ ghost use Rattle.std.proofs.lemmas.List.Edits.{sets};
 ghost use Rattle.word.specs.Word.{Bytes};
 ghost use Rattle.table.specs.Table.{entries_bytes};
 ghost use Rattle.translator.specs.Expand.{expand, pooled, Sized};
-ghost use Rattle.translator.specs.Emit.{Room, Roomy, Tokened, Known, first_by, Coded, entry_start, header_bytes};
+ghost use Rattle.translator.specs.Emit.{Room, Roomy, Tokened, Known, first_by, Coded, entry_start, table_answer, header_bytes};
 ghost use Rattle.translator.specs.Translation.{translation_in, edition_named, translation_of, answered, Answers};
 
 use opcode::Edition;
@@ -48,6 +48,22 @@ fn put_table(edition: Edition, operands: Operands, codes: &[u16], pool: usize, o
     write::write(operands.text, operands.places, operands.sizes, codes, out);
 }
 
+// Writes the table over the start of the buffer, once all is judged, and answers its length.
+fn accepted(
+    edition: Edition,
+    operands: Operands,
+    codes: &[u16],
+    pool: usize,
+    buffer: &mut [u8],
+) -> Result<usize, Refusal>
+    requires { (length codes.now ≤ 512) × (pool ≤ 4096) × (pool ≡ length (pooled operands.text.now operands.places.now codes.now 0)) × (entry_start (length codes.now) + pool ≤ length buffer.old) × Sized operands.text.now operands.places.now operands.sizes.now codes.now 0 }
+    ensures value { answered result ≡ table_answer (length codes.now) pool }
+    ensures buffer_after { buffer.new ≡ sets buffer.old 0 (header_bytes edition (length codes.now) pool ++ (entries_bytes (expand operands.entry.text.now operands.entry.places.now codes.now 0 0) ++ pooled operands.entry.text.now operands.entry.places.now codes.now 0)) }
+{
+    put_table(edition, operands, codes, pool, buffer);
+    Ok(10 + 12 * codes.len() + pool)
+}
+
 // Of an expression to which none of 4, 18, 5, 7 and 8 applies: 9, or its table, written once all is judged.
 fn coded(
     edition: Edition,
@@ -63,8 +79,7 @@ fn coded(
     if buffer.len() < length {
         return Err(Refusal::Buffer);
     }
-    put_table(edition, operands, codes, pool, buffer);
-    Ok(length)
+    accepted(edition, operands, codes, pool, buffer)
 }
 
 // The first of the refusals 4, 18, 5, 7 and 8, if one applies.

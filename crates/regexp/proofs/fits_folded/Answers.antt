@@ -1,11 +1,9 @@
 use mathlib.Core.Path.{ap, ◌∙◌}
-use mathlib.Core.List.{map}
 use native.Mathlib.Omega.{arith}
 use mathlib.Core.Bool.{true}
-use Rattle.std.specs.Char.{to_ascii_lowercase}
 use Rattle.octets.specs.Octets.{folded}
 use Rattle.regexp.specs.Regex.{regex_of}
-use Rattle.regexp.proofs.Loops.{regex_long, folded_length, lowered}
+use Rattle.regexp.proofs.Loops.{regex_long, folded_length}
 use Rattle.regexp.proofs.fits_folded.Goals as goal
 
 pub returns-then-p-gt4096 : goal.returns-then-p-gt4096
@@ -15,4 +13,4 @@ returns-then-p-gt4096 c =
 pub returns : goal.returns
 returns c =
     let a = c.args in
-    c.fits_plain.ensures ∙ ap (regex_of (folded a.s_mark a.s.now)) (c.make_ascii_lowercase.ensures.after ∙ ap (map to_ascii_lowercase) c.copy_from_slice.ensures.after ∙ lowered a.p.now)
+    c.fits_plain.ensures ∙ ap (regex_of (folded a.s_mark a.s.now)) c.copy_folded.ensures

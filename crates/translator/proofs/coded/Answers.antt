@@ -18,13 +18,13 @@ pub returns-then-buffer-length : goal.returns-then-buffer-length
 returns-then-buffer-length c =
     coded_9 c.requires c.args.edition (length c.args.buffer.now) c.if-buffer-length.true refl
 
-pub put_table-requires : goal.put_table-requires
-put_table-requires c =
+pub accepted-requires : goal.accepted-requires
+accepted-requires c =
     (omega (arith, c.requires.count, c.requires.few), omega (arith, c.requires.pool_is, c.requires.small), coded_pool c.requires c.args.edition (length c.args.buffer.now), c.if-buffer-length.false, c.requires.sized)
 
 pub shape_of-buffer : goal.shape_of-buffer
-shape_of-buffer c = ap length c.put_table.ensures ∙ simp length-sets
+shape_of-buffer c = ap length c.accepted.ensures.buffer_after ∙ simp length-sets
 
 pub returns : goal.returns
 returns c =
-    coded_table c.requires c.args.edition (length c.args.buffer.now) c.if-buffer-length.false refl c.put_table.ensures
+    coded_table c.requires c.args.edition (length c.args.buffer.now) c.if-buffer-length.false c.accepted.ensures.value c.accepted.ensures.buffer_after

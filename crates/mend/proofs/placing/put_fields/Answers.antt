@@ -26,7 +26,7 @@ loop-start-preserved c =
     let e : get_or (take a.n a.order.now) i.start-index 0 ≡ at = get_or-take a.n a.order.now i.start-index 0 h in
     let l = right_lies a.bytes.now at (right_at_lem a.bytes.now a.order.now a.n c.requires.0 i.start-index h) in
     let met : Placing a.bytes.now a.order.now a.n a.notice.now j.notice j.to j.from at i.start-index = elim j.branch [
-      | then-at-end w ↦ along w.notice-is w.to-is (w.from-is ∙ e) refl (flushed a.bytes.now a.order.now a.n a.notice.now i.notice i.to i.from i.end i.start-index i.invariant w.copy_to.new.buffer at w.copy_to.ensures (omega (arith, l.within)))
+      | then-at-end w ↦ along w.notice-is w.to-is (w.from-is ∙ e) refl (flushed a.bytes.now a.order.now a.n a.notice.now i.notice i.to i.from i.end i.start-index i.invariant w.copy.new.buffer at w.copy.ensures (omega (arith, l.within)))
       | else-at-end w ↦ along w.notice-is w.to-is w.from-is (sym e ∙ w.if-at-end.false) i.invariant
     ] in
     grown a.bytes.now a.order.now a.n a.notice.now j.notice j.to j.from at i.start-index met c.requires.0 h refl (λ k. search rules) _ (c.next_at-end.ensures ∙ ap (next_at a.bytes.now) e)

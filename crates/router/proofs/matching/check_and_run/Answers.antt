@@ -3,8 +3,13 @@ use mathlib.Core.Path.{sym, ap, ap₂, ◌∙◌}
 use Rattle.interpreter.specs.Running.{RunAnswer}
 use Rattle.interpreter.proofs.Answers.{ran_checked}
 use Rattle.router.specs.Demand.{refused as refusedWith}
-use Rattle.router.proofs.Demand.{check_run, check_unrun}
+use Rattle.router.proofs.Demand.{check_refused, check_run, check_unrun}
 use Rattle.router.proofs.matching.check_and_run.Goals as goal
+
+pub returns-then-not-check : goal.returns-then-not-check
+returns-then-not-check c =
+    let a = c.args in
+    check_refused a.table.now a.notice.now a.visits c.refused.result (sym c.check.ensures ∙ c.if-not-check.true) c.refused.ensures
 
 pub run_checked-requires : goal.run_checked-requires
 run_checked-requires c =
@@ -18,5 +23,5 @@ returns-in-Ok c =
 pub returns-in-Err : goal.returns-in-Err
 returns-in-Err c =
     let a = c.args in
-    check_unrun a.table.now a.notice.now a.visits c.in-Err.r c.refused.result c.requires c.in-Err.ensures
-    (c.refused.ensures ∙ ap₂ refusedWith c.number.ensures c.place.ensures)
+    check_unrun a.table.now a.notice.now a.visits c.in-Err.r c.refused-in-Err.result c.requires c.in-Err.ensures
+    (c.refused-in-Err.ensures ∙ ap₂ refusedWith c.number.ensures c.place.ensures)
